@@ -12,7 +12,7 @@ from collections.abc import Iterable, Iterator
 from dataclasses import dataclass, field
 from functools import cache
 
-IMPORT = re.compile(r"(?:ghost |pub )?use Rattle\.(\w+)\.(specs|proofs)\.([\w.]+?)(?:\.\{(.*)\}| as (\S+)|);?")
+IMPORT = re.compile(r"(?:ghost |pub )?use (.+?);?")
 HEAD = re.compile(r"(?:(?:pub|unfoldable|abbrev|data|record)\s+)*([^\s:({]+)")
 BEGINS = re.compile(r"(?:pub|unfoldable|abbrev|data|record)\b|[^\s:({]+ :")
 MUTUAL = re.compile(r"(?:pub |abbrev )?mutual")
@@ -81,21 +81,57 @@ def count_heads(definitions: Iterable[Definition]) -> int:
     return sum({id(head): len(head) for it in definitions for head in it.within}.values())
 
 
-def imports_of(lines: Iterable[str]) -> dict[str, Import]:
-    """What lines import, by the names that the file has for it."""
-    found: dict[str, Import] = {}
+def without_imports(lines: Iterable[str]) -> tuple[list[str], list[str]]:
+    """The imports of a file, each in one line, and its other lines."""
+    imports: list[str] = []
+    others: list[str] = []
+    is_open = False
     for line in lines:
-        matched = IMPORT.fullmatch(line.strip())
-        if matched is None:
-            continue
-        crate, folder, module, names, renamed = matched.groups()
-        if names is None:
-            module, _, name = module.rpartition(".")
-            found[renamed or name] = Import(crate, folder, module, name)
+        if is_open:
+            imports[-1] += f" {line.strip()}"
+        elif IMPORT.fullmatch(line.strip()):
+            imports.append(line.strip())
         else:
-            for it in filter(None, re.split(r"\s*,\s*", names.strip())):
-                name, _, renamed = it.partition(" as ")
-                found[renamed or name] = Import(crate, folder, module, name)
+            others.append(line)
+            continue
+        is_open = imports[-1].count("{") > imports[-1].count("}")
+    return imports, others
+
+
+def members_of(text: str) -> Iterator[str]:
+    """The members of a list in braces, which may have lists of their own."""
+    depth, begun = 0, 0
+    for place, it in enumerate(text):
+        depth += (it == "{") - (it == "}")
+        if it == "," and depth == 0:
+            yield text[begun:place].strip()
+            begun = place + 1
+    if text[begun:].strip():
+        yield text[begun:].strip()
+
+
+def paths_of(text: str) -> Iterator[tuple[list[str], str]]:
+    """Each path of an import, with the name that the file has for what stands at its end."""
+    front, brace, members = text.partition(".{")
+    if brace:
+        for member in members_of(members.removesuffix("}")):
+            for path, name in paths_of(member):
+                yield [*front.split("."), *path], name
+    else:
+        whole, _, renamed = text.partition(" as ")
+        yield whole.split("."), renamed or whole.rpartition(".")[2]
+
+
+def imports_of(imports: Iterable[str]) -> dict[str, Import]:
+    """What imports bring of specs/ and proofs/, by the names that the file has for it."""
+    found: dict[str, Import] = {}
+    for text in imports:
+        matched = IMPORT.fullmatch(text)
+        for path, name in paths_of(matched[1]) if matched is not None else []:
+            if path[0] == "Rattle" and path[2:3] in (["specs"], ["proofs"]) and len(path) > 4:
+                found[name] = Import(path[1], path[2], ".".join(path[3:-1]), path[-1])
+            else:
+                raise Fault(f"has an import of another form: {text}")
     return found
 
 
@@ -106,7 +142,7 @@ def definitions_of(lines: list[str]) -> Iterator[Definition]:
     in_head, is_mutual = False, False
     for line in lines:
         text = line.strip()
-        if not text or text.startswith("--") or IMPORT.fullmatch(text):
+        if not text or text.startswith("--"):
             continue
         if in_head:
             heads[-1].append(line)
@@ -125,7 +161,7 @@ def definitions_of(lines: list[str]) -> Iterator[Definition]:
             named = None if is_mutual else HEAD.match(text)
             open_one = Definition({named[1]} if named else set(), [line], heads)
         elif open_one is None:
-            raise Fault(f"no definition has the line: {text}")
+            raise Fault(f"has a line of no definition: {text}")
         else:
             open_one.lines.append(line)
             member = MEMBER.match(line)
@@ -150,17 +186,15 @@ def read_file(path: str) -> File:
     """A file of definitions."""
     with open(path, encoding="utf-8") as file:
         lines = file.read().split("\n")
-    for line in lines:
-        if re.match(r"(?:pub )?use ", line) and IMPORT.fullmatch(line.strip()) is None:
-            raise Fault(f"{path} has an import of another form: {line}")
+    imports, others = without_imports(lines)
     try:
-        found = list(definitions_of(lines))
+        imported, found = imports_of(imports), list(definitions_of(others))
     except Fault as fault:
-        raise Fault(f"{path}: {fault}") from fault
+        raise Fault(f"{path} {fault}") from fault
     for place, it in enumerate(found):
         it.place = place
     comment = itertools.takewhile(lambda line: line.startswith("--"), lines)
-    return File(path, " ".join(line[2:].strip() for line in comment), imports_of(lines), found)
+    return File(path, " ".join(line[2:].strip() for line in comment), imported, found)
 
 
 def first_sentence(text: str) -> str:

@@ -8,7 +8,7 @@ import re
 from collections.abc import Iterable
 from dataclasses import dataclass
 
-from antt import Fault, File, Reached, file_of, imports_of, is_said, read_file, with_imports, words_in
+from antt import Fault, File, Reached, file_of, imports_of, is_said, read_file, with_imports, without_imports, words_in
 
 # the one with a name for each of both, and with both of them
 OBSERVABLE, ALL = "observable", "all"
@@ -105,7 +105,8 @@ class Top:
             if contract is None:
                 continue
             words = words_in(contract[0].split("\n"))
-            for name, it in imports_of(text.split("\n")).items():
+            imports, _ = without_imports(text.split("\n"))
+            for name, it in imports_of(it for it in imports if it.startswith("ghost ")).items():
                 if is_said(name, words):
                     for place, definition in reached.imported(path, it):
                         reached.add(place, definition.names)

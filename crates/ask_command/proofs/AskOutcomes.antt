@@ -1,27 +1,15 @@
 -- The outcome of `ask`: what its answer says, and that it is due.
 use Rattle.std.proofs.Common.{◌≡◌, ℕ, List, refl, subst}
-use Rattle.pc_common.specs.Outside.{FilesView}
-use Rattle.pc_common.specs.Case.{Case}
-use Rattle.pc_common.specs.declared.status.Status.{Status}
-use Rattle.pc_common.specs.declared.status.Status.TheVariants.{Done, Usage, ReadFault}
-use Rattle.pc_syntax.specs.Written.{Written, not_, WrittenModel}
-use Rattle.pc_syntax.specs.Closed.{PlainClosed, plain_closed, closed_not}
+use Rattle.pc_common.specs.{Outside.{FilesView}, Case.{Case}, declared.status.Status.{Status, TheVariants.{Done, Usage, ReadFault}}}
+use Rattle.pc_syntax.specs.{Written.{Written, not_, WrittenModel}, Closed.{PlainClosed, plain_closed, closed_not}}
 use Rattle.pc_ground.specs.Stages.{plain_axioms}
 use Rattle.pc_front.specs.Front.{IsFrontOf}
-use Rattle.ask_command.specs.Queries.{with_axiom, with_denial}
-use Rattle.ask_command.specs.declared.inquiry.Inquiry.{Inquiry}
-use Rattle.ask_command.proofs.FaultlessQueries.{denial_faultless, axiom_faultless}
-use Rattle.ask_command.specs.declared.outcome.Asked.{Asked}
-use Rattle.ask_command.specs.Asking.{IsFrontMore, IsAsked, word_of}
-use Rattle.command_base.specs.declared.ending.Ending.{Ending}
-use Rattle.command_base.specs.Inputs.{Inputs, Contents}
-use Rattle.command_base.specs.Endings.{ending_status, ending_text}
-use Rattle.ask_command.specs.AskFiles.{refusal, HasInquiry, IsFilesEnding}
+use Rattle.ask_command.specs.{Queries.{with_axiom, with_denial}, declared.{inquiry.Inquiry.{Inquiry}, outcome.Asked.{Asked}}}
+use Rattle.ask_command.specs.{Asking.{IsFrontMore, IsAsked, word_of}, AskFiles.{refusal, HasInquiry, IsFilesEnding}}
 use Rattle.ask_command.specs.AskAnswers.{IsAskText, asked, AnswersAsk, refused, found, IsAskDue, IsAskOutcome}
-use Rattle.ask_command.specs.FoundAsks.{verdicts_of, found_text, IsAskWritable}
-use Rattle.ask_command.proofs.ThreeFiles.{no_fault_said}
-use Rattle.ask_command.proofs.MoreFronts.{more_front, found_certified, found_writable}
-use Rattle.ask_command.proofs.AskWords.{words_told}
+use Rattle.ask_command.{specs.FoundAsks.{verdicts_of, found_text, IsAskWritable}, proofs.FaultlessQueries.{denial_faultless, axiom_faultless}}
+use Rattle.ask_command.proofs.{ThreeFiles.{no_fault_said}, MoreFronts.{more_front, found_certified, found_writable}, AskWords.{words_told}}
+use Rattle.command_base.specs.{declared.ending.Ending.{Ending}, Inputs.{Inputs, Contents}, Endings.{ending_status, ending_text}}
 
 done_no_usage : Done ≡ Usage → ⊥
 done_no_usage e = cc

@@ -1,25 +1,12 @@
 -- The two verdicts tell the word of the formula.
-use Rattle.std.proofs.Common.{◌≡◌, true, false, ◌&&◌, List, [], refl, sym, ◌∙◌}
-use Rattle.std.specs.Prelude.{ℕ}
-use Rattle.std.proofs.lemmas.Bool.{and_from}
-use Rattle.pc_common.specs.Case.{Case}
-use Rattle.pc_common.specs.World.{Node, World}
-use Rattle.pc_common.proofs.Bools.{and_first, and_second}
-use Rattle.pc_syntax.specs.Written.{Written, not_, WrittenModel}
-use Rattle.pc_syntax.specs.Observable.{macros_of, setting, satisfies, Observable}
-use Rattle.pc_syntax.specs.Truth.{is_true}
+use Rattle.std.{proofs.{Common.{◌≡◌, true, false, ◌&&◌, List, [], refl, sym, ◌∙◌}, lemmas.Bool.{and_from}}, specs.Prelude.{ℕ}}
+use Rattle.pc_common.{specs.{Case.{Case}, World.{Node, World}}, proofs.Bools.{and_first, and_second}}
+use Rattle.pc_syntax.specs.{Written.{Written, not_, WrittenModel}, Observable.{macros_of, setting, satisfies, Observable}, Truth.{is_true}}
 use Rattle.pc_ground.specs.declared.version.Version.TheVariants.{One}
-use Rattle.ask_command.specs.Queries.{with_axiom, with_denial}
-use Rattle.ask_command.proofs.WithAxiom.{satisfies_more}
-use Rattle.solver.specs.declared.answer.Answer.{Answer}
-use Rattle.solver.specs.declared.answer.Answer.TheVariants.{Observable as a_graph, Unobservable as a_refutation}
-use Rattle.ask_command.specs.Asking.{word_of}
-use Rattle.ask_command.specs.Words.{Somewhere}
-use Rattle.ask_command.proofs.TrueWords.{Told, word_is, not_true, true_not}
-use Rattle.verdicts.specs.Verdicts.{status_of}
-use Rattle.verdicts.specs.Certified.{IsCertified}
-use Rattle.verdicts.proofs.CertifiedTruth.{certified_true}
-use Rattle.ask_command.specs.AskAnswers.{IsAllowed, holds_in, IsAskWord}
+use Rattle.ask_command.specs.{Queries.{with_axiom, with_denial}, Asking.{word_of}, Words.{Somewhere}, AskAnswers.{IsAllowed, holds_in, IsAskWord}}
+use Rattle.ask_command.proofs.{WithAxiom.{satisfies_more}, TrueWords.{Told, word_is, not_true, true_not}}
+use Rattle.solver.specs.declared.answer.Answer.{Answer, TheVariants.{Observable as a_graph, Unobservable as a_refutation}}
+use Rattle.verdicts.{specs.{Verdicts.{status_of}, Certified.{IsCertified}}, proofs.CertifiedTruth.{certified_true}}
 
 module _ (m : WrittenModel) (c : Case) (f : Written) where
   -- the outcome is observable with an axiom more exactly where a world of the model has it true

@@ -1,23 +1,12 @@
 -- A formula without a fault as a query makes no fault as the model's last axiom, and neither does its denial.
 use Rattle.std.proofs.Common.{◌≡◌, ℕ, ◌+◌, ◌≤◌, Bool, true, false, List, [], Option, Some, None, refl, sym, ◌∙◌, ap, nat_lt, ltb-false, arith}
-use Rattle.std.specs.Prelude.{if◌then◌else◌}
-use Rattle.std.specs.Option.{option_or}
-use Rattle.std.proofs.lemmas.Bool.{le-ltb}
-use Rattle.pc_common.specs.declared.place.Place.{Place}
-use Rattle.pc_common.specs.declared.fault.Which.{Which}
-use Rattle.pc_common.specs.declared.fault.Which.TheVariants.{Query}
-use Rattle.pc_syntax.specs.declared.limits.TheConstants.{MAX_HEIGHT, MAX_SIZE}
-use Rattle.pc_syntax.specs.Written.{Written, not_, MacroAt, WrittenModel}
-use Rattle.pc_syntax.specs.Observable.{macros_in_order, macros_of}
-use Rattle.pc_syntax.specs.Fault.{Fault}
-use Rattle.pc_syntax.specs.StageFaults.{first_stage_fault}
-use Rattle.pc_syntax.specs.MacroFaults.{body_fault, first_macro_fault}
-use Rattle.pc_syntax.specs.Sizes.{expanded_size, expanded_height, depth_fault, total_fault, first_size_fault}
-use Rattle.pc_syntax.specs.NameFaults.{name_fault, first_name_fault}
-use Rattle.pc_syntax.specs.ModelFault.{first_model_fault}
-use Rattle.pc_syntax.proofs.NoFault.{none_first, none_second, none_where}
-use Rattle.scope_check.specs.QueryFaults.{filed, query_fault, unfiled}
-use Rattle.scope_check.proofs.FiledFaults.{query_faults}
+use Rattle.std.{proofs.lemmas.Bool.{le-ltb}, specs.{Prelude.{if◌then◌else◌}, Option.{option_or}}}
+use Rattle.pc_common.specs.declared.{place.Place.{Place}, fault.Which.{Which, TheVariants.{Query}}}
+use Rattle.pc_syntax.specs.{declared.limits.TheConstants.{MAX_HEIGHT, MAX_SIZE}, Written.{Written, not_, MacroAt, WrittenModel}}
+use Rattle.pc_syntax.specs.{Observable.{macros_in_order, macros_of}, Fault.{Fault}, StageFaults.{first_stage_fault}}
+use Rattle.pc_syntax.specs.{MacroFaults.{body_fault, first_macro_fault}, Sizes.{expanded_size, expanded_height, depth_fault, total_fault, first_size_fault}}
+use Rattle.pc_syntax.{specs.{NameFaults.{name_fault, first_name_fault}, ModelFault.{first_model_fault}}, proofs.NoFault.{none_first, none_second, none_where}}
+use Rattle.scope_check.{specs.QueryFaults.{filed, query_fault, unfiled}, proofs.FiledFaults.{query_faults}}
 use Rattle.ask_command.specs.Queries.{first_byte, with_axiom, with_denial, first_query_fault}
 use Rattle.ask_command.proofs.WithAxiom.{size_after, size_fault, macro_fault_more, size_fault_more, name_fault_more}
 

@@ -1,41 +1,19 @@
 -- What a model with a query's denial as its last axiom gives, and the first fault of three files.
-use Rattle.std.proofs.Common.{◌≡◌, ℕ, List, [], ◌∷◌, ◌++◌, Option, Some, None, map, refl, sym, ◌∙◌, ap, subst}
-use Rattle.std.specs.Option.{option_or}
+use Rattle.std.{proofs.Common.{◌≡◌, ℕ, List, [], ◌∷◌, ◌++◌, Option, Some, None, map, refl, sym, ◌∙◌, ap, subst}, specs.Option.{option_or}}
 use Rattle.std.specs.Prelude.{MatchOption}
-use Rattle.pc_common.specs.Case.{Case}
-use Rattle.pc_common.specs.declared.fault.Which.{Which}
-use Rattle.pc_common.specs.declared.fault.Which.TheVariants.{Query}
+use Rattle.pc_common.specs.{Case.{Case}, declared.fault.Which.{Which, TheVariants.{Query}}}
 use Rattle.litmus_reader.specs.Answer.{CaseOf}
-use Rattle.pc_syntax.specs.declared.expanded.Expanded.{Expanded}
-use Rattle.pc_syntax.specs.declared.formula.Formula.{Formula}
-use Rattle.pc_syntax.specs.declared.model.Item.{Item}
-use Rattle.pc_syntax.specs.declared.model.Item.TheVariants.{Axiom}
-use Rattle.pc_syntax.specs.declared.model.StageItem.{StageItem}
-use Rattle.pc_syntax.specs.Written.{Written, written, not_, axiom_, WrittenItem, written_item, WrittenModel}
-use Rattle.pc_syntax.specs.Observable.{macros_of}
-use Rattle.pc_syntax.specs.Expansion.{expansion_of}
-use Rattle.pc_syntax.specs.Closed.{PlainClosed}
-use Rattle.pc_syntax.specs.Closing.{closing_of, IsClosingOf}
-use Rattle.pc_syntax.specs.Fault.{Fault}
-use Rattle.pc_syntax.specs.StageFaults.{first_stage_fault}
-use Rattle.pc_syntax.specs.MacroFaults.{first_macro_fault}
-use Rattle.pc_syntax.specs.Sizes.{first_size_fault}
-use Rattle.pc_syntax.specs.NameFaults.{name_fault}
-use Rattle.pc_syntax.specs.ModelFault.{first_model_fault}
+use Rattle.pc_syntax.specs.declared.{expanded.Expanded.{Expanded}, formula.Formula.{Formula}, model.{Item.{Item, TheVariants.{Axiom}}, StageItem.{StageItem}}}
+use Rattle.pc_syntax.specs.{Written.{Written, written, not_, axiom_, WrittenItem, written_item, WrittenModel}, Observable.{macros_of}, Expansion.{expansion_of}}
+use Rattle.pc_syntax.specs.{Closed.{PlainClosed}, Closing.{closing_of, IsClosingOf}, Fault.{Fault}, StageFaults.{first_stage_fault}}
+use Rattle.pc_syntax.specs.{MacroFaults.{first_macro_fault}, Sizes.{first_size_fault}, NameFaults.{name_fault}, ModelFault.{first_model_fault}}
 use Rattle.pc_syntax.proofs.NoFault.{none_first}
 use Rattle.macro_expand.specs.Faults.{IsExpandable}
-use Rattle.scope_check.specs.QueryFaults.{FiledFault, query_fault, IsFiledOr, IsDenial, asked}
-use Rattle.scope_check.proofs.FiledFaults.{query_faults, query_expansion, none_filed}
-use Rattle.pc_front.specs.declared.model_front.FrontEnd.{FrontEnd}
-use Rattle.pc_front.specs.declared.model_front.FrontEnd.TheVariants.{Refused, Memory}
-use Rattle.pc_front.specs.ModelFront.{closed_axiom, IsModelEnd}
-use Rattle.pc_front.specs.Front.{SaysModel, IsEnd as IsEndOfTwo}
-use Rattle.pc_front.proofs.PartsOf.{model_end}
-use Rattle.ask_command.specs.Queries.{first_byte, with_denial, first_query_fault, IsQueryEnd}
-use Rattle.ask_command.specs.Denials.{IsLastExpansion}
-use Rattle.ask_command.specs.Inquiries.{in_two, in_query, IsEnd}
-use Rattle.ask_command.proofs.WithAxiom.{macros_same}
-use Rattle.ask_command.proofs.QueryEnds.{macro_first, name_first, no_fault_asked}
+use Rattle.scope_check.{specs.QueryFaults.{FiledFault, query_fault, IsFiledOr, IsDenial, asked}, proofs.FiledFaults.{query_faults, query_expansion, none_filed}}
+use Rattle.pc_front.specs.{declared.model_front.FrontEnd.{FrontEnd, TheVariants.{Refused, Memory}}, ModelFront.{closed_axiom, IsModelEnd}}
+use Rattle.pc_front.{specs.Front.{SaysModel, IsEnd as IsEndOfTwo}, proofs.PartsOf.{model_end}}
+use Rattle.ask_command.specs.{Queries.{first_byte, with_denial, first_query_fault, IsQueryEnd}, Denials.{IsLastExpansion}, Inquiries.{in_two, in_query, IsEnd}}
+use Rattle.ask_command.proofs.{WithAxiom.{macros_same}, QueryEnds.{macro_first, name_first, no_fault_asked}}
 
 map_end : {A B : Type 0} (g : A → B) (xs : List A) (x : A) → map g (xs ++ x ∷ []) ≡ map g xs ++ g x ∷ []
 map_end g [] x = refl

@@ -1,48 +1,22 @@
 -- The front with one axiom more is the front of the model with one axiom more, and what is found of it is a verdict.
-use Rattle.std.proofs.Common.{◌≡◌, ℕ, List, [], ◌∷◌, ◌++◌, None, map, sym, ◌∙◌, ap, subst}
-use Rattle.std.proofs.lemmas.List.{map-append}
-use Rattle.pc_common.specs.Case.{Case}
-use Rattle.pc_common.specs.World.{Node}
+use Rattle.std.proofs.{Common.{◌≡◌, ℕ, List, [], ◌∷◌, ◌++◌, None, map, sym, ◌∙◌, ap, subst}, lemmas.List.{map-append}}
+use Rattle.pc_common.specs.{Case.{Case}, World.{Node}}
 use Rattle.pc_case.specs.MicroOps.{AreMicroOps}
-use Rattle.pc_syntax.specs.declared.closed.Closed.{Closed}
-use Rattle.pc_syntax.specs.Written.{Written, WrittenModel, stage_numbers}
-use Rattle.pc_syntax.specs.Observable.{axioms_of, macros_of}
-use Rattle.pc_syntax.specs.Expansion.{expansion_of}
-use Rattle.pc_syntax.specs.Closing.{closing_of}
-use Rattle.pc_syntax.specs.Closed.{PlainClosed, plain_closed, closed_satisfies}
-use Rattle.pc_syntax.specs.NameFaults.{name_fault}
-use Rattle.pc_syntax.specs.StagesWithin.{StagesWithin}
-use Rattle.pc_syntax.specs.ModelFault.{first_model_fault}
-use Rattle.pc_syntax.proofs.ClosingStages.{closing_within}
+use Rattle.pc_syntax.specs.{declared.closed.Closed.{Closed}, Written.{Written, WrittenModel, stage_numbers}, Observable.{axioms_of, macros_of}}
+use Rattle.pc_syntax.specs.{Expansion.{expansion_of}, Closing.{closing_of}, Closed.{PlainClosed, plain_closed, closed_satisfies}, NameFaults.{name_fault}}
+use Rattle.pc_syntax.{specs.{StagesWithin.{StagesWithin}, ModelFault.{first_model_fault}}, proofs.ClosingStages.{closing_within}}
 use Rattle.pc_syntax.proofs.ExpansionLaws.{expansion_faults}
-use Rattle.pc_ground.specs.declared.front.Front.{Front}
-use Rattle.pc_ground.specs.declared.stage.Stage.{Stage}
-use Rattle.pc_ground.specs.declared.version.Version.TheVariants.{One}
-use Rattle.pc_ground.specs.Tree.{Tree}
-use Rattle.pc_ground.specs.Rows.{rows_of}
-use Rattle.pc_ground.specs.GroundTree.{closed_ground_tree}
-use Rattle.pc_ground.specs.NodeForm.{names_of}
-use Rattle.pc_ground.specs.Stages.{plain_stage, plain_axioms, numbers_of}
+use Rattle.pc_ground.specs.{declared.{front.Front.{Front}, stage.Stage.{Stage}, version.Version.TheVariants.{One}}, Tree.{Tree}, Rows.{rows_of}}
+use Rattle.pc_ground.specs.{GroundTree.{closed_ground_tree}, NodeForm.{names_of}, Stages.{plain_stage, plain_axioms, numbers_of}}
 use Rattle.pc_ground.proofs.KeptTrees.{closed_tree}
-use Rattle.pc_front.specs.ModelFront.{closed_axiom}
-use Rattle.pc_front.specs.Front.{ArePartsOf, IsFrontOf}
-use Rattle.pc_front.proofs.FrontLaws.{satisfied_alike}
-use Rattle.pc_front.proofs.PartsOf.{no_name_fault}
-use Rattle.ask_command.specs.Queries.{with_axiom, first_query_fault}
-use Rattle.ask_command.specs.Inquiries.{IsInquiryOf}
-use Rattle.ask_command.specs.declared.inquiry.Inquiry.{Inquiry}
-use Rattle.ask_command.proofs.WithAxiom.{axioms_more, macros_same}
-use Rattle.ask_command.proofs.FaultlessQueries.{denial_names}
-use Rattle.solver.specs.Answers.{IsAnswer}
-use Rattle.solver.specs.declared.answer.Answer.{Answer}
+use Rattle.pc_front.{specs.{ModelFront.{closed_axiom}, Front.{ArePartsOf, IsFrontOf}}, proofs.{FrontLaws.{satisfied_alike}, PartsOf.{no_name_fault}}}
+use Rattle.ask_command.specs.{Queries.{with_axiom, first_query_fault}, Inquiries.{IsInquiryOf}, declared.inquiry.Inquiry.{Inquiry}, Asking.{IsFrontMore}}
+use Rattle.ask_command.{specs.FoundAsks.{verdict_of}, proofs.{WithAxiom.{axioms_more, macros_same}, FaultlessQueries.{denial_names}}}
+use Rattle.solver.specs.{Answers.{IsAnswer}, declared.answer.Answer.{Answer}}
 use Rattle.search_trait.specs.Found.{IsFound}
-use Rattle.ask_command.specs.Asking.{IsFrontMore}
 use Rattle.command_base.proofs.AskedAlike.{numbers_same, same_tree}
-use Rattle.verdicts.specs.Verdicts.{IsVerdict, IsWritable, status_of, verdict_text}
-use Rattle.verdicts.specs.Certified.{IsCertified}
-use Rattle.verdicts.proofs.VerdictTexts.{verdict_certified}
+use Rattle.verdicts.{specs.{Verdicts.{IsVerdict, IsWritable, status_of, verdict_text}, Certified.{IsCertified}}, proofs.VerdictTexts.{verdict_certified}}
 use Rattle.verdicts.proofs.FrontVerdicts.{verdict_writable}
-use Rattle.ask_command.specs.FoundAsks.{verdict_of}
 
 module _ (m : WrittenModel) (c : Case) (f : Written) (stages : List Stage) (axioms : List Closed) (case : Case)
     (is : ArePartsOf m c case stages axioms) (sound : first_model_fault (with_axiom m f) ≡ None)

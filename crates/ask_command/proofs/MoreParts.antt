@@ -1,18 +1,11 @@
 -- Parts and fronts with one axiom more: their stages stay within, and what is asked of parts that are alike.
-use Rattle.std.proofs.Common.{◌≡◌, List, [], ◌∷◌, ◌++◌, Result, Ok, Err, map, sym, ◌∙◌, ap, subst}
-use Rattle.std.specs.Prelude.{ℕ, IfOk}
-use Rattle.std.proofs.lemmas.List.{map-append}
+use Rattle.std.{proofs.{Common.{◌≡◌, List, [], ◌∷◌, ◌++◌, Result, Ok, Err, map, sym, ◌∙◌, ap, subst}, lemmas.List.{map-append}}, specs.Prelude.{ℕ, IfOk}}
 use Rattle.pc_common.specs.Case.{Case}
-use Rattle.pc_syntax.specs.declared.closed.Closed.{Closed}
-use Rattle.pc_syntax.specs.Closed.{PlainClosed, plain_closed}
-use Rattle.pc_syntax.specs.StagesWithin.{StagesWithin}
-use Rattle.pc_ground.specs.declared.front.Front.{Front}
-use Rattle.pc_ground.specs.declared.parts.Parts.{Parts}
-use Rattle.pc_ground.specs.declared.stage.Stage.{Stage}
+use Rattle.pc_syntax.specs.{declared.closed.Closed.{Closed}, Closed.{PlainClosed, plain_closed}, StagesWithin.{StagesWithin}}
+use Rattle.pc_ground.specs.declared.{front.Front.{Front}, parts.Parts.{Parts}, stage.Stage.{Stage}}
 use Rattle.pc_ground.specs.Stages.{plain_stage, plain_axioms, numbers_of, AreStages, AxiomsWithin}
 use Rattle.solver.specs.declared.answer.Answer.{Answer}
-use Rattle.ask_command.specs.declared.outcome.Asked.{Asked}
-use Rattle.ask_command.specs.Asking.{IsFrontMore, IsFoundMore, IsAsked}
+use Rattle.ask_command.specs.{declared.outcome.Asked.{Asked}, Asking.{IsFrontMore, IsFoundMore, IsAsked}}
 
 abbrev pub stage_numbers_of : List Stage → List ℕ
 stage_numbers_of stages = numbers_of (map plain_stage stages)

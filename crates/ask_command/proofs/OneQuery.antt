@@ -1,20 +1,11 @@
 -- Bytes are one formula at most, and none where they have a fault as a query; and they have one first fault at most.
 use Rattle.std.proofs.Common.{◌≡◌, ℕ, List, Some, None, unwrap_or, sym, ◌∙◌, ap, subst}
-use Rattle.pc_common.specs.declared.place.Place.{Place}
-use Rattle.pc_common.specs.declared.fault.FaultKind.TheVariants.{Lexical, Syntax, Depth}
-use Rattle.pc_common.specs.declared.fault.InputFault.{InputFault}
+use Rattle.pc_common.specs.declared.{place.Place.{Place}, fault.{FaultKind.TheVariants.{Lexical, Syntax, Depth}, InputFault.{InputFault}}}
 use Rattle.pc_common.specs.declared.fault.Which.TheVariants.{Query}
-use Rattle.ll_grammar.specs.FirstFault.{IsFirstTokenFault}
-use Rattle.ll_grammar.specs.declared.fault.Fault.{Fault as TokenFault}
-use Rattle.ll_grammar.specs.declared.fault.Fault.TheVariants.{Syntax as a_syntax_fault, Depth as a_depth_fault}
-use Rattle.ll_grammar.proofs.Faults.{one_answer}
-use Rattle.uspec_lexer.specs.Token.{Token, token_place}
-use Rattle.uspec_lexer.specs.Spells.{Spells}
-use Rattle.uspec_lexer.proofs.SpellsLaws.{spells-unique, spells-no_fault, lexical_fault-unique}
-use Rattle.uspec_parser.specs.declared.level.TheConstants.{MAX_OPENERS}
-use Rattle.uspec_parser.specs.Marks.{IsMarkedFormula}
-use Rattle.uspec_parser.specs.Syntax.{DerivesFormula}
-use Rattle.uspec_parser.specs.Answers.{terminals}
+use Rattle.ll_grammar.specs.{FirstFault.{IsFirstTokenFault}, declared.fault.Fault.{Fault as TokenFault}}
+use Rattle.ll_grammar.{specs.declared.fault.Fault.TheVariants.{Syntax as a_syntax_fault, Depth as a_depth_fault}, proofs.Faults.{one_answer}}
+use Rattle.uspec_lexer.{specs.{Token.{Token, token_place}, Spells.{Spells}}, proofs.SpellsLaws.{spells-unique, spells-no_fault, lexical_fault-unique}}
+use Rattle.uspec_parser.specs.{declared.level.TheConstants.{MAX_OPENERS}, Marks.{IsMarkedFormula}, Syntax.{DerivesFormula}, Answers.{terminals}}
 use Rattle.uspec_parser.proofs.Trees.{one_formula}
 use Rattle.pc_syntax.specs.Written.{Written, WrittenModel}
 use Rattle.pc_front.specs.Front.{fault_at}

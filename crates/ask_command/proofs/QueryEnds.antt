@@ -1,32 +1,18 @@
 -- The first fault of a query, as an end.
-use Rattle.std.proofs.Common.{◌≡◌, ℕ, List, [], ◌++◌, ◌∷◌, Option, Some, None, length, map, refl, sym, ◌∙◌, ap, subst, arith}
-use Rattle.std.specs.Option.{option_or}
+use Rattle.std.{proofs.Common.{◌≡◌, ℕ, List, [], ◌++◌, ◌∷◌, Option, Some, None, length, map, refl, sym, ◌∙◌, ap, subst, arith}, specs.Option.{option_or}}
 use Rattle.std.specs.Prelude.{MatchOption}
-use Rattle.pc_common.specs.declared.fault.Which.{Which}
-use Rattle.pc_common.specs.declared.fault.Which.TheVariants.{Query}
-use Rattle.pc_syntax.specs.declared.expanded.Expanded.{Expanded}
-use Rattle.pc_syntax.specs.Written.{Written, written, not_, WrittenModel}
-use Rattle.pc_syntax.specs.Observable.{axioms_of, macros_of}
-use Rattle.pc_syntax.specs.Expansion.{expansion_of}
-use Rattle.pc_syntax.specs.Fault.{Fault}
-use Rattle.pc_syntax.specs.MacroFaults.{first_macro_fault}
-use Rattle.pc_syntax.specs.Sizes.{first_size_fault}
-use Rattle.uspec_lexer.specs.Fault.{IsLexicalRefusal}
-use Rattle.uspec_lexer.specs.declared.fault.LexFault.{LexFault}
-use Rattle.uspec_lexer.specs.declared.fault.LexFault.TheVariants.{Lexical as a_lexical_fault, Memory as no_memory}
-use Rattle.uspec_lexer.specs.Token.{Token}
-use Rattle.uspec_lexer.specs.Spells.{Spells}
-use Rattle.uspec_parser.specs.Marks.{IsMarkedFormula}
-use Rattle.uspec_parser.specs.Answers.{terminals, IsParseRefusal}
-use Rattle.uspec_parser.specs.declared.fault.ParseFault.{ParseFault}
+use Rattle.pc_common.specs.declared.fault.Which.{Which, TheVariants.{Query}}
+use Rattle.pc_syntax.specs.{declared.expanded.Expanded.{Expanded}, Written.{Written, written, not_, WrittenModel}, Observable.{axioms_of, macros_of}}
+use Rattle.pc_syntax.specs.{Expansion.{expansion_of}, Fault.{Fault}, MacroFaults.{first_macro_fault}, Sizes.{first_size_fault}}
+use Rattle.uspec_lexer.specs.{Fault.{IsLexicalRefusal}, declared.fault.LexFault.{LexFault, TheVariants.{Lexical as a_lexical_fault, Memory as no_memory}}}
+use Rattle.uspec_lexer.specs.{Token.{Token}, Spells.{Spells}}
+use Rattle.uspec_parser.specs.{Marks.{IsMarkedFormula}, Answers.{terminals, IsParseRefusal}, declared.fault.ParseFault.{ParseFault}}
 use Rattle.uspec_parser.specs.declared.fault.ParseFault.TheVariants.{Syntax as a_syntax_fault, Depth as a_depth_fault, Memory as no_memory_to_parse}
 use Rattle.macro_expand.specs.Faults.{IsExpandable, AreExpansions}
 use Rattle.scope_check.specs.QueryFaults.{filed, query_fault, IsFiledOr}
-use Rattle.pc_front.specs.declared.model_front.FrontEnd.{FrontEnd}
-use Rattle.pc_front.specs.Ends.{end_of, lexical_end}
+use Rattle.pc_front.specs.{declared.model_front.FrontEnd.{FrontEnd}, Ends.{end_of, lexical_end}}
 use Rattle.ask_command.specs.Queries.{FormulaOf, with_axiom, with_denial, first_query_fault, lexical, syntax, depth, of_tree, IsQueryEnd}
-use Rattle.ask_command.specs.Denials.{moved_end, parse_end, IsFirstQueryEnd}
-use Rattle.ask_command.proofs.WithAxiom.{axioms_more}
+use Rattle.ask_command.{specs.Denials.{moved_end, parse_end, IsFirstQueryEnd}, proofs.WithAxiom.{axioms_more}}
 
 -- a fault of the bytes
 pub lexical_ends : (m : WrittenModel) (bytes : List ℕ) (fault : LexFault) → IsLexicalRefusal bytes fault

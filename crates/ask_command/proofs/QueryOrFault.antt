@@ -1,23 +1,14 @@
 -- The bytes of a query say a formula without a fault, or have a first fault.
 use Rattle.std.proofs.Common.{◌≡◌, ℕ, ⊎_elim, inl, inr, List, Option, Some, None, refl}
-use Rattle.pc_common.specs.declared.fault.FaultKind.TheVariants.{Lexical, Syntax, Depth}
-use Rattle.pc_common.specs.declared.fault.Which.TheVariants.{Query}
-use Rattle.ll_grammar.specs.FirstFault.{IsAnswer}
-use Rattle.ll_grammar.specs.declared.fault.Fault.{Fault as TokenFault}
-use Rattle.ll_grammar.specs.declared.fault.Fault.TheVariants.{Syntax as a_syntax_fault, Depth as a_depth_fault}
-use Rattle.uspec_lexer.specs.Token.{Token, token_place}
-use Rattle.uspec_lexer.specs.Spells.{Spells}
-use Rattle.uspec_lexer.proofs.Totality.{spells-or_fault}
-use Rattle.uspec_parser.specs.declared.level.TheConstants.{MAX_OPENERS}
-use Rattle.uspec_parser.specs.Marks.{IsMarkedFormula}
-use Rattle.uspec_parser.specs.Answers.{terminals}
-use Rattle.uspec_parser.proofs.Existence.{formula_answer}
+use Rattle.pc_common.specs.declared.fault.{FaultKind.TheVariants.{Lexical, Syntax, Depth}, Which.TheVariants.{Query}}
+use Rattle.ll_grammar.specs.{FirstFault.{IsAnswer}, declared.fault.Fault.{Fault as TokenFault, TheVariants.{Syntax as a_syntax_fault, Depth as a_depth_fault}}}
+use Rattle.uspec_lexer.{specs.{Token.{Token, token_place}, Spells.{Spells}}, proofs.Totality.{spells-or_fault}}
+use Rattle.uspec_parser.{specs.{declared.level.TheConstants.{MAX_OPENERS}, Marks.{IsMarkedFormula}, Answers.{terminals}}, proofs.Existence.{formula_answer}}
 use Rattle.uspec_parser.proofs.Trees.{text_formula}
 use Rattle.pc_syntax.specs.Written.{Written, WrittenModel}
 use Rattle.scope_check.specs.QueryFaults.{FiledFault}
 use Rattle.pc_front.specs.Front.{fault_at}
-use Rattle.ask_command.specs.Queries.{FormulaOf, first_query_fault, lexical, syntax, depth, of_tree}
-use Rattle.ask_command.specs.Laws.{HasQueryOrFault}
+use Rattle.ask_command.specs.{Queries.{FormulaOf, first_query_fault, lexical, syntax, depth, of_tree}, Laws.{HasQueryOrFault}}
 
 -- of a formula that they say
 of_formula : (m : WrittenModel) (bytes : List ℕ) (f : Written) → FormulaOf bytes f → (found : Option FiledFault) → first_query_fault m f ≡ found

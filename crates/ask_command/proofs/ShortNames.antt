@@ -1,24 +1,14 @@
 -- A formula that is asked of a model has the faults and the closed formula that it has beside a model with other names.
-use Rattle.std.proofs.Common.{◌≡◌, List, [], ◌∷◌, None, map, sym, ◌∙◌, ap, subst}
-use Rattle.std.specs.Option.{option_or}
-use Rattle.std.proofs.lemmas.List.{map-append}
+use Rattle.std.{proofs.{Common.{◌≡◌, List, [], ◌∷◌, None, map, sym, ◌∙◌, ap, subst}, lemmas.List.{map-append}}, specs.Option.{option_or}}
 use Rattle.pc_common.specs.declared.fault.Which.TheVariants.{Query}
-use Rattle.pc_syntax.specs.Written.{Written, not_, axiom_, WrittenItem, WrittenModel}
-use Rattle.pc_syntax.specs.Observable.{macros_of}
-use Rattle.pc_syntax.specs.StageFaults.{first_stage_fault}
-use Rattle.pc_syntax.specs.MacroFaults.{first_macro_fault}
-use Rattle.pc_syntax.specs.Sizes.{first_size_fault}
-use Rattle.pc_syntax.specs.Closed.{PlainClosed}
+use Rattle.pc_syntax.specs.{Written.{Written, not_, axiom_, WrittenItem, WrittenModel}, Observable.{macros_of}, StageFaults.{first_stage_fault}}
+use Rattle.pc_syntax.specs.{MacroFaults.{first_macro_fault}, Sizes.{first_size_fault}, Closed.{PlainClosed}}
 use Rattle.pc_syntax.specs.Renaming.{Renaming, KeepsApart, renamed, renamed_stage, renamed_item, renamed_model, IsRenamed}
 use Rattle.pc_syntax.proofs.RenamedItems.{macros_renamed}
 use Rattle.macro_expand.proofs.RenamedFaults.{macro_faults_renamed, size_faults_renamed}
-use Rattle.scope_check.specs.QueryFaults.{filed, query_fault, IsFiledOr}
-use Rattle.scope_check.proofs.RenamedFaults.{query_fault_renamed}
-use Rattle.pc_front.specs.declared.model_front.FrontEnd.{FrontEnd}
-use Rattle.pc_front.specs.ModelFront.{closed_axiom}
-use Rattle.pc_front.proofs.ShortNames.{stage_fault_same, closing_same}
-use Rattle.ask_command.specs.Queries.{first_byte, with_denial, first_query_fault}
-use Rattle.ask_command.specs.Denials.{EndsWithDenial, IsFirstQueryEnd}
+use Rattle.scope_check.{specs.QueryFaults.{filed, query_fault, IsFiledOr}, proofs.RenamedFaults.{query_fault_renamed}}
+use Rattle.pc_front.{specs.{declared.model_front.FrontEnd.{FrontEnd}, ModelFront.{closed_axiom}}, proofs.ShortNames.{stage_fault_same, closing_same}}
+use Rattle.ask_command.specs.{Queries.{first_byte, with_denial, first_query_fault}, Denials.{EndsWithDenial, IsFirstQueryEnd}}
 
 module _ (ρ : Renaming) (m : WrittenModel) (f : Written) where
   -- other names change the model and the formula, each by itself

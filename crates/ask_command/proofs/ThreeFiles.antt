@@ -1,38 +1,22 @@
 -- How `ask` ends at its three files, and what it knows where they have no fault.
-use Rattle.std.proofs.Common.{◌≡◌, ◌⊎◌, inl, inr, ℕ, List, Some, None, refl, sym, ◌∙◌, subst}
-use Rattle.std.specs.Prelude.{IsTrue}
-use Rattle.pc_common.specs.Outside.{FilesView}
-use Rattle.pc_common.specs.LineColumn.{line_of, column_of}
-use Rattle.pc_common.specs.Case.{Case}
-use Rattle.pc_common.specs.Faults.{Rose}
-use Rattle.pc_common.specs.Reads.{Reads}
-use Rattle.pc_common.specs.declared.fault.InputFault.{InputFault}
-use Rattle.pc_common.specs.declared.fault.Which.{Which}
-use Rattle.pc_common.specs.declared.fault.Which.TheVariants.{Model, Test, Query}
-use Rattle.pc_common.specs.declared.reading.ReadEnd.{ReadEnd}
+use Rattle.std.{proofs.Common.{◌≡◌, ◌⊎◌, inl, inr, ℕ, List, Some, None, refl, sym, ◌∙◌, subst}, specs.Prelude.{IsTrue}}
+use Rattle.pc_common.specs.{Outside.{FilesView}, LineColumn.{line_of, column_of}, Case.{Case}, Faults.{Rose}, Reads.{Reads}}
+use Rattle.pc_common.specs.declared.{fault.{InputFault.{InputFault}, Which.{Which, TheVariants.{Model, Test, Query}}}, reading.ReadEnd.{ReadEnd}}
 use Rattle.pc_common.specs.declared.reading.ReadEnd.TheVariants.{ReadFault as an_outside_fault, TooLarge as past_limit, Memory as no_memory}
-use Rattle.pc_common.specs.declared.status.Status.{Status}
-use Rattle.pc_common.specs.declared.status.Status.TheVariants.{Usage, Refused, ReadFault, Memory}
+use Rattle.pc_common.specs.declared.status.Status.{Status, TheVariants.{Usage, Refused, ReadFault, Memory}}
 use Rattle.pc_syntax.specs.Written.{Written, WrittenModel}
 use Rattle.litmus_reader.specs.Answer.{CaseOf}
-use Rattle.pc_front.specs.Front.{SaysModel}
-use Rattle.pc_front.proofs.OneModel.{one_whole_model}
-use Rattle.ask_command.specs.Queries.{SaysQuery, IsQueryFault}
-use Rattle.ask_command.specs.Inquiries.{IsFirstInquiryFault as IsFaultOfBytes, in_two, in_query, SaysInquiry}
+use Rattle.pc_front.{specs.Front.{SaysModel}, proofs.OneModel.{one_whole_model}}
+use Rattle.ask_command.specs.{Queries.{SaysQuery, IsQueryFault}, Inquiries.{IsFirstInquiryFault as IsFaultOfBytes, in_two, in_query, SaysInquiry}}
 use Rattle.ask_command.specs.declared.inquiry.Inquiry.{Inquiry}
+use Rattle.ask_command.specs.AskFiles.{name_of, bytes_of, IsBytesEnding, AreRead, SaysAll, IsFirstAskFault, large_model, large_test, large_query, in_bytes, IsAskRefusal, refusal, WasRead, LacksAskedFile, HasInquiry, IsFilesEnding}
 use Rattle.ask_command.proofs.OneQuery.{no_fault_beside}
-use Rattle.command_base.specs.declared.refusal.Refusal.{Refusal}
-use Rattle.command_base.specs.declared.ending.Ending.{Ending}
+use Rattle.command_base.specs.declared.{refusal.Refusal.{Refusal}, ending.Ending.{Ending}}
 use Rattle.command_base.specs.declared.ending.Ending.TheVariants.{ReadFault as a_read_fault, Memory as a_memory, Refused as a_refusal}
 use Rattle.command_base.specs.Inputs.{Inputs, Contents, IsTooLarge, too_large, large_model as model_is_large, large_test as test_is_large, in_bytes as bytes_have_one}
-use Rattle.command_base.specs.SecondFiles.{NoFault}
-use Rattle.command_base.specs.Refusals.{IsInputRefusal as IsRefusalOfTwo, refusal as refusal_of_two}
-use Rattle.command_base.specs.Endings.{ending_status, refusal_text, IsUnread}
-use Rattle.command_base.specs.Outcomes.{IsUnreadEnding}
-use Rattle.command_base.proofs.InputsRead.{refusal_is}
-use Rattle.command_base.proofs.OneCase.{one_held, never_both}
-use Rattle.command_base.proofs.TestForm.{test_form, test_kept}
-use Rattle.ask_command.specs.AskFiles.{name_of, bytes_of, IsBytesEnding, AreRead, SaysAll, IsFirstAskFault, large_model, large_test, large_query, in_bytes, IsAskRefusal, refusal, WasRead, LacksAskedFile, HasInquiry, IsFilesEnding}
+use Rattle.command_base.specs.{SecondFiles.{NoFault}, Refusals.{IsInputRefusal as IsRefusalOfTwo, refusal as refusal_of_two}}
+use Rattle.command_base.{specs.{Endings.{ending_status, refusal_text, IsUnread}, Outcomes.{IsUnreadEnding}}, proofs.InputsRead.{refusal_is}}
+use Rattle.command_base.proofs.{OneCase.{one_held, never_both}, TestForm.{test_form, test_kept}}
 
 some_none : {x : List ℕ} → Some x ≡ None → ⊥
 some_none e = cc

@@ -1,22 +1,12 @@
 -- The word that two answers tell is true of the formula.
-use Rattle.std.proofs.Common.{◌≡◌, inl, inr, Bool, true, false, not, ◌&&◌, List, [], ◌∷◌, ◌++◌, refl, sym, ◌∙◌, ap}
-use Rattle.std.specs.List.{list_all}
-use Rattle.std.specs.Prelude.{IsTrue}
-use Rattle.std.proofs.Math.Bool.{and-true}
-use Rattle.std.proofs.lemmas.Bool.{and_from}
-use Rattle.pc_common.specs.Case.{Case}
-use Rattle.pc_common.specs.World.{Node, World, IsWorld}
-use Rattle.pc_common.proofs.Bools.{true_or_false, and_first, and_second, and_assoc, not_both}
+use Rattle.std.proofs.{Common.{◌≡◌, inl, inr, Bool, true, false, not, ◌&&◌, List, [], ◌∷◌, ◌++◌, refl, sym, ◌∙◌, ap}, Math.Bool.{and-true}}
+use Rattle.std.{proofs.lemmas.Bool.{and_from}, specs.{List.{list_all}, Prelude.{IsTrue}}}
+use Rattle.pc_common.{specs.{Case.{Case}, World.{Node, World, IsWorld}}, proofs.Bools.{true_or_false, and_first, and_second, and_assoc, not_both}}
 use Rattle.pc_syntax.specs.Closed.{PlainClosed, closed_not, closed_true, closed_satisfies}
-use Rattle.pc_ground.specs.declared.front.Front.{Front}
-use Rattle.pc_ground.specs.declared.stage.Stage.{Stage}
-use Rattle.pc_ground.specs.Stages.{plain_axioms}
-use Rattle.solver.specs.declared.answer.Answer.{Answer}
-use Rattle.solver.specs.declared.answer.Answer.TheVariants.{Observable, Unobservable}
-use Rattle.search_trait.specs.Found.{IsFound}
-use Rattle.search_trait.proofs.FoundFronts.{found_world, found_none}
-use Rattle.ask_command.specs.Asking.{IsFrontMore, word_of}
-use Rattle.ask_command.specs.Words.{Somewhere, Everywhere, IsWord, IsClosedWorld, WordsAreTrue}
+use Rattle.pc_ground.specs.{declared.{front.Front.{Front}, stage.Stage.{Stage}}, Stages.{plain_axioms}}
+use Rattle.solver.specs.declared.answer.Answer.{Answer, TheVariants.{Observable, Unobservable}}
+use Rattle.search_trait.{specs.Found.{IsFound}, proofs.FoundFronts.{found_world, found_none}}
+use Rattle.ask_command.specs.{Asking.{IsFrontMore, word_of}, Words.{Somewhere, Everywhere, IsWord, IsClosedWorld, WordsAreTrue}}
 
 pub not_true : (b : Bool) → (not b) ≡ true → b ≡ false
 not_true true e = cc

@@ -1,20 +1,12 @@
 -- A model with one axiom more: its axioms, its macros, its truth, and its first faults.
-use Rattle.std.proofs.Common.{◌≡◌, ℕ, ◌+◌, Bool, ◌&&◌, List, [], ◌∷◌, ◌++◌, Option, Some, None, reverse, refl, ◌∙◌, ap}
-use Rattle.std.specs.List.{flat_map, list_all}
-use Rattle.std.specs.Option.{option_or}
-use Rattle.std.proofs.Math.Bool.{and-true}
-use Rattle.pc_common.specs.Case.{Case}
-use Rattle.pc_common.specs.World.{Node, World}
-use Rattle.pc_common.specs.declared.place.Place.{Place}
-use Rattle.pc_common.proofs.Bools.{and_assoc}
+use Rattle.std.proofs.{Common.{◌≡◌, ℕ, ◌+◌, Bool, ◌&&◌, List, [], ◌∷◌, ◌++◌, Option, Some, None, reverse, refl, ◌∙◌, ap}, Math.Bool.{and-true}}
+use Rattle.std.specs.{List.{flat_map, list_all}, Option.{option_or}}
+use Rattle.pc_common.{specs.{Case.{Case}, World.{Node, World}, declared.place.Place.{Place}}, proofs.Bools.{and_assoc}}
 use Rattle.pc_syntax.specs.Written.{Written, MacroAt, WrittenItem, axiom_, macro_, WrittenModel}
-use Rattle.pc_syntax.specs.Observable.{axiom_of, macro_of, axioms_of, macros_in_order, macros_of, satisfies, setting}
-use Rattle.pc_syntax.specs.Truth.{is_true, are_true}
-use Rattle.pc_syntax.specs.Fault.{Fault, first_fault}
-use Rattle.pc_syntax.specs.MacroFaults.{body_fault, macro_fault, items_fault, first_macro_fault}
+use Rattle.pc_syntax.specs.{Observable.{axiom_of, macro_of, axioms_of, macros_in_order, macros_of, satisfies, setting}, Truth.{is_true, are_true}}
+use Rattle.pc_syntax.specs.{Fault.{Fault, first_fault}, MacroFaults.{body_fault, macro_fault, items_fault, first_macro_fault}}
 use Rattle.pc_syntax.specs.Sizes.{expanded_size, expanded_height, depth_fault, total_fault, sizes_fault, first_size_fault}
-use Rattle.pc_syntax.specs.NameFaults.{name_fault, first_name_fault}
-use Rattle.pc_syntax.proofs.NoFault.{none_first, none_second}
+use Rattle.pc_syntax.{specs.NameFaults.{name_fault, first_name_fault}, proofs.NoFault.{none_first, none_second}}
 use Rattle.ask_command.specs.Queries.{first_byte, with_axiom}
 
 or_nothing : {A : Type 0} (a : Option A) → option_or a None ≡ a

@@ -1,28 +1,14 @@
 -- The answer of `ask` to three files, and the status that is due.
 use Rattle.std.specs.Prelude.{◌≡◌, ℕ, Bool, List, [], Result, IsTrue}
-use Rattle.pc_common.specs.Outside.{FilesView}
-use Rattle.pc_common.specs.Case.{Case}
-use Rattle.pc_common.specs.World.{Node, World}
-use Rattle.pc_common.specs.declared.fault.InputFault.{InputFault}
-use Rattle.pc_common.specs.declared.status.Status.{Status}
+use Rattle.pc_common.specs.{Outside.{FilesView}, Case.{Case}, World.{Node, World}, declared.{fault.InputFault.{InputFault}, status.Status.{Status}}}
 use Rattle.pc_common.specs.declared.status.Status.TheVariants.{Done, Refused}
-use Rattle.pc_syntax.specs.Written.{Written, WrittenModel, stage_numbers}
-use Rattle.pc_syntax.specs.Observable.{macros_of, setting, satisfies, IsWorldOf}
-use Rattle.pc_syntax.specs.Truth.{is_true}
+use Rattle.pc_syntax.specs.{Written.{Written, WrittenModel, stage_numbers}, Observable.{macros_of, setting, satisfies, IsWorldOf}, Truth.{is_true}}
 use Rattle.pc_ground.specs.declared.version.Version.TheVariants.{One}
-use Rattle.ask_command.specs.Queries.{with_axiom, with_denial}
-use Rattle.ask_command.specs.declared.outcome.AskWord.{AskWord}
-use Rattle.ask_command.specs.Words.{IsWord}
+use Rattle.ask_command.specs.{Queries.{with_axiom, with_denial}, declared.{outcome.AskWord.{AskWord}, command.FoundAsk.{FoundAsk}}, Words.{IsWord}}
+use Rattle.ask_command.specs.{AskTexts.{ask_text}, FoundAsks.{found_text}, AskFiles.{SaysAll, IsFirstAskFault, IsAskRefusal, LacksAskedFile}}
 use Rattle.verdicts.specs.Certified.{IsCertified}
-use Rattle.command_base.specs.declared.inputs.Inputs.{Inputs as CodeInputs}
-use Rattle.command_base.specs.declared.ending.Ending.{Ending}
-use Rattle.command_base.specs.Inputs.{Inputs, Contents, plain_inputs}
-use Rattle.command_base.specs.Endings.{HasOutcome}
-use Rattle.command_base.specs.Outcomes.{IsOutcome}
-use Rattle.ask_command.specs.declared.command.FoundAsk.{FoundAsk}
-use Rattle.ask_command.specs.AskTexts.{ask_text}
-use Rattle.ask_command.specs.FoundAsks.{found_text}
-use Rattle.ask_command.specs.AskFiles.{SaysAll, IsFirstAskFault, IsAskRefusal, LacksAskedFile}
+use Rattle.command_base.specs.{declared.{inputs.Inputs.{Inputs as CodeInputs}, ending.Ending.{Ending}}, Inputs.{Inputs, Contents, plain_inputs}}
+use Rattle.command_base.specs.{Endings.{HasOutcome}, Outcomes.{IsOutcome}}
 
 -- a world of the model and the case that satisfies the model
 abbrev pub IsAllowed : WrittenModel → Case → World Node → Type 0

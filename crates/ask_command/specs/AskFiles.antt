@@ -1,25 +1,14 @@
 -- The three files of `ask`: what they say together, their first fault, and the refusal by it.
 use Rattle.std.specs.Prelude.{◌≡◌, ◌⊎◌, ⊤, ℕ, List, Some, None, IsTrue}
-use Rattle.pc_common.specs.Outside.{FilesView}
-use Rattle.pc_common.specs.Case.{Case}
-use Rattle.pc_common.specs.Reads.{Reads}
-use Rattle.pc_common.specs.declared.fault.InputFault.{InputFault}
-use Rattle.pc_common.specs.declared.fault.Which.{Which}
-use Rattle.pc_common.specs.declared.fault.Which.TheVariants.{Model, Test, Query}
-use Rattle.pc_common.specs.declared.status.Status.{Status}
-use Rattle.pc_common.specs.declared.status.Status.TheVariants.{Refused}
+use Rattle.pc_common.specs.{Outside.{FilesView}, Case.{Case}, Reads.{Reads}, declared.fault.{InputFault.{InputFault}, Which.{Which}}}
+use Rattle.pc_common.specs.declared.{fault.Which.TheVariants.{Model, Test, Query}, status.Status.{Status, TheVariants.{Refused}}}
 use Rattle.pc_case.specs.MicroOps.{AreMicroOps}
-use Rattle.pc_syntax.specs.Written.{Written, WrittenModel}
-use Rattle.pc_syntax.specs.ModelFault.{first_model_fault}
+use Rattle.pc_syntax.specs.{Written.{Written, WrittenModel}, ModelFault.{first_model_fault}}
 use Rattle.litmus_reader.specs.Answer.{CaseOf}
-use Rattle.ask_command.specs.Queries.{SaysQuery, first_query_fault}
-use Rattle.ask_command.specs.Inquiries.{IsInquiryOf, IsFirstInquiryFault as IsFaultOfBytes}
+use Rattle.ask_command.specs.{Queries.{SaysQuery, first_query_fault}, Inquiries.{IsInquiryOf, IsFirstInquiryFault as IsFaultOfBytes}}
 use Rattle.ask_command.specs.declared.inquiry.Inquiry.{Inquiry}
-use Rattle.command_base.specs.Inputs.{Inputs, Contents, IsRead, IsTooLarge, too_large, Says, LacksInput}
-use Rattle.command_base.specs.Refusals.{refused_text}
-use Rattle.command_base.specs.Endings.{ending_status, ending_text, IsPlaced}
-use Rattle.command_base.specs.Outcomes.{IsOutcome}
-use Rattle.command_base.specs.declared.ending.Ending.{Ending}
+use Rattle.command_base.specs.{Inputs.{Inputs, Contents, IsRead, IsTooLarge, too_large, Says, LacksInput}, Refusals.{refused_text}}
+use Rattle.command_base.specs.{Endings.{ending_status, ending_text, IsPlaced}, Outcomes.{IsOutcome}, declared.ending.Ending.{Ending}}
 use Rattle.command_base.specs.declared.ending.Ending.TheVariants.{ReadFault as a_read_fault, Memory as a_memory, Refused as a_refusal}
 
 -- the name of a file

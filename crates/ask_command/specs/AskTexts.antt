@@ -1,7 +1,6 @@
 -- The text of an answer to `ask`, by the texts of its two certificates.
 use Rattle.std.specs.Prelude.{ℕ, List, ◌++◌, codes}
-use Rattle.ask_command.specs.declared.outcome.AskWord.{AskWord}
-use Rattle.ask_command.specs.declared.outcome.AskWord.TheVariants.{Always, Never, Sometimes, Vacuous}
+use Rattle.ask_command.specs.declared.outcome.AskWord.{AskWord, TheVariants.{Always, Never, Sometimes, Vacuous}}
 
 -- the lines before the first certificate
 abbrev pub head_text : AskWord → List ℕ

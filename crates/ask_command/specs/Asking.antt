@@ -2,15 +2,10 @@
 use Rattle.std.specs.Prelude.{◌≡◌, List, [], ◌∷◌, ◌++◌}
 use Rattle.pc_common.specs.Case.{Case}
 use Rattle.pc_syntax.specs.Closed.{PlainClosed, closed_not}
-use Rattle.pc_ground.specs.declared.front.Front.{Front}
-use Rattle.pc_ground.specs.declared.stage.Stage.{Stage}
-use Rattle.pc_ground.specs.Stages.{plain_axioms}
-use Rattle.solver.specs.declared.answer.Answer.{Answer}
-use Rattle.solver.specs.declared.answer.Answer.TheVariants.{Observable, Unobservable}
+use Rattle.pc_ground.specs.{declared.{front.Front.{Front}, stage.Stage.{Stage}}, Stages.{plain_axioms}}
+use Rattle.solver.specs.declared.answer.Answer.{Answer, TheVariants.{Observable, Unobservable}}
 use Rattle.search_trait.specs.Found.{IsFound}
-use Rattle.ask_command.specs.declared.outcome.Asked.{Asked}
-use Rattle.ask_command.specs.declared.outcome.AskWord.{AskWord}
-use Rattle.ask_command.specs.declared.outcome.AskWord.TheVariants.{Always, Never, Sometimes, Vacuous}
+use Rattle.ask_command.specs.declared.outcome.{Asked.{Asked}, AskWord.{AskWord, TheVariants.{Always, Never, Sometimes, Vacuous}}}
 
 -- the front of this case, these stages and these axioms, with this one as its last
 pub record IsFrontMore (c : Case) (stages : List Stage) (ps : List PlainClosed) (p : PlainClosed) (front : Front) : Type 0 where

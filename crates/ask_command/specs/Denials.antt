@@ -1,24 +1,14 @@
 -- The steps of reading a query: its denial as a model's last axiom, and the ends of its faults.
 use Rattle.std.specs.Prelude.{◌≡◌, ℕ, List, Option}
-use Rattle.pc_common.specs.declared.fault.FaultKind.TheVariants.{Syntax, Depth}
-use Rattle.pc_common.specs.declared.fault.Which.{Which}
-use Rattle.pc_common.specs.declared.fault.Which.TheVariants.{Query}
-use Rattle.pc_common.specs.declared.place.Place.{Place}
-use Rattle.pc_syntax.specs.declared.expanded.Expanded.{Expanded}
-use Rattle.pc_syntax.specs.Written.{Written, written, WrittenModel}
-use Rattle.pc_syntax.specs.Observable.{macros_of}
-use Rattle.pc_syntax.specs.Expansion.{expansion_of}
-use Rattle.uspec_lexer.specs.Token.{Token, token_place}
-use Rattle.uspec_parser.specs.declared.level.TheConstants.{MAX_OPENERS}
-use Rattle.uspec_parser.specs.declared.fault.ParseFault.{ParseFault}
-use Rattle.uspec_parser.specs.declared.fault.ParseFault.TheVariants.{Syntax as a_syntax_fault, Depth as a_depth_fault, Memory as no_memory}
+use Rattle.pc_common.specs.declared.{fault.{FaultKind.TheVariants.{Syntax, Depth}, Which.{Which, TheVariants.{Query}}}, place.Place.{Place}}
+use Rattle.pc_syntax.specs.{declared.expanded.Expanded.{Expanded}, Written.{Written, written, WrittenModel}, Observable.{macros_of}, Expansion.{expansion_of}}
 use Rattle.pc_syntax.specs.Fault.{Fault}
+use Rattle.uspec_lexer.specs.Token.{Token, token_place}
+use Rattle.uspec_parser.specs.declared.{level.TheConstants.{MAX_OPENERS}, fault.ParseFault.{ParseFault}}
+use Rattle.uspec_parser.specs.declared.fault.ParseFault.TheVariants.{Syntax as a_syntax_fault, Depth as a_depth_fault, Memory as no_memory}
 use Rattle.macro_expand.specs.Faults.{IsExpandable}
 use Rattle.scope_check.specs.QueryFaults.{IsFiledOr}
-use Rattle.pc_front.specs.Ends.{end_of}
-use Rattle.pc_front.specs.Front.{fault_at}
-use Rattle.pc_front.specs.declared.model_front.FrontEnd.{FrontEnd}
-use Rattle.pc_front.specs.declared.model_front.FrontEnd.TheVariants.{Refused, Memory}
+use Rattle.pc_front.specs.{Ends.{end_of}, Front.{fault_at}, declared.model_front.FrontEnd.{FrontEnd, TheVariants.{Refused, Memory}}}
 use Rattle.ask_command.specs.Queries.{with_axiom, with_denial, first_query_fault}
 
 -- an end with its fault told of this file

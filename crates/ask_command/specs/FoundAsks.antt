@@ -1,15 +1,9 @@
 -- The code's answer to `ask`, and its text.
 use Rattle.std.specs.Prelude.{ℕ, List}
-use Rattle.pc_ground.specs.declared.front.Front.{Front}
-use Rattle.pc_ground.specs.declared.version.Version.TheVariants.{One}
-use Rattle.pc_ground.specs.NodeForm.{names_of}
+use Rattle.pc_ground.specs.{declared.{front.Front.{Front}, version.Version.TheVariants.{One}}, NodeForm.{names_of}}
 use Rattle.solver.specs.declared.answer.Answer.{Answer}
-use Rattle.ask_command.specs.declared.outcome.Asked.{Asked}
-use Rattle.ask_command.specs.Asking.{word_of}
-use Rattle.verdicts.specs.declared.verdict.Verdict.{Verdict}
-use Rattle.verdicts.specs.Verdicts.{verdict_text, IsWritable}
-use Rattle.ask_command.specs.declared.command.FoundAsk.{FoundAsk}
-use Rattle.ask_command.specs.AskTexts.{ask_text}
+use Rattle.ask_command.specs.{declared.{outcome.Asked.{Asked}, command.FoundAsk.{FoundAsk}}, Asking.{word_of}, AskTexts.{ask_text}}
+use Rattle.verdicts.specs.{declared.verdict.Verdict.{Verdict}, Verdicts.{verdict_text, IsWritable}}
 
 -- what is found of a front is a verdict
 abbrev pub verdict_of : Front × Answer → Verdict

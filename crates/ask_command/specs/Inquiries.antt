@@ -1,16 +1,11 @@
 -- What the bytes of a model, of a test and of a query say together: what is asked, or the first fault of the three files.
 use Rattle.std.specs.Prelude.{◌≡◌, ⊤, ℕ, List}
-use Rattle.pc_common.specs.Case.{Case}
-use Rattle.pc_common.specs.declared.fault.InputFault.{InputFault}
+use Rattle.pc_common.specs.{Case.{Case}, declared.fault.InputFault.{InputFault}}
 use Rattle.litmus_reader.specs.Answer.{CaseOf}
-use Rattle.pc_syntax.specs.Written.{Written, WrittenModel}
-use Rattle.pc_syntax.specs.Closed.{plain_closed}
-use Rattle.pc_front.specs.Front.{SaysModel, IsFirstFrontFault as IsFaultOfTwo, ArePartsOf}
-use Rattle.pc_front.specs.ModelFront.{closed_axiom}
-use Rattle.pc_front.specs.declared.model_front.FrontEnd.{FrontEnd}
-use Rattle.pc_front.specs.declared.model_front.FrontEnd.TheVariants.{Refused, Memory}
-use Rattle.ask_command.specs.Queries.{SaysQuery, IsQueryFault}
-use Rattle.ask_command.specs.declared.inquiry.Inquiry.{Inquiry}
+use Rattle.pc_syntax.specs.{Written.{Written, WrittenModel}, Closed.{plain_closed}}
+use Rattle.pc_front.specs.{Front.{SaysModel, IsFirstFrontFault as IsFaultOfTwo, ArePartsOf}, ModelFront.{closed_axiom}}
+use Rattle.pc_front.specs.declared.model_front.FrontEnd.{FrontEnd, TheVariants.{Refused, Memory}}
+use Rattle.ask_command.specs.{Queries.{SaysQuery, IsQueryFault}, declared.inquiry.Inquiry.{Inquiry}}
 
 -- the first fault of three files: that of the model and the test, and where they have none, the query's
 pub data IsFirstInquiryFault (model test query : List ℕ) : InputFault → Type 0 where

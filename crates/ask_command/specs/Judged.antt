@@ -2,8 +2,7 @@
 use Rattle.std.specs.Prelude.{◌≡◌, ℕ, List, None}
 use Rattle.pc_common.specs.Case.{Case}
 use Rattle.litmus_reader.specs.Answer.{CaseOf}
-use Rattle.pc_syntax.specs.Written.{WrittenModel}
-use Rattle.pc_syntax.specs.ModelFault.{first_model_fault}
+use Rattle.pc_syntax.specs.{Written.{WrittenModel}, ModelFault.{first_model_fault}}
 use Rattle.pc_ground.specs.declared.parts.Parts.{Parts}
 use Rattle.pc_front.specs.Front.{ArePartsOf}
 

@@ -1,28 +1,13 @@
 -- What the bytes of a query say: a formula that may be asked of a model, or the first fault.
-use Rattle.std.specs.Prelude.{◌≡◌, ⊤, ℕ, List, [], ◌∷◌, ◌++◌, Option, Some, None}
-use Rattle.std.specs.Option.{option_or}
-use Rattle.ll_grammar.specs.FirstFault.{IsAccepted, IsFirstTokenFault}
-use Rattle.ll_grammar.specs.declared.fault.Fault.TheVariants.{Syntax as a_syntax_fault, Depth as a_depth_fault}
-use Rattle.pc_common.specs.declared.place.Place.{Place}
-use Rattle.pc_common.specs.declared.fault.FaultKind.{FaultKind}
-use Rattle.pc_common.specs.declared.fault.FaultKind.TheVariants.{Lexical, Syntax, Depth}
-use Rattle.pc_common.specs.declared.fault.InputFault.{InputFault}
-use Rattle.pc_common.specs.declared.fault.Which.{Which}
-use Rattle.pc_common.specs.declared.fault.Which.TheVariants.{Query}
-use Rattle.pc_syntax.specs.Written.{Written, not_, axiom_, WrittenModel}
-use Rattle.pc_syntax.specs.Observable.{macros_of}
-use Rattle.pc_syntax.specs.MacroFaults.{first_macro_fault}
-use Rattle.pc_syntax.specs.Sizes.{first_size_fault}
-use Rattle.uspec_lexer.specs.Token.{Token, token_place}
-use Rattle.uspec_lexer.specs.Spells.{Spells, IsLexicalFault}
-use Rattle.uspec_parser.specs.declared.level.TheConstants.{MAX_OPENERS}
-use Rattle.uspec_parser.specs.Marks.{IsMarkedFormula}
-use Rattle.uspec_parser.specs.Syntax.{DerivesFormula}
-use Rattle.uspec_parser.specs.Answers.{terminals}
+use Rattle.std.specs.{Prelude.{◌≡◌, ⊤, ℕ, List, [], ◌∷◌, ◌++◌, Option, Some, None}, Option.{option_or}}
+use Rattle.ll_grammar.specs.{FirstFault.{IsAccepted, IsFirstTokenFault}, declared.fault.Fault.TheVariants.{Syntax as a_syntax_fault, Depth as a_depth_fault}}
+use Rattle.pc_common.specs.declared.{place.Place.{Place}, fault.{FaultKind.{FaultKind, TheVariants.{Lexical, Syntax, Depth}}, InputFault.{InputFault}}}
+use Rattle.pc_common.specs.declared.fault.Which.{Which, TheVariants.{Query}}
+use Rattle.pc_syntax.specs.{Written.{Written, not_, axiom_, WrittenModel}, Observable.{macros_of}, MacroFaults.{first_macro_fault}, Sizes.{first_size_fault}}
+use Rattle.uspec_lexer.specs.{Token.{Token, token_place}, Spells.{Spells, IsLexicalFault}}
+use Rattle.uspec_parser.specs.{declared.level.TheConstants.{MAX_OPENERS}, Marks.{IsMarkedFormula}, Syntax.{DerivesFormula}, Answers.{terminals}}
 use Rattle.scope_check.specs.QueryFaults.{FiledFault, filed, query_fault}
-use Rattle.pc_front.specs.Front.{fault_at}
-use Rattle.pc_front.specs.declared.model_front.FrontEnd.{FrontEnd}
-use Rattle.pc_front.specs.declared.model_front.FrontEnd.TheVariants.{Refused, Memory}
+use Rattle.pc_front.specs.{Front.{fault_at}, declared.model_front.FrontEnd.{FrontEnd, TheVariants.{Refused, Memory}}}
 
 -- the bytes spell one formula of this tree and nothing after it, and no opener of it stands too deep
 pub record FormulaOf (bytes : List ℕ) (f : Written) : Type 0 where

@@ -1,13 +1,9 @@
 -- What a word says of a formula over worlds.
 use Rattle.std.specs.Prelude.{◌≡◌, Bool, true, false, List, [], IsTrue}
-use Rattle.pc_common.specs.Case.{Case}
-use Rattle.pc_common.specs.World.{Node, World, IsWorld}
+use Rattle.pc_common.specs.{Case.{Case}, World.{Node, World, IsWorld}}
 use Rattle.pc_syntax.specs.Closed.{PlainClosed, closed_true, closed_satisfies}
 use Rattle.pc_ground.specs.declared.stage.Stage.{Stage}
-use Rattle.ask_command.specs.declared.outcome.Asked.{Asked}
-use Rattle.ask_command.specs.declared.outcome.AskWord.{AskWord}
-use Rattle.ask_command.specs.declared.outcome.AskWord.TheVariants.{Always, Never, Sometimes, Vacuous}
-use Rattle.ask_command.specs.Asking.{IsAsked, word_of}
+use Rattle.ask_command.specs.{declared.outcome.{Asked.{Asked}, AskWord.{AskWord, TheVariants.{Always, Never, Sometimes, Vacuous}}}, Asking.{IsAsked, word_of}}
 
 module _ (Allowed : World Node → Type 0) (holds : World Node → Bool) where
   -- some world is allowed, and the formula has this value in it

@@ -9,7 +9,7 @@ use super::denial::close_formula;
 use super::formula::read_formula;
 use super::inquiry::Inquiry;
 use litmus_reader::read_case;
-use pc_front::{FrontEnd, judged, parsed, parts_of};
+use pc_front::{FrontEnd, judge_model, parse_bytes, parts_of};
 use pc_ground::Parts;
 use pc_syntax::ModelFile;
 use std::alloc::Global;
@@ -22,7 +22,7 @@ fn judged_parts(alloc: Global, model: &ModelFile, test_bytes: &[u8]) -> Result<P
     ensures err { IfErr result (λ end. (bytes : List ℕ) → ModelOf bytes (written_model model.now)
         → IsEndOfTwo bytes test_bytes.now end) }
 {
-    let front = judged(alloc, model)?;
+    let front = judge_model(alloc, model)?;
     let case = read_case(alloc, test_bytes)?;
     Ok(parts_of(case, front))
 }
@@ -46,7 +46,7 @@ pub fn read_inquiry(
     ensures ok { IfOk result (SaysInquiry model_bytes.now test_bytes.now query_bytes.now) }
     ensures err { IfErr result (IsEnd model_bytes.now test_bytes.now query_bytes.now) }
 {
-    let model = parsed(alloc, model_bytes)?;
+    let model = parse_bytes(alloc, model_bytes)?;
     let parts = judged_parts(alloc, &model, test_bytes)?;
     let written = read_formula(alloc, query_bytes)?;
     let formula = close_formula(alloc, model, written)?;

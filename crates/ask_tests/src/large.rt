@@ -1,6 +1,6 @@
 //! Files at their limits: the bytes of a query, and the size of the axioms with a query's denial.
 use example_texts::{EMPTY, ONE};
-use memory_runs::{ends_in, ends_over, held, words};
+use memory_runs::{ends_in, ends_over, hold_files, words};
 use pc_common::{Bytes, Calls, HeldFile, MemFiles, Memory, Status};
 use std::alloc::Global;
 use std::test::Fail;
@@ -13,7 +13,7 @@ fn ends_over_spaces(
     text: &str,
 ) -> Result<bool, Memory> {
     let words = words(alloc, "ask model test query")?;
-    let mut held = held(alloc, &[("model", texts.0), ("test", texts.1)])?;
+    let mut held = hold_files(alloc, &[("model", texts.0), ("test", texts.1)])?;
     let name = Bytes::from_vec(b"query".to_vec(alloc)?);
     let bytes = Bytes::from_vec(vec![in alloc; b' '; count]?);
     held.push(HeldFile { name, bytes })?;

@@ -1,15 +1,9 @@
 -- The axioms and the macros of a model with some of its axioms.
-use Rattle.std.proofs.Common.{◌≡◌, zero, Bool, true, false, List, [], ◌∷◌, reverse, refl, ◌∙◌, ap}
-use Rattle.std.specs.Prelude.{if◌then◌else◌}
-use Rattle.std.specs.List.{flat_map}
-use Rattle.pc_common.specs.Case.{Case}
-use Rattle.pc_common.specs.World.{Node, World}
-use Rattle.pc_common.specs.declared.place.Place.{Place}
+use Rattle.std.{proofs.Common.{◌≡◌, zero, Bool, true, false, List, [], ◌∷◌, reverse, refl, ◌∙◌, ap}, specs.{Prelude.{if◌then◌else◌}, List.{flat_map}}}
+use Rattle.pc_common.specs.{Case.{Case}, World.{Node, World}, declared.place.Place.{Place}}
 use Rattle.pc_syntax.specs.Written.{Written, WrittenItem, axiom_, macro_, WrittenModel}
-use Rattle.pc_syntax.specs.Observable.{axiom_of, macro_of, axioms_of, macros_in_order, macros_of, satisfies, setting}
-use Rattle.pc_syntax.specs.Truth.{are_true}
-use Rattle.axiom_core.specs.Chosen.{Choice, after_first, taken}
-use Rattle.axiom_core.specs.ModelWith.{items_with, model_with}
+use Rattle.pc_syntax.specs.{Observable.{axiom_of, macro_of, axioms_of, macros_in_order, macros_of, satisfies, setting}, Truth.{are_true}}
+use Rattle.axiom_core.specs.{Chosen.{Choice, after_first, taken}, ModelWith.{items_with, model_with}}
 
 axiom_front : (b : Bool) (at : Place) (body : Written) (items : List WrittenItem) (bodies : List Written) → flat_map axiom_of items ≡ bodies
     → flat_map axiom_of (if b then axiom_ at body ∷ items else items) ≡ (if b then body ∷ bodies else bodies)

@@ -1,21 +1,13 @@
 -- A model without faults has none with some of its axioms.
 use Rattle.std.proofs.Common.{◌≡◌, ℕ, zero, ◌+◌, ◌≤◌, Bool, true, false, List, [], ◌∷◌, Option, Some, None, refl, ◌∙◌, ap, nat_lt, ltb-false, arith}
-use Rattle.std.specs.Prelude.{if◌then◌else◌}
-use Rattle.std.specs.Option.{option_or}
-use Rattle.std.proofs.lemmas.Bool.{le-ltb}
+use Rattle.std.{proofs.lemmas.Bool.{le-ltb}, specs.{Prelude.{if◌then◌else◌}, Option.{option_or}}}
 use Rattle.pc_common.specs.declared.place.Place.{Place}
-use Rattle.pc_syntax.specs.declared.limits.TheConstants.{MAX_SIZE}
-use Rattle.pc_syntax.specs.Written.{Written, MacroAt, WrittenItem, axiom_, macro_, WrittenModel}
-use Rattle.pc_syntax.specs.Observable.{axioms_of, macros_in_order, macros_of}
-use Rattle.pc_syntax.specs.Fault.{Fault, first_fault}
-use Rattle.pc_syntax.specs.StageFaults.{first_stage_fault}
+use Rattle.pc_syntax.specs.{declared.limits.TheConstants.{MAX_SIZE}, Written.{Written, MacroAt, WrittenItem, axiom_, macro_, WrittenModel}}
+use Rattle.pc_syntax.specs.{Observable.{axioms_of, macros_in_order, macros_of}, Fault.{Fault, first_fault}, StageFaults.{first_stage_fault}}
 use Rattle.pc_syntax.specs.MacroFaults.{body_fault, macro_fault, items_fault, first_macro_fault}
 use Rattle.pc_syntax.specs.Sizes.{expanded_size, expanded_height, depth_fault, total_fault, sizes_fault, first_size_fault}
-use Rattle.pc_syntax.specs.NameFaults.{name_fault, first_name_fault}
-use Rattle.pc_syntax.specs.ModelFault.{first_model_fault}
-use Rattle.pc_syntax.proofs.NoFault.{none_first, none_second, none_where}
-use Rattle.axiom_core.specs.Chosen.{Choice, after_first, taken}
-use Rattle.axiom_core.specs.ModelWith.{items_with, model_with}
+use Rattle.pc_syntax.{specs.{NameFaults.{name_fault, first_name_fault}, ModelFault.{first_model_fault}}, proofs.NoFault.{none_first, none_second, none_where}}
+use Rattle.axiom_core.specs.{Chosen.{Choice, after_first, taken}, ModelWith.{items_with, model_with}}
 use Rattle.axiom_core.proofs.AxiomsWith.{axioms_with, ordered_macros_with, macros_with}
 
 none_both : {A : Type 0} (a b : Option A) → a ≡ None → b ≡ None → option_or a b ≡ None

@@ -1,13 +1,8 @@
 -- The numbers of the chosen places: they rise, and they are the chosen places.
 use Rattle.std.proofs.Common.{◌≡◌, ℕ, zero, suc, ◌+◌, ◌<◌, ◌≤◌, inl, inr, Bool, true, false, ◌||◌, eqb, List, [], ◌∷◌, ◌++◌, length, get_or, refl, sym, ◌∙◌, ap, subst, arith, append-nil}
-use Rattle.std.specs.Prelude.{IsTrue, All, if◌then◌else◌}
-use Rattle.std.proofs.lemmas.Bool.{cases_lt, ne_eqb, eq-eqb}
-use Rattle.std.proofs.lemmas.List.{get_or_past}
-use Rattle.std.proofs.lemmas.List.Folds.{list_any-append}
-use Rattle.std.proofs.lemmas.List.Elements.{All-append, All-nil}
-use Rattle.std.proofs.Math.Bool.{or-false}
-use Rattle.axiom_core.specs.Chosen.{Choice, among, flagged, AreRising}
-use Rattle.axiom_core.specs.Choices.{places}
+use Rattle.std.proofs.lemmas.{Bool.{cases_lt, ne_eqb, eq-eqb}, List.{get_or_past, Folds.{list_any-append}, Elements.{All-append, All-nil}}}
+use Rattle.std.{proofs.Math.Bool.{or-false}, specs.Prelude.{IsTrue, All, if◌then◌else◌}}
+use Rattle.axiom_core.specs.{Chosen.{Choice, among, flagged, AreRising}, Choices.{places}}
 
 rising_wider : (low n : ℕ) (ks : List ℕ) → AreRising low n ks → AreRising low (suc n) ks
 rising_wider low n [] r = tt

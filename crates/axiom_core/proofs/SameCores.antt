@@ -1,26 +1,15 @@
 -- What the search finds of chosen axioms, as what the axioms allow or forbid; and one core by two choices that agree.
 use Rattle.std.proofs.Common.{◌≡◌, ℕ, ◌+◌, ◌<◌, Bool, ◌&&◌, not, eqb, List, [], ◌∷◌, ◌++◌, Result, Ok, Err, length, get_or, take, sym, ◌∙◌, ap, subst, arith}
-use Rattle.std.specs.Prelude.{IfOk, OnOk, ◌↔◌, is_ok, if◌then◌else◌}
-use Rattle.std.specs.Bool.{MatchBool}
-use Rattle.std.proofs.lemmas.List.{take_more, length-map}
-use Rattle.pc_common.specs.Case.{Case}
-use Rattle.pc_common.specs.Steps.{Step}
-use Rattle.pc_common.specs.World.{Node}
-use Rattle.pc_syntax.specs.declared.closed.Closed.{Closed}
-use Rattle.pc_syntax.specs.Closed.{PlainClosed}
-use Rattle.pc_ground.specs.declared.front.Front.{Front}
-use Rattle.pc_ground.specs.Stages.{plain_axioms}
+use Rattle.std.{proofs.lemmas.List.{take_more, length-map}, specs.{Prelude.{IfOk, OnOk, ◌↔◌, is_ok, if◌then◌else◌}, Bool.{MatchBool}}}
+use Rattle.pc_common.specs.{Case.{Case}, Steps.{Step}, World.{Node}}
+use Rattle.pc_syntax.specs.{declared.closed.Closed.{Closed}, Closed.{PlainClosed}}
+use Rattle.pc_ground.specs.{declared.front.Front.{Front}, Stages.{plain_axioms}}
 use Rattle.graph_text.specs.declared.graph.Graph.{Graph}
-use Rattle.solver.specs.declared.answer.Answer.{Answer}
-use Rattle.solver.specs.declared.answer.Answer.TheVariants.{Observable, Unobservable}
-use Rattle.search_trait.specs.Found.{IsFound}
-use Rattle.search_trait.proofs.FoundFronts.{found_world, found_none}
-use Rattle.axiom_core.specs.Chosen.{Choice, taken, among, less, flagged, AreRising}
-use Rattle.axiom_core.specs.Choices.{is_refutation, places, IsTried}
+use Rattle.solver.specs.declared.answer.Answer.{Answer, TheVariants.{Observable, Unobservable}}
+use Rattle.search_trait.{specs.Found.{IsFound}, proofs.FoundFronts.{found_world, found_none}}
+use Rattle.axiom_core.specs.{Chosen.{Choice, taken, among, less, flagged, AreRising}, Choices.{is_refutation, places, IsTried}}
 use Rattle.axiom_core.specs.Cores.{Allow, Forbid, IsMinimal, IsFrontWith, IsRefutedWith, IsShownWith, AreShownWithout, IsCore, IsCoreOf, HasNone}
-use Rattle.axiom_core.specs.declared.answer.Core.{Core}
-use Rattle.axiom_core.specs.declared.answer.Core.TheVariants.{None as no_core, Minimal}
-use Rattle.axiom_core.proofs.Taking.{same_taken, all_forbid}
+use Rattle.axiom_core.{specs.declared.answer.Core.{Core, TheVariants.{None as no_core, Minimal}}, proofs.Taking.{same_taken, all_forbid}}
 use Rattle.axiom_core.proofs.Numbered.{among_flagged, places_rising}
 
 -- a graph shows that a front's axioms allow, and a refutation that they forbid

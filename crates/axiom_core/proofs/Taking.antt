@@ -1,17 +1,10 @@
 -- What is taken of a list by two choices, and what holds of it.
-use Rattle.std.proofs.Common.{◌≡◌, ℕ, zero, suc, ◌+◌, ◌<◌, Bool, true, false, List, [], ◌∷◌, ◌++◌, length, map, get_or, take, refl, sym, ◌∙◌, ap, arith}
-use Rattle.std.specs.Prelude.{IsTrue, if◌then◌else◌}
-use Rattle.std.specs.List.{list_all}
-use Rattle.std.proofs.Common.{add-one}
-use Rattle.std.proofs.lemmas.List.{get_or-map, length-map}
-use Rattle.std.proofs.lemmas.Bool.{and_from}
-use Rattle.pc_common.specs.Case.{Case}
-use Rattle.pc_common.proofs.Bools.{and_first, and_second}
-use Rattle.pc_syntax.specs.Closed.{PlainClosed, closed_true}
-use Rattle.pc_syntax.specs.StagesWithin.{StagesWithin}
+use Rattle.std.proofs.Common.{◌≡◌, ℕ, zero, suc, ◌+◌, ◌<◌, Bool, true, false, List, [], ◌∷◌, ◌++◌, length, map, get_or, take, refl, sym, ◌∙◌, ap, arith, add-one}
+use Rattle.std.{proofs.lemmas.{List.{get_or-map, length-map}, Bool.{and_from}}, specs.{Prelude.{IsTrue, if◌then◌else◌}, List.{list_all}}}
+use Rattle.pc_common.{specs.Case.{Case}, proofs.Bools.{and_first, and_second}}
+use Rattle.pc_syntax.specs.{Closed.{PlainClosed, closed_true}, StagesWithin.{StagesWithin}}
 use Rattle.pc_ground.specs.Stages.{AxiomsWithin}
-use Rattle.axiom_core.specs.Chosen.{Choice, after_first, taken}
-use Rattle.axiom_core.specs.Cores.{Allow, Forbid}
+use Rattle.axiom_core.specs.{Chosen.{Choice, after_first, taken}, Cores.{Allow, Forbid}}
 
 -- choices that agree at the places of a list take the same of it
 pub same_taken : {X : Type 0} (keep other : Choice) (xs : List X) → ((k : ℕ) → k < length xs → keep k ≡ other k) → taken keep xs ≡ taken other xs

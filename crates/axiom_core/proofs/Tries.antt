@@ -1,16 +1,11 @@
 -- The deletion loop: flags at its start, where an axiom stays, and where one is taken out.
 use Rattle.std.proofs.Common.{◌≡◌, ℕ, ◌+◌, ◌<◌, inl, inr, Bool, true, false, ◌&&◌, not, eqb, List, length, replicate, set, sym, ◌∙◌, ap, subst, arith, length-set}
+use Rattle.std.proofs.lemmas.Bool.{cases_lt, eq-eqb, and_from, Decides.{eqb_tells}}
+use Rattle.std.proofs.{lemmas.List.{length-replicate, get_or-replicate, get_or-set_same, get_or-set_other}, Math.Bool.{and-true, and-false}}
 use Rattle.std.specs.Prelude.{IsTrue}
-use Rattle.std.proofs.lemmas.Bool.{cases_lt, eq-eqb, and_from}
-use Rattle.std.proofs.lemmas.Bool.Decides.{eqb_tells}
-use Rattle.std.proofs.Math.Bool.{and-true, and-false}
-use Rattle.std.proofs.lemmas.List.{length-replicate, get_or-replicate, get_or-set_same, get_or-set_other}
-use Rattle.pc_common.specs.Case.{Case}
-use Rattle.pc_common.proofs.Bools.{and_first, and_second}
+use Rattle.pc_common.{specs.Case.{Case}, proofs.Bools.{and_first, and_second}}
 use Rattle.pc_syntax.specs.Closed.{PlainClosed}
-use Rattle.axiom_core.specs.Chosen.{Choice, taken, less, flagged}
-use Rattle.axiom_core.specs.Choices.{IsTried}
-use Rattle.axiom_core.specs.Cores.{Allow, Forbid}
+use Rattle.axiom_core.specs.{Chosen.{Choice, taken, less, flagged}, Choices.{IsTried}, Cores.{Allow, Forbid}}
 use Rattle.axiom_core.proofs.Taking.{same_taken, all_taken, fewer_allow}
 
 -- a place whose flag is cleared is left out

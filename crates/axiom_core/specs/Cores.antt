@@ -1,17 +1,12 @@
 -- A minimal set of axioms that forbids an outcome, with a certificate of each of its claims.
 use Rattle.std.specs.Prelude.{ℕ, ◌≡◌, ◌<◌, List, [], ◌∷◌, length, IsTrue}
-use Rattle.pc_common.specs.Case.{Case}
-use Rattle.pc_common.specs.World.{Node, World, IsWorld}
-use Rattle.pc_common.specs.Steps.{Step}
+use Rattle.pc_common.specs.{Case.{Case}, World.{Node, World, IsWorld}, Steps.{Step}}
 use Rattle.pc_syntax.specs.Closed.{PlainClosed, closed_satisfies}
-use Rattle.pc_ground.specs.declared.front.Front.{Front}
-use Rattle.pc_ground.specs.Stages.{plain_axioms}
+use Rattle.pc_ground.specs.{declared.front.Front.{Front}, Stages.{plain_axioms}}
 use Rattle.graph_text.specs.declared.graph.Graph.{Graph}
 use Rattle.solver.specs.declared.answer.Answer.TheVariants.{Observable, Unobservable}
 use Rattle.search_trait.specs.Found.{IsFound}
-use Rattle.axiom_core.specs.declared.answer.Core.{Core}
-use Rattle.axiom_core.specs.declared.answer.Core.TheVariants.{None as no_core, Minimal}
-use Rattle.axiom_core.specs.Chosen.{Choice, taken, among, less, AreRising}
+use Rattle.axiom_core.specs.{declared.answer.Core.{Core, TheVariants.{None as no_core, Minimal}}, Chosen.{Choice, taken, among, less, AreRising}}
 
 -- the closed axioms are all true in some world
 abbrev pub Allow : Case → List PlainClosed → Type 0

@@ -1,13 +1,8 @@
 -- What a choice of axioms says of a model as written.
 use Rattle.std.specs.Prelude.{◌≡◌, None}
-use Rattle.pc_common.specs.Case.{Case}
-use Rattle.pc_common.specs.World.{Node, World}
-use Rattle.pc_syntax.specs.Written.{WrittenModel}
-use Rattle.pc_syntax.specs.Observable.{axioms_of, macros_of, satisfies, setting}
-use Rattle.pc_syntax.specs.Truth.{are_true}
-use Rattle.pc_syntax.specs.ModelFault.{first_model_fault}
-use Rattle.axiom_core.specs.Chosen.{Choice, taken}
-use Rattle.axiom_core.specs.ModelWith.{model_with}
+use Rattle.pc_common.specs.{Case.{Case}, World.{Node, World}}
+use Rattle.pc_syntax.specs.{Written.{WrittenModel}, Observable.{axioms_of, macros_of, satisfies, setting}, Truth.{are_true}, ModelFault.{first_model_fault}}
+use Rattle.axiom_core.specs.{Chosen.{Choice, taken}, ModelWith.{model_with}}
 
 -- a world satisfies the model with some of its axioms exactly where these axioms are true in it, with all macros of the file
 abbrev pub SatisfiesWith : Type 0

@@ -1,40 +1,22 @@
 -- What the next line makes of each stage.
 use Rattle.std.proofs.Common.{◌≡◌, inl, ℕ, Bool, true, false, List, [], ◌∷◌, ◌++◌, refl, sym, ◌∙◌, ap, subst, arith}
-use Rattle.std.specs.Prelude.{All, Contains, MatchBool, codes}
-use Rattle.std.proofs.lemmas.List.Elements.{All-contains, All-nil}
-use Rattle.pc_common.specs.World.{Node}
-use Rattle.pc_common.specs.Generated.{HasEnds}
-use Rattle.pc_common.proofs.Elements.{in_from_contains, contains_from_in}
+use Rattle.std.{proofs.lemmas.List.Elements.{All-contains, All-nil}, specs.Prelude.{All, Contains, MatchBool, codes}}
+use Rattle.pc_common.specs.{World.{Node}, Generated.{HasEnds}}
 use Rattle.pc_common.specs.Lines.{Names, Line, Verdict as PlainVerdict, observable, unobservable, verdict, second, version_two, node, edge, step, end, line_words, verdict_text, second_text}
-use Rattle.pc_ground.specs.declared.literal.Literal.{Literal}
-use Rattle.pc_ground.specs.NodeForm.{IsNodeIn, AreReadable}
-use Rattle.pc_ground.specs.Numbers.{nodes_of_tree}
-use Rattle.pc_ground.specs.Tree.{Tree as GroundTree}
-use Rattle.pc_common.specs.Steps.{Leaf, path, Step, split, close}
-use Rattle.pc_common.proofs.Bools.{clash}
-use Rattle.pc_ground.specs.declared.version.Version.{Version}
-use Rattle.pc_ground.specs.declared.version.Version.TheVariants.{One, Two}
+use Rattle.pc_common.{specs.Steps.{Leaf, path, Step, split, close}, proofs.{Elements.{in_from_contains, contains_from_in}, Bools.{clash}}}
+use Rattle.pc_ground.specs.{declared.{literal.Literal.{Literal}, version.Version.{Version, TheVariants.{One, Two}}}, NodeForm.{IsNodeIn, AreReadable}}
+use Rattle.pc_ground.specs.{Numbers.{nodes_of_tree}, Tree.{Tree as GroundTree}}
 use Rattle.pc_ground.specs.Refutes.{all_signed, Branch, IsContradiction, a_cycle, a_path, an_absence, Closes, a_contradiction, a_falsity, literals_of, Runs, IsPartial, asserted}
-use Rattle.graph_text.specs.OpenGraphs.{PlainGraph, empty_graph, Takes, Refuses}
-use Rattle.graph_text.proofs.LinesOf.{keeps_ends}
-use Rattle.refutation.specs.Steps.{HasItsNodes, HasLine}
-use Rattle.refutation.specs.Reading.{IsLineOf}
-use Rattle.tree_check.specs.OpenBranches.{Stands}
-use Rattle.tree_check.proofs.Runs.{runs_then}
-use Rattle.cert_check.specs.Certificates.{Question, header, tree_lines, IsCertificate, BeginsWell}
-use Rattle.cert_check.specs.Verdicts.{plain_verdict}
-use Rattle.cert_check.specs.Proper.{IsAsked}
-use Rattle.cert_check.specs.Stages.{IsGraphSoFar, IsTreeSoFar, GoesOn, IsStuck, HasAdvanced, StepsOn}
-use Rattle.cert_check.specs.declared.header.Verdict.{Verdict}
-use Rattle.cert_check.specs.declared.header.Verdict.TheVariants.{Observable, Unobservable}
-use Rattle.cert_check.specs.declared.open_tree.OpenTree.{OpenTree}
-use Rattle.cert_check.specs.declared.stage.Stage.TheVariants.{Said, Graph, Tree, Ended}
-use Rattle.cert_check.proofs.Lasts.{snoc_some}
-use Rattle.cert_check.proofs.TreeLines.{tree_snoc}
+use Rattle.graph_text.{specs.OpenGraphs.{PlainGraph, empty_graph, Takes, Refuses}, proofs.LinesOf.{keeps_ends}}
+use Rattle.refutation.specs.{Steps.{HasItsNodes, HasLine}, Reading.{IsLineOf}}
+use Rattle.tree_check.{specs.OpenBranches.{Stands}, proofs.Runs.{runs_then}}
+use Rattle.cert_check.specs.{Certificates.{Question, header, tree_lines, IsCertificate, BeginsWell}, Verdicts.{plain_verdict}, Proper.{IsAsked}}
+use Rattle.cert_check.specs.{Stages.{IsGraphSoFar, IsTreeSoFar, GoesOn, IsStuck, HasAdvanced, StepsOn}, declared.header.Verdict.{Verdict}}
+use Rattle.cert_check.specs.declared.{header.Verdict.TheVariants.{Observable, Unobservable}, open_tree.OpenTree.{OpenTree}}
+use Rattle.cert_check.{specs.declared.stage.Stage.TheVariants.{Said, Graph, Tree, Ended}, proofs.{Lasts.{snoc_some}, TreeLines.{tree_snoc}}}
 use Rattle.cert_check.proofs.BodyBegins.{first_line, second_line}
 use Rattle.cert_check.proofs.Nexts.{HasWorld, GraphNext, node_next, edge_next, graph_end, next_in_graph, TreeNext, version_next, step_next, last_next, next_in_tree, no_more}
-use Rattle.cert_check.proofs.StepNodes.{StepHas, runs_have, step_in}
-use Rattle.cert_check.proofs.Propers.{IsWithin, runs_within}
+use Rattle.cert_check.proofs.{StepNodes.{StepHas, runs_have, step_in}, Propers.{IsWithin, runs_within}}
 use Rattle.cert_check.proofs.Words.{one_verdict, no_end_node, no_end_edge, no_end_step, no_version_step, no_version_end, is_node_line, is_edge_line, no_end_graph}
 
 -- the first line

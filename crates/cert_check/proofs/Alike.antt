@@ -1,14 +1,8 @@
 -- What is a text to one question is it to another that asks the same.
-use Rattle.std.proofs.Common.{◌≡◌, List, ℕ, ◌∙◌, ap, subst}
-use Rattle.std.proofs.Math.Path.{fun_ext}
-use Rattle.pc_common.specs.Case.{Expectation}
-use Rattle.pc_common.specs.World.{Node, World}
-use Rattle.pc_common.specs.Lines.{Names}
-use Rattle.std.specs.Prelude.{Bool}
+use Rattle.std.{proofs.{Common.{◌≡◌, List, ℕ, ◌∙◌, ap, subst}, Math.Path.{fun_ext}}, specs.Prelude.{Bool}}
+use Rattle.pc_common.specs.{Case.{Expectation}, World.{Node, World}, Lines.{Names}}
 use Rattle.pc_ground.specs.Tree.{Tree}
-use Rattle.cert_check.specs.Certificates.{Question}
-use Rattle.cert_check.specs.Verified.{Verified}
-use Rattle.cert_check.specs.declared.checked.Checked.{Checked}
+use Rattle.cert_check.specs.{Certificates.{Question}, Verified.{Verified}, declared.checked.Checked.{Checked}}
 
 -- two questions ask one thing
 pub record AskAlike (q r : Question) : Type 0 where

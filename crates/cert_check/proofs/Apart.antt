@@ -1,12 +1,7 @@
 -- No two graph lines of a question's names have one text.
-use Rattle.std.proofs.Common.{◌≡◌, ℕ, List, [], ◌∷◌, ◌++◌, sym, ◌∙◌, ap}
-use Rattle.std.proofs.lemmas.List.{append-nil}
-use Rattle.std.specs.Prelude.{codes}
-use Rattle.pc_common.specs.World.{Node}
-use Rattle.pc_common.specs.Lines.{Names, node, edge, node_text, line_words}
-use Rattle.pc_ground.specs.NodeForm.{IsNodeIn, AreReadable}
-use Rattle.pc_ground.proofs.Cuts.{one_cut}
-use Rattle.pc_ground.proofs.Outside.{a_space}
+use Rattle.std.{proofs.{Common.{◌≡◌, ℕ, List, [], ◌∷◌, ◌++◌, sym, ◌∙◌, ap}, lemmas.List.{append-nil}}, specs.Prelude.{codes}}
+use Rattle.pc_common.specs.{World.{Node}, Lines.{Names, node, edge, node_text, line_words}}
+use Rattle.pc_ground.{specs.NodeForm.{IsNodeIn, AreReadable}, proofs.{Cuts.{one_cut}, Outside.{a_space}}}
 use Rattle.cert_check.proofs.Bytes.{node_lacks}
 
 one_node_text : (names : Names) (a b : Node) → line_words names (node a) ≡ line_words names (node b) → node_text names a ≡ node_text names b

@@ -1,14 +1,8 @@
 -- What may stand next in a certificate, and that a first part of what begins well begins well.
-use Rattle.std.proofs.Common.{◌≡◌, List, [], ◌∷◌, ◌++◌, refl, subst}
-use Rattle.std.specs.Prelude.{All}
-use Rattle.pc_common.specs.Case.{Expectation}
-use Rattle.pc_common.specs.World.{Node, Edge}
-use Rattle.pc_common.specs.Generated.{HasEnds}
-use Rattle.pc_common.specs.Steps.{Step}
+use Rattle.std.{proofs.Common.{◌≡◌, List, [], ◌∷◌, ◌++◌, refl, subst}, specs.Prelude.{All}}
+use Rattle.pc_common.specs.{Case.{Expectation}, World.{Node, Edge}, Generated.{HasEnds}, Steps.{Step}}
 use Rattle.pc_common.specs.Lines.{Line, Verdict, observable, unobservable, verdict, second, node, edge, end}
-use Rattle.pc_ground.specs.declared.version.Version.{Version}
-use Rattle.pc_ground.specs.NodeForm.{IsNodeIn}
-use Rattle.pc_ground.specs.Refutes.{Branch, IsPartial}
+use Rattle.pc_ground.specs.{declared.version.Version.{Version}, NodeForm.{IsNodeIn}, Refutes.{Branch, IsPartial}}
 use Rattle.graph_text.specs.Graphs.{graph_lines}
 use Rattle.cert_check.specs.Certificates.{Question, header, tree_lines, IsGraphCertificate, IsTreeCertificate, BeginsWell, in_header, in_graph, in_tree, whole}
 use Rattle.cert_check.proofs.GraphLines.{LastOfGraph, a_node, an_edge, last_line}

@@ -1,17 +1,11 @@
 -- No line of a certificate has an LF in it, and no node's text a space.
-use Rattle.std.proofs.Common.{inl, inr, ℕ, Bool, true, false, List, [], ◌∷◌, ◌++◌, refl, subst}
-use Rattle.std.specs.Prelude.{All, codes}
-use Rattle.std.proofs.lemmas.List.Elements.{All-contains}
-use Rattle.std.specs.Fmt.{decimal}
-use Rattle.pc_common.specs.Case.{Expectation, permitted, forbidden, unstated}
-use Rattle.pc_common.specs.World.{Node}
-use Rattle.pc_common.specs.Steps.{Leaf, cycle, path, absent, false_step, split, close}
+use Rattle.std.proofs.{Common.{inl, inr, ℕ, Bool, true, false, List, [], ◌∷◌, ◌++◌, refl, subst}, lemmas.List.Elements.{All-contains}}
+use Rattle.std.specs.{Prelude.{All, codes}, Fmt.{decimal}}
+use Rattle.pc_common.specs.{Case.{Expectation, permitted, forbidden, unstated}, World.{Node}, Steps.{Leaf, cycle, path, absent, false_step, split, close}}
 use Rattle.pc_common.specs.Lines.{Names, Line, Verdict, observable, unobservable, verdict, second, version_two, node, edge, step, end, node_text, nodes_text, sign_text, line_words}
-use Rattle.refutation.specs.Steps.{IsLeafIn}
 use Rattle.pc_common.proofs.Elements.{In, contains_from_in}
-use Rattle.pc_ground.specs.NodeForm.{IsNodeIn, AreReadable}
-use Rattle.pc_ground.specs.NodeWords.{Lacks}
-use Rattle.pc_ground.proofs.Cuts.{decimal_lacks}
+use Rattle.refutation.specs.Steps.{IsLeafIn}
+use Rattle.pc_ground.{specs.{NodeForm.{IsNodeIn, AreReadable}, NodeWords.{Lacks}}, proofs.Cuts.{decimal_lacks}}
 use Rattle.pc_ground.proofs.Outside.{IsOutside, lacks_append, line_feed, form_lacks}
 use Rattle.cert_check.proofs.Propers.{IsProper}
 

@@ -1,25 +1,16 @@
 -- A first part of what begins well begins well.
-use Rattle.std.proofs.Common.{◌≡◌, false, List, [], ◌∷◌, ◌++◌, refl, sym, ◌∙◌, ap, subst, append_assoc, get_or}
-use Rattle.std.proofs.lemmas.List.{append-nil}
-use Rattle.std.specs.Prelude.{All}
-use Rattle.std.proofs.lemmas.List.Elements.{All-contains, Contains-append_left, Contains-get_or}
-use Rattle.pc_common.specs.World.{Node, Edge}
-use Rattle.pc_common.specs.Generated.{HasEnds}
+use Rattle.std.proofs.{Common.{◌≡◌, false, List, [], ◌∷◌, ◌++◌, refl, sym, ◌∙◌, ap, subst, append_assoc, get_or}, lemmas.List.{append-nil}}
+use Rattle.std.{proofs.lemmas.List.Elements.{All-contains, Contains-append_left, Contains-get_or}, specs.Prelude.{All}}
+use Rattle.pc_common.specs.{World.{Node, Edge}, Generated.{HasEnds}, Steps.{Step}, Lines.{Line, Verdict, observable, unobservable, verdict, second, end}}
 use Rattle.pc_common.proofs.Elements.{in_from_contains}
-use Rattle.pc_common.specs.Steps.{Step}
-use Rattle.pc_common.specs.Lines.{Line, Verdict, observable, unobservable, verdict, second, end}
 use Rattle.pc_syntax.specs.Observable.{IsNodeOf}
-use Rattle.pc_ground.specs.NodeForm.{IsNodeIn}
-use Rattle.pc_ground.specs.Stages.{numbers_of}
-use Rattle.pc_ground.specs.declared.version.Version.TheVariants.{One}
+use Rattle.pc_ground.specs.{NodeForm.{IsNodeIn}, Stages.{numbers_of}, declared.version.Version.TheVariants.{One}}
 use Rattle.pc_ground.specs.Refutes.{all_signed, Branch, IsPartial, asserted}
 use Rattle.graph_text.specs.Graphs.{graph_lines}
-use Rattle.cert_check.specs.Certificates.{Question, header, tree_lines, BeginsWell, in_header, in_graph, in_tree}
-use Rattle.cert_check.proofs.Lasts.{snoc_same, snoc_some}
-use Rattle.cert_check.proofs.GraphLines.{LastOfGraph, a_node, an_edge, last_line}
-use Rattle.tree_check.proofs.Runs.{runs_cut}
-use Rattle.cert_check.proofs.TreeLines.{LastOfTree, a_version, a_step, last_tree}
+use Rattle.cert_check.{specs.Certificates.{Question, header, tree_lines, BeginsWell, in_header, in_graph, in_tree}, proofs.Lasts.{snoc_same, snoc_some}}
+use Rattle.cert_check.proofs.{GraphLines.{LastOfGraph, a_node, an_edge, last_line}, TreeLines.{LastOfTree, a_version, a_step, last_tree}}
 use Rattle.cert_check.proofs.BodyBegins.{BodyBegins, no_body, graph_body, tree_body, whole_graph, whole_tree, body_begins, first_line, second_line}
+use Rattle.tree_check.proofs.Runs.{runs_cut}
 
 -- what holds of all holds of each of a first part
 pub all_front : {X : Type 0} (P : X → Type 0) (xs ys : List X) → All P (xs ++ ys) → All P xs

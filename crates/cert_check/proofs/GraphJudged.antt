@@ -1,18 +1,11 @@
 -- What a judge of graphs stands at, line by line as bytes.
-use Rattle.std.proofs.Common.{◌≡◌, ℕ, Bool, true, false, List, [], ◌∷◌, ◌++◌, map, ◌∙◌, ap}
-use Rattle.std.specs.Prelude.{◌↔◌, codes}
+use Rattle.std.{proofs.Common.{◌≡◌, ℕ, Bool, true, false, List, [], ◌∷◌, ◌++◌, map, ◌∙◌, ap}, specs.Prelude.{◌↔◌, codes}}
 use Rattle.pc_common.specs.Lines.{Line, Verdict as PlainVerdict, observable, unobservable, verdict_text, line_words}
 use Rattle.line_judge.specs.Texts.{HoldsRefused}
-use Rattle.cert_check.specs.Certificates.{Question}
-use Rattle.cert_check.specs.Stages.{is_end, IsStuck, HasAdvanced}
-use Rattle.cert_check.specs.RawLines.{RawBegins, RawStands}
-use Rattle.cert_check.specs.GraphStages.{as_stage, IsOther, HasGraphAdvanced}
-use Rattle.cert_check.specs.GraphBegins.{GraphFirst, GraphWhole}
-use Rattle.cert_check.specs.declared.graph_stage.GraphStage.{GraphStage}
-use Rattle.cert_check.proofs.Advances.{start_stuck}
-use Rattle.cert_check.proofs.Raws.{raw_begins}
+use Rattle.cert_check.specs.{Certificates.{Question}, Stages.{is_end, IsStuck, HasAdvanced}, RawLines.{RawBegins, RawStands}}
+use Rattle.cert_check.specs.{GraphStages.{as_stage, IsOther, HasGraphAdvanced}, GraphBegins.{GraphFirst, GraphWhole}}
+use Rattle.cert_check.{specs.{declared.graph_stage.GraphStage.{GraphStage}, LawsOfJudges.{stage_other}}, proofs.{Advances.{start_stuck}, Raws.{raw_begins}}}
 use Rattle.cert_check.proofs.RawStages.{raw_goes_on, raw_stuck, raw_done}
-use Rattle.cert_check.specs.LawsOfJudges.{stage_other}
 
 -- no other first line begins well
 pub first_stuck : (q : Question) (lines : List Line) (text : List ℕ) → lines ≡ [] → (text ≡ codes "observable" → ⊥) → IsOther lines text → IsStuck q lines text

@@ -1,8 +1,6 @@
 -- The lines of a graph: of no two graphs, and what the last one is.
-use Rattle.std.proofs.Common.{◌≡◌, inl, inr, List, [], ◌∷◌, ◌++◌, map, refl, sym, ◌∙◌, ap}
-use Rattle.std.proofs.lemmas.List.{append-nil}
-use Rattle.pc_common.specs.World.{Node, Edge}
-use Rattle.pc_common.specs.Lines.{Line, node, edge}
+use Rattle.std.proofs.{Common.{◌≡◌, inl, inr, List, [], ◌∷◌, ◌++◌, map, refl, sym, ◌∙◌, ap}, lemmas.List.{append-nil}}
+use Rattle.pc_common.specs.{World.{Node, Edge}, Lines.{Line, node, edge}}
 use Rattle.graph_text.specs.Graphs.{graph_lines}
 use Rattle.cert_check.proofs.Lasts.{last_of, last_map, map_same}
 

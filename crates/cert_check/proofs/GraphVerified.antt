@@ -1,28 +1,16 @@
 -- What a text that does not say unobservable is at its end.
 use Rattle.std.proofs.Common.{◌≡◌, ℕ, zero, suc, ◌≤◌, ◌<◌, List, [], ◌∷◌, ◌++◌, map, length, refl, sym, ◌∙◌, ap, subst, arith, append_assoc}
-use Rattle.std.specs.Prelude.{codes}
-use Rattle.std.proofs.lemmas.List.{append-nil}
+use Rattle.std.{proofs.lemmas.List.{append-nil}, specs.Prelude.{codes}}
 use Rattle.pc_common.specs.Lines.{Verdict as PlainVerdict, observable, unobservable, second, end, line_words, lines_text}
 use Rattle.pc_common.specs.declared.limits.TheConstants.{MAX_CERTIFICATE}
 use Rattle.pc_ground.specs.NodeForm.{AreReadable}
-use Rattle.line_judge.specs.Texts.{text_of_lines, IsMadeOf, FirstLinesBegin, IsRefusedAt}
-use Rattle.line_judge.specs.JudgedLines.{IsWhole}
-use Rattle.line_judge.specs.Feeds.{IsRefusedBy}
+use Rattle.line_judge.specs.{Texts.{text_of_lines, IsMadeOf, FirstLinesBegin, IsRefusedAt}, JudgedLines.{IsWhole}, Feeds.{IsRefusedBy}}
 use Rattle.graph_text.proofs.WholeGraphs.{joined_lines}
-use Rattle.cert_check.specs.Certificates.{Question, tree_lines, IsCertificateText}
-use Rattle.cert_check.specs.Verified.{Verified, too_long, refused}
-use Rattle.cert_check.specs.Questions.{question_of_parts}
-use Rattle.cert_check.specs.Ends.{checked_of}
-use Rattle.cert_check.specs.RawLines.{RawBegins, RawWhole}
-use Rattle.cert_check.specs.GraphStages.{as_stage}
-use Rattle.cert_check.specs.GraphBegins.{SaysUnobservable, IsUnobservableFirst, GraphFirst, GraphWhole}
-use Rattle.cert_check.specs.GraphFed.{graph_judge_view}
-use Rattle.cert_check.specs.declared.checked.Checked.TheVariants.{Refused}
-use Rattle.cert_check.specs.declared.graph_judge.GraphJudge.{GraphJudge}
-use Rattle.cert_check.proofs.Propers.{proper_seen}
-use Rattle.cert_check.proofs.Raws.{raw_lines, raw_begins, raw_first}
-use Rattle.cert_check.proofs.GraphJudged.{graph_done}
-use Rattle.cert_check.proofs.Verified.{ended_verified}
+use Rattle.cert_check.specs.{Certificates.{Question, tree_lines, IsCertificateText}, Verified.{Verified, too_long, refused}, Questions.{question_of_parts}}
+use Rattle.cert_check.specs.{Ends.{checked_of}, RawLines.{RawBegins, RawWhole}, GraphStages.{as_stage}}
+use Rattle.cert_check.specs.{GraphBegins.{SaysUnobservable, IsUnobservableFirst, GraphFirst, GraphWhole}, GraphFed.{graph_judge_view}}
+use Rattle.cert_check.{specs.declared.{checked.Checked.TheVariants.{Refused}, graph_judge.GraphJudge.{GraphJudge}}, proofs.Propers.{proper_seen}}
+use Rattle.cert_check.proofs.{Raws.{raw_lines, raw_begins, raw_first}, GraphJudged.{graph_done}, Verified.{ended_verified}}
 
 -- the first lines of such a text do not say unobservable first
 other_lines : (lines : List (List ℕ)) (rest text : List ℕ) → (SaysUnobservable text → ⊥) → text ≡ text_of_lines lines ++ rest → IsUnobservableFirst lines → ⊥

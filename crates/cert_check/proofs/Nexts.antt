@@ -1,25 +1,18 @@
 -- What may stand next in a certificate, by what stands so far.
-use Rattle.std.proofs.Common.{◌≡◌, inl, false, List, [], ◌∷◌, ◌++◌, refl, sym, subst}
+use Rattle.std.proofs.{Common.{◌≡◌, inl, false, List, [], ◌∷◌, ◌++◌, refl, sym, subst}, lemmas.List.Elements.{All-contains, Contains-append_right}}
 use Rattle.std.specs.Prelude.{All, Contains, IsTrue}
-use Rattle.std.proofs.lemmas.List.Elements.{All-contains, Contains-append_right}
-use Rattle.pc_common.specs.World.{Node, Edge, World}
-use Rattle.pc_common.specs.Generated.{HasEnds, IsGenerated}
-use Rattle.pc_common.proofs.Elements.{contains_from_in}
-use Rattle.pc_common.specs.Steps.{Step}
-use Rattle.pc_common.specs.Lines.{Line, Verdict, observable, unobservable, node, edge, version_two, step, end}
+use Rattle.pc_common.specs.{World.{Node, Edge, World}, Generated.{HasEnds, IsGenerated}, Steps.{Step}}
+use Rattle.pc_common.{specs.Lines.{Line, Verdict, observable, unobservable, node, edge, version_two, step, end}, proofs.Elements.{contains_from_in}}
 use Rattle.pc_syntax.specs.Observable.{IsWorldOf}
-use Rattle.pc_ground.specs.NodeForm.{IsNodeIn}
-use Rattle.pc_ground.specs.Stages.{numbers_of}
-use Rattle.pc_ground.specs.declared.version.Version.{Version}
-use Rattle.pc_ground.specs.declared.version.Version.TheVariants.{One}
+use Rattle.pc_ground.specs.{NodeForm.{IsNodeIn}, Stages.{numbers_of}, declared.version.Version.{Version, TheVariants.{One}}}
 use Rattle.pc_ground.specs.Refutes.{all_signed, Branch, Runs, IsPartial, asserted}
 use Rattle.graph_text.specs.Graphs.{graph_lines}
 use Rattle.cert_check.specs.Certificates.{Question, header, tree_lines, IsGraphCertificate, IsTreeCertificate, IsCertificate, BeginsWell}
 use Rattle.cert_check.proofs.Lasts.{snoc_same, snoc_some}
 use Rattle.cert_check.proofs.GraphLines.{LastOfGraph, a_node, an_edge, last_line, graph_same, NextOfGraph, next_node, next_edge, next_of_graph}
 use Rattle.cert_check.proofs.TreeLines.{trees_same, LastOfTree, a_version, a_step, last_tree, tree_end, NextOfTree, next_version, next_step, next_tree}
-use Rattle.tree_check.proofs.Runs.{runs_cut, runs_one}
 use Rattle.cert_check.proofs.BodyBegins.{unequal, BodyBegins, no_body, graph_body, tree_body, whole_graph, whole_tree, body_begins, graph_ends}
+use Rattle.tree_check.proofs.Runs.{runs_cut, runs_one}
 
 -- some world that the graph generates is of both files and satisfies
 abbrev pub HasWorld : Question → List Node → List Edge → Type 0

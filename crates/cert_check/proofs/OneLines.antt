@@ -1,17 +1,10 @@
 -- What begins well and has no line of version 2 does so by the rules of version 1, and the other way round.
-use Rattle.std.proofs.Common.{◌≡◌, ◌⊎◌, inl, inr, ℕ, List, [], ◌∷◌, ◌++◌, map, refl, sym, ◌∙◌, ap, subst}
-use Rattle.std.specs.Prelude.{codes}
-use Rattle.std.proofs.lemmas.List.{append-nil}
-use Rattle.pc_common.specs.World.{Node}
-use Rattle.pc_common.specs.Steps.{Step}
-use Rattle.pc_common.specs.Lines.{Line, Verdict, observable, unobservable, verdict, second, version_two, step, end, line_words}
+use Rattle.std.{proofs.{Common.{◌≡◌, ◌⊎◌, inl, inr, ℕ, List, [], ◌∷◌, ◌++◌, map, refl, sym, ◌∙◌, ap, subst}, lemmas.List.{append-nil}}, specs.Prelude.{codes}}
+use Rattle.pc_common.specs.{World.{Node}, Steps.{Step}, Lines.{Line, Verdict, observable, unobservable, verdict, second, version_two, step, end, line_words}}
 use Rattle.pc_ground.specs.declared.version.Version.TheVariants.{One as version_one, Two}
-use Rattle.cert_check.specs.Certificates.{Question, header, IsCertificate, BeginsWell, in_header, in_graph, in_tree, whole}
-use Rattle.cert_check.specs.RawLines.{RawBegins, RawWhole}
+use Rattle.cert_check.specs.{Certificates.{Question, header, IsCertificate, BeginsWell, in_header, in_graph, in_tree, whole}, RawLines.{RawBegins, RawWhole}}
 use Rattle.cert_check.specs.Ones.{IsCertificateOne, BeginsOne, one_header, one_graph, one_tree, one_whole, RawBeginsOne, RawWholeOne}
-use Rattle.cert_check.proofs.BodyBegins.{first_line, second_line, unequal}
-use Rattle.cert_check.proofs.Firsts.{begins_first}
-use Rattle.cert_check.proofs.Raws.{map_front}
+use Rattle.cert_check.proofs.{BodyBegins.{first_line, second_line, unequal}, Firsts.{begins_first}, Raws.{map_front}}
 use Rattle.cert_check.proofs.Words.{one_verdict, no_version_step, no_version_end}
 
 -- a certificate of version 1 is one

@@ -1,29 +1,16 @@
 -- What a text is by the rules of version 1, from what it is by those of both versions.
 use Rattle.std.proofs.Common.{◌≡◌, ◌≤◌, ◌<◌, ◌⊎◌, inl, inr, ℕ, Bool, true, false, ◌==◌, List, [], ◌∷◌, ◌++◌, map, length, refl, sym, ◌∙◌, ap, subst, arith, append_assoc}
-use Rattle.std.specs.Prelude.{codes}
-use Rattle.std.proofs.lemmas.List.{append-nil}
-use Rattle.std.proofs.lemmas.Bool.{cases_order}
-use Rattle.pc_common.specs.World.{Node}
-use Rattle.pc_common.specs.Steps.{Step}
-use Rattle.pc_common.specs.declared.limits.TheConstants.{MAX_CERTIFICATE}
+use Rattle.std.{proofs.lemmas.{List.{append-nil}, Bool.{cases_order}}, specs.Prelude.{codes}}
+use Rattle.pc_common.specs.{World.{Node}, Steps.{Step}, declared.limits.TheConstants.{MAX_CERTIFICATE}}
 use Rattle.pc_common.specs.Lines.{Line, Verdict, observable, unobservable, verdict, second, version_two, step, end, line_words, line_text, lines_text, verdict_text, second_text}
-use Rattle.pc_ground.specs.declared.version.Version.{Version}
-use Rattle.pc_ground.specs.declared.version.Version.TheVariants.{One as version_one, Two}
-use Rattle.line_judge.specs.Texts.{text_of_lines, IsMadeOf, FirstLinesBegin, IsRefusedAt}
-use Rattle.line_judge.proofs.Refusals.{refused_at_line}
-use Rattle.graph_text.proofs.WholeGraphs.{joined_lines}
-use Rattle.graph_text.proofs.Spaces.{lacking_on_line}
-use Rattle.cert_check.specs.Certificates.{Question, header, certificate_lines, IsTreeCertificate, IsCertificateText}
-use Rattle.cert_check.specs.Proper.{IsAsked}
-use Rattle.cert_check.specs.RawLines.{RawBegins, RawWhole}
-use Rattle.cert_check.specs.Verified.{Verified, seen, unseen, too_long, refused}
+use Rattle.pc_ground.specs.declared.version.Version.{Version, TheVariants.{One as version_one, Two}}
+use Rattle.line_judge.{specs.Texts.{text_of_lines, IsMadeOf, FirstLinesBegin, IsRefusedAt}, proofs.Refusals.{refused_at_line}}
+use Rattle.graph_text.proofs.{WholeGraphs.{joined_lines}, Spaces.{lacking_on_line}}
+use Rattle.cert_check.specs.{Certificates.{Question, header, certificate_lines, IsTreeCertificate, IsCertificateText}, Proper.{IsAsked}}
+use Rattle.cert_check.specs.{RawLines.{RawBegins, RawWhole}, Verified.{Verified, seen, unseen, too_long, refused}}
 use Rattle.cert_check.specs.Ones.{IsCertificateOne, BeginsOne, one_header, RawBeginsOne, RawWholeOne, IsTreeText, IsOne, shown, refuted, one_too_long, one_refused}
-use Rattle.cert_check.specs.StepTexts.{header_text, SaysTwo}
-use Rattle.cert_check.specs.declared.checked.Checked.TheVariants.{Observable, Unobservable, Refused as refused_at}
-use Rattle.cert_check.specs.declared.one.One.{One}
-use Rattle.cert_check.specs.declared.one.One.TheVariants.{Graph, Tree, Refused}
-use Rattle.cert_check.proofs.Propers.{proper_header, proper_certificate}
-use Rattle.cert_check.proofs.Raws.{raw_lines}
+use Rattle.cert_check.specs.{StepTexts.{header_text, SaysTwo}, declared.checked.Checked.TheVariants.{Observable, Unobservable, Refused as refused_at}}
+use Rattle.cert_check.{specs.declared.one.One.{One, TheVariants.{Graph, Tree, Refused}}, proofs.{Propers.{proper_header, proper_certificate}, Raws.{raw_lines}}}
 use Rattle.cert_check.proofs.OneLines.{certificate_wide, HasTwo, one_or_two, raw_one_wide, raw_whole_wide, raw_one_first, raw_one_whole, raw_two_stuck}
 
 -- the header of a refutation and what stands after it, as a text

@@ -1,14 +1,8 @@
 -- What an answer says of the outcome holds.
 use Rattle.std.proofs.Common.{List, ℕ, sym, ◌∙◌}
-use Rattle.pc_ground.specs.declared.front.Front.{Front}
-use Rattle.pc_ground.specs.GroundTree.{closed_ground_tree}
-use Rattle.pc_ground.specs.Stages.{plain_axioms}
-use Rattle.pc_ground.proofs.Refuted.{refutation_sound}
+use Rattle.pc_ground.{specs.{declared.front.Front.{Front}, GroundTree.{closed_ground_tree}, Stages.{plain_axioms}}, proofs.Refuted.{refutation_sound}}
 use Rattle.pc_ground.proofs.UnfoldedTruth.{closed_ground_tree_true}
-use Rattle.cert_check.specs.Outcomes.{SaysOutcome}
-use Rattle.cert_check.specs.Questions.{question_of}
-use Rattle.cert_check.specs.Verified.{Verified, seen, unseen}
-use Rattle.cert_check.specs.declared.checked.Checked.{Checked}
+use Rattle.cert_check.specs.{Outcomes.{SaysOutcome}, Questions.{question_of}, Verified.{Verified, seen, unseen}, declared.checked.Checked.{Checked}}
 use Rattle.cert_check.specs.declared.checked.Checked.TheVariants.{Observable, Unobservable, Refused}
 
 pub outcome_holds : (front : Front) (text : List ℕ) (checked : Checked) → Verified (question_of front) text checked → SaysOutcome front checked

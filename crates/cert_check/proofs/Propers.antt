@@ -1,28 +1,17 @@
 -- Lines that begin well can be written and read again.
 use Rattle.std.proofs.Common.{inl, inr, suc, ◌<◌, false, List, [], ◌∷◌, map, refl, sym, subst, arith}
-use Rattle.std.specs.Prelude.{All, ◌≤◌}
-use Rattle.std.proofs.lemmas.List.Elements.{All-contains, All-nil, All-cons, All-append}
-use Rattle.pc_common.specs.World.{Node, Edge}
-use Rattle.pc_common.specs.Generated.{HasEnds}
-use Rattle.pc_common.proofs.Elements.{In, contains_from_in}
-use Rattle.pc_common.specs.Steps.{Step, split, close}
+use Rattle.std.{proofs.lemmas.List.Elements.{All-contains, All-nil, All-cons, All-append}, specs.Prelude.{All, ◌≤◌}}
+use Rattle.pc_common.specs.{World.{Node, Edge}, Generated.{HasEnds}, Steps.{Step, split, close}}
 use Rattle.pc_common.specs.Lines.{Names, Line, Verdict, observable, unobservable, verdict, second, version_two, node, edge, step, end}
+use Rattle.pc_common.proofs.Elements.{In, contains_from_in}
 use Rattle.pc_syntax.specs.Observable.{IsNodeOf}
-use Rattle.pc_ground.specs.NodeForm.{IsNodeIn}
-use Rattle.pc_ground.specs.Stages.{numbers_of}
-use Rattle.pc_ground.specs.Tree.{Tree, either, turned, size_of}
-use Rattle.pc_ground.specs.declared.version.Version.{Version}
-use Rattle.pc_ground.specs.declared.version.Version.TheVariants.{One, Two}
-use Rattle.pc_ground.specs.Numbers.{nodes_of_tree}
-use Rattle.pc_ground.specs.Refutes.{all_signed, Branch, Runs, IsPartial, asserted}
-use Rattle.pc_ground.proofs.FlatRows.{subtree_size, size_pos}
-use Rattle.pc_ground.proofs.Turned.{size_turned}
+use Rattle.pc_ground.specs.{NodeForm.{IsNodeIn}, Stages.{numbers_of}, Tree.{Tree, either, turned, size_of}, declared.version.Version.{Version}}
+use Rattle.pc_ground.specs.{declared.version.Version.TheVariants.{One, Two}, Numbers.{nodes_of_tree}, Refutes.{all_signed, Branch, Runs, IsPartial, asserted}}
+use Rattle.pc_ground.proofs.{FlatRows.{subtree_size, size_pos}, Turned.{size_turned}}
 use Rattle.refutation.specs.Steps.{IsLeafIn}
 use Rattle.graph_text.specs.Graphs.{graph_lines}
 use Rattle.cert_check.specs.Certificates.{Question, header, tree_lines, IsGraphCertificate, IsCertificate, BeginsWell, in_header, in_graph, in_tree, whole}
-use Rattle.cert_check.specs.Proper.{IsAsked}
-use Rattle.cert_check.proofs.Firsts.{all_front}
-use Rattle.cert_check.proofs.StepNodes.{StepHas, runs_have, step_in}
+use Rattle.cert_check.{specs.Proper.{IsAsked}, proofs.{Firsts.{all_front}, StepNodes.{StepHas, runs_have, step_in}}}
 
 -- where it is a split, it is one of the tree
 abbrev pub IsWithin : {N : Type 0} → Tree N → Step N → Type 0

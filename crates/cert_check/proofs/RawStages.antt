@@ -1,22 +1,12 @@
 -- What a judge of certificates stands at, line by line as bytes.
-use Rattle.std.proofs.Common.{◌≡◌, ℕ, Bool, true, false, List, [], ◌∷◌, ◌++◌, map, refl, sym, ◌∙◌, ap, subst}
-use Rattle.std.specs.Prelude.{◌↔◌}
-use Rattle.pc_common.specs.World.{Node, Edge}
-use Rattle.pc_common.specs.Lines.{Line, Verdict as PlainVerdict, observable, unobservable, verdict, second, end, line_words}
-use Rattle.pc_common.specs.Steps.{Step}
+use Rattle.std.{proofs.Common.{◌≡◌, ℕ, Bool, true, false, List, [], ◌∷◌, ◌++◌, map, refl, sym, ◌∙◌, ap, subst}, specs.Prelude.{◌↔◌}}
+use Rattle.pc_common.specs.{World.{Node, Edge}, Lines.{Line, Verdict as PlainVerdict, observable, unobservable, verdict, second, end, line_words}, Steps.{Step}}
 use Rattle.pc_ground.specs.declared.version.Version.{Version}
 use Rattle.graph_text.specs.Graphs.{graph_lines}
 use Rattle.cert_check.specs.Certificates.{Question, header, tree_lines, IsCertificate, BeginsWell, in_header, in_graph, in_tree, whole}
-use Rattle.cert_check.specs.Verdicts.{plain_verdict}
-use Rattle.cert_check.specs.Stages.{StandsAt, GoesOn, IsStuck, HasAdvanced, is_end}
-use Rattle.cert_check.specs.RawLines.{RawFirst, RawWhole, RawStands}
-use Rattle.cert_check.specs.declared.stage.Stage.{Stage}
-use Rattle.cert_check.specs.declared.stage.Stage.TheVariants.{Start, Said, Graph, Tree, Ended}
-use Rattle.cert_check.proofs.Lasts.{last_map, map_snoc}
-use Rattle.cert_check.proofs.Firsts.{begins_before}
-use Rattle.cert_check.proofs.Raws.{raw_begins}
-use Rattle.cert_check.proofs.BodyBegins.{unequal, graph_ends}
-use Rattle.cert_check.proofs.TreeLines.{tree_end}
+use Rattle.cert_check.specs.{Verdicts.{plain_verdict}, Stages.{StandsAt, GoesOn, IsStuck, HasAdvanced, is_end}, RawLines.{RawFirst, RawWhole, RawStands}}
+use Rattle.cert_check.{specs.declared.stage.Stage.{Stage, TheVariants.{Start, Said, Graph, Tree, Ended}}, proofs.Lasts.{last_map, map_snoc}}
+use Rattle.cert_check.proofs.{Firsts.{begins_before}, Raws.{raw_begins}, BodyBegins.{unequal, graph_ends}, TreeLines.{tree_end}}
 
 -- the lines of each stage begin well
 stage_begins : (q : Question) (stage : Stage) (lines : List Line) → StandsAt q stage lines → BeginsWell q lines

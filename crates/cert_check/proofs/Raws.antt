@@ -1,20 +1,12 @@
 -- A text of lines as bytes is a text of a certificate's lines.
-use Rattle.std.proofs.Common.{◌≡◌, inl, ℕ, suc, arith, List, [], ◌∷◌, ◌++◌, map, refl, sym, ◌∙◌, ap, subst}
-use Rattle.std.specs.List.{All}
-use Rattle.std.proofs.lemmas.List.{append-nil}
-use Rattle.std.proofs.lemmas.List.Elements.{All-nil, All-cons, All-contains}
-use Rattle.pc_common.proofs.Elements.{contains_from_in}
-use Rattle.pc_common.specs.Lines.{Names, Line, Verdict, line_words}
+use Rattle.std.proofs.{Common.{◌≡◌, inl, ℕ, suc, arith, List, [], ◌∷◌, ◌++◌, map, refl, sym, ◌∙◌, ap, subst}, lemmas.List.{append-nil}}
+use Rattle.std.{proofs.lemmas.List.Elements.{All-nil, All-cons, All-contains}, specs.List.{All}}
+use Rattle.pc_common.{proofs.Elements.{contains_from_in}, specs.Lines.{Names, Line, Verdict, line_words}}
 use Rattle.pc_ground.specs.NodeForm.{AreReadable}
 use Rattle.line_judge.specs.Texts.{IsLine, text_of_lines, IsMadeOf, FirstLinesBegin, IsRefusedAt, HoldsRefused}
-use Rattle.graph_text.proofs.WholeGraphs.{joined_lines}
-use Rattle.graph_text.proofs.Spaces.{lacking_on_line}
-use Rattle.cert_check.specs.Certificates.{Question, BeginsWell, whole, IsCertificateText}
-use Rattle.cert_check.specs.Proper.{IsAsked}
-use Rattle.cert_check.specs.RawLines.{RawBegins, RawWhole, RawFirst}
-use Rattle.cert_check.proofs.Firsts.{begins_first}
-use Rattle.cert_check.proofs.Bytes.{words_lack}
-use Rattle.cert_check.proofs.Propers.{begins_proper, IsProper}
+use Rattle.graph_text.proofs.{WholeGraphs.{joined_lines}, Spaces.{lacking_on_line}}
+use Rattle.cert_check.specs.{Certificates.{Question, BeginsWell, whole, IsCertificateText}, Proper.{IsAsked}, RawLines.{RawBegins, RawWhole, RawFirst}}
+use Rattle.cert_check.proofs.{Firsts.{begins_first}, Bytes.{words_lack}, Propers.{begins_proper, IsProper}}
 
 pub raw_lines : (names : Names) → AreReadable names → (ls : List Line) → All (IsProper names) ls → All IsLine (map (line_words names) ls)
 raw_lines names readable [] all = All-nil IsLine

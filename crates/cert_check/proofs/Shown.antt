@@ -1,24 +1,14 @@
 -- What a shown graph is to a question, and what a front's question keeps.
-use Rattle.std.proofs.Common.{◌≡◌, ◌<◌, Bool, true, false, List, map, length, sym, ◌∙◌, ap, subst, arith}
-use Rattle.std.specs.Prelude.{All, ◌↔◌}
+use Rattle.std.{proofs.Common.{◌≡◌, ◌<◌, Bool, true, false, List, map, length, sym, ◌∙◌, ap, subst, arith}, specs.Prelude.{All, ◌↔◌}}
 use Rattle.pc_common.specs.World.{Node, Edge}
 use Rattle.pc_case.specs.MicroOps.{AreMicroOps}
 use Rattle.pc_syntax.specs.Observable.{IsNodeOf}
-use Rattle.pc_ground.specs.declared.front.Front.{Front}
-use Rattle.pc_ground.specs.declared.parts.Parts.{Parts}
-use Rattle.pc_ground.specs.NodeForm.{names_of, names_of_parts, IsNodeIn, AreReadable}
-use Rattle.pc_ground.specs.Stages.{plain_stage, plain_axioms, numbers_of}
-use Rattle.pc_ground.specs.GroundTree.{closed_ground_tree}
-use Rattle.pc_ground.specs.Tree.{size_of}
-use Rattle.pc_ground.proofs.TreeNodes.{nodes_are_of}
+use Rattle.pc_ground.specs.{declared.{front.Front.{Front}, parts.Parts.{Parts}}, NodeForm.{names_of, names_of_parts, IsNodeIn, AreReadable}}
+use Rattle.pc_ground.{specs.{Stages.{plain_stage, plain_axioms, numbers_of}, GroundTree.{closed_ground_tree}, Tree.{size_of}}, proofs.TreeNodes.{nodes_are_of}}
 use Rattle.pc_ground.proofs.FlatRows.{length_rows}
-use Rattle.graph_text.specs.declared.graph.Graph.{Graph}
-use Rattle.graph_text.specs.Graphs.{graph_nodes, graph_edges}
-use Rattle.graph_text.specs.OpenGraphs.{PlainGraph}
+use Rattle.graph_text.specs.{declared.graph.Graph.{Graph}, Graphs.{graph_nodes, graph_edges}, OpenGraphs.{PlainGraph}}
 use Rattle.graph_check.specs.Shown.{IsShownOf}
-use Rattle.cert_check.specs.Questions.{question_of, question_of_parts}
-use Rattle.cert_check.specs.Proper.{IsAsked}
-use Rattle.cert_check.proofs.Nexts.{HasWorld}
+use Rattle.cert_check.{specs.{Questions.{question_of, question_of_parts}, Proper.{IsAsked}}, proofs.Nexts.{HasWorld}}
 
 -- what a front is made of
 abbrev pub parts_of : Front → Parts

@@ -1,21 +1,13 @@
 -- The nodes that a refutation's steps name are nodes of its tree; and the text of steps and lines, part by part.
 use Rattle.std.proofs.Common.{◌≡◌, ℕ, zero, suc, ◌-◌, ◌⊎◌, inl, inr, Bool, true, false, List, [], ◌∷◌, ◌++◌, Option, map, refl, sym, ◌∙◌, ap, subst}
-use Rattle.std.specs.Prelude.{All, Contains, nat_lt, if◌then◌else◌}
+use Rattle.std.{proofs.lemmas.List.{Elements.{All-nil, All-cons}, Concat.{flat_map-append}}, specs.Prelude.{All, Contains, nat_lt, if◌then◌else◌}}
 use Rattle.std.specs.List.{flat_map}
-use Rattle.std.proofs.lemmas.List.Elements.{All-nil, All-cons}
-use Rattle.std.proofs.lemmas.List.Concat.{flat_map-append}
-use Rattle.pc_common.specs.World.{Node}
-use Rattle.pc_common.specs.Chain.{Leads}
-use Rattle.pc_common.specs.Steps.{Leaf, cycle, path, absent, false_step, Step, split, close}
+use Rattle.pc_common.specs.{World.{Node}, Chain.{Leads}, Steps.{Leaf, cycle, path, absent, false_step, Step, split, close}}
 use Rattle.pc_common.specs.Lines.{Names, Line, step as step_line, line_text, lines_text}
 use Rattle.pc_common.proofs.Elements.{In, in_from_contains, contains_from_in, in_front, in_back, in_either, from_flat}
-use Rattle.pc_ground.specs.declared.literal.Literal.{Literal}
-use Rattle.pc_ground.specs.declared.literal.Literal.TheVariants.{Node as a_node, Edge, NoNode, NoEdge}
-use Rattle.pc_ground.specs.Tree.{Tree, always, never, leaf, both, either, contrary, negation, turned, size_of}
-use Rattle.pc_ground.specs.declared.version.Version.{Version}
-use Rattle.pc_ground.specs.Literals.{Joins}
-use Rattle.pc_ground.specs.Numbers.{nodes_of_literal, nodes_of_tree}
-use Rattle.pc_ground.specs.NodeForm.{IsNodeIn}
+use Rattle.pc_ground.specs.declared.{literal.Literal.{Literal, TheVariants.{Node as a_node, Edge, NoNode, NoEdge}}, version.Version.{Version}}
+use Rattle.pc_ground.specs.{Tree.{Tree, always, never, leaf, both, either, contrary, negation, turned, size_of}, Literals.{Joins}}
+use Rattle.pc_ground.specs.{Numbers.{nodes_of_literal, nodes_of_tree}, NodeForm.{IsNodeIn}}
 use Rattle.pc_ground.specs.Refutes.{subtree_at, all_signed, part_at, Branch, literal_of, literals_of, IsContradiction, a_cycle, a_path, an_absence, Closes, a_contradiction, a_falsity, Runs, asserted, IsRefutation}
 use Rattle.refutation.specs.Steps.{step_text, IsLeafIn, IsStepIn}
 

@@ -1,29 +1,14 @@
 -- Steps that are read one after another from a certificate's text.
 use Rattle.std.proofs.Common.{◌≡◌, ◌≢◌, ◌<◌, ℕ, false, List, [], ◌∷◌, ◌++◌, map, length, refl, sym, ◌∙◌, ap, subst, arith, append_assoc}
-use Rattle.std.specs.Prelude.{All, codes, fold}
-use Rattle.std.proofs.lemmas.List.{append_cancel_left, append-nil}
-use Rattle.std.proofs.lemmas.List.Elements.{All-nil, All-cons, All-head, All-tail}
-use Rattle.pc_common.specs.World.{Node}
-use Rattle.pc_common.specs.Steps.{Step, split, close}
-use Rattle.pc_common.specs.Lines.{Names, Line, step, end, line_words, step_words, lines_text}
-use Rattle.pc_ground.specs.Tree.{Tree as GroundTree}
-use Rattle.pc_ground.specs.declared.version.Version.{Version}
-use Rattle.pc_ground.specs.declared.version.Version.TheVariants.{One as version_one}
+use Rattle.std.{proofs.lemmas.List.{append_cancel_left, append-nil, Elements.{All-nil, All-cons, All-head, All-tail}}, specs.Prelude.{All, codes, fold}}
+use Rattle.pc_common.specs.{World.{Node}, Steps.{Step, split, close}, Lines.{Names, Line, step, end, line_words, step_words, lines_text}}
+use Rattle.pc_ground.specs.{Tree.{Tree as GroundTree}, declared.version.Version.{Version, TheVariants.{One as version_one}}}
 use Rattle.pc_ground.specs.Refutes.{all_signed, asserted, left_branch, right_branch, Branch, Runs}
-use Rattle.line_judge.specs.Texts.{IsLine, IsFirstLine}
-use Rattle.line_judge.proofs.Cuts.{same_first}
-use Rattle.refutation.specs.Steps.{HasLine, IsStepIn, open_after, open_branches}
-use Rattle.refutation.specs.Reading.{IsLineOf}
+use Rattle.line_judge.{specs.Texts.{IsLine, IsFirstLine}, proofs.Cuts.{same_first}}
+use Rattle.refutation.specs.{Steps.{HasLine, IsStepIn, open_after, open_branches}, Reading.{IsLineOf}}
 use Rattle.graph_text.proofs.Spaces.{lacking_on_line}
-use Rattle.cert_check.specs.Certificates.{Question}
-use Rattle.cert_check.specs.Proper.{IsAsked}
-use Rattle.cert_check.specs.Ones.{IsTreeText}
-use Rattle.cert_check.specs.StepTexts.{header_text, IsReadable, IsAhead, HasRead}
-use Rattle.cert_check.proofs.Advances.{line_of_run}
-use Rattle.cert_check.proofs.Bytes.{words_lack}
-use Rattle.cert_check.proofs.OneTexts.{header_lines}
-use Rattle.cert_check.proofs.Words.{no_end_step}
-use Rattle.cert_check.proofs.Propers.{IsProper}
+use Rattle.cert_check.specs.{Certificates.{Question}, Proper.{IsAsked}, Ones.{IsTreeText}, StepTexts.{header_text, IsReadable, IsAhead, HasRead}}
+use Rattle.cert_check.proofs.{Advances.{line_of_run}, Bytes.{words_lack}, OneTexts.{header_lines}, Words.{no_end_step}, Propers.{IsProper}}
 
 proper_of : (names : Names) (s : Step Node) → HasLine s → IsStepIn names s → IsProper names (step s)
 proper_of names (split n p) has inside = has

@@ -1,18 +1,10 @@
 -- What a line that was read makes of the open branches.
-use Rattle.std.proofs.Common.{◌≡◌, ℕ, Bool, true, false, List, [], ◌∷◌, sym, ◌∙◌, subst}
-use Rattle.std.specs.Prelude.{Result, Ok}
-use Rattle.pc_common.specs.World.{Node}
-use Rattle.pc_common.specs.Steps.{Step}
-use Rattle.pc_common.specs.Lines.{Names}
-use Rattle.pc_ground.specs.declared.line_fault.LineFault.{LineFault}
-use Rattle.pc_ground.specs.Tree.{Tree}
-use Rattle.pc_ground.specs.declared.version.Version.{Version}
-use Rattle.pc_ground.specs.Refutes.{Branch, Runs}
-use Rattle.refutation.specs.Reading.{IsLineOf, head_of, nodes_of}
-use Rattle.refutation.specs.declared.step_head.StepHead.{StepHead}
+use Rattle.std.{proofs.Common.{◌≡◌, ℕ, Bool, true, false, List, [], ◌∷◌, sym, ◌∙◌, subst}, specs.Prelude.{Result, Ok}}
+use Rattle.pc_common.specs.{World.{Node}, Steps.{Step}, Lines.{Names}}
+use Rattle.pc_ground.specs.{declared.{line_fault.LineFault.{LineFault}, version.Version.{Version}}, Tree.{Tree}, Refutes.{Branch, Runs}}
+use Rattle.refutation.specs.{Reading.{IsLineOf, head_of, nodes_of}, declared.step_head.StepHead.{StepHead}}
 use Rattle.tree_check.specs.OpenBranches.{OpenBranches, HasStepped}
-use Rattle.cert_check.specs.Stages.{StepsOn}
-use Rattle.cert_check.proofs.Words.{same_step}
+use Rattle.cert_check.{specs.Stages.{StepsOn}, proofs.Words.{same_step}}
 
 -- the line is that of one step, so what the step does the line does
 pub line_steps : (names : Names) (v : Version) (t : Tree Node) (opens : List Branch) (text : List ℕ) (s : Step Node) → IsLineOf names text s

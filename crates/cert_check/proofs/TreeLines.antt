@@ -1,12 +1,8 @@
 -- The lines of a refutation of either version: of no two refutations, and what the last one is.
 use Rattle.std.proofs.Common.{◌≡◌, List, [], ◌∷◌, ◌++◌, map, refl, sym, ◌∙◌, ap}
-use Rattle.pc_common.specs.World.{Node}
-use Rattle.pc_common.specs.Steps.{Step}
-use Rattle.pc_common.specs.Lines.{Line, version_two, step, end}
-use Rattle.pc_ground.specs.declared.version.Version.{Version}
-use Rattle.pc_ground.specs.declared.version.Version.TheVariants.{One, Two}
-use Rattle.cert_check.specs.Certificates.{tree_lines}
-use Rattle.cert_check.proofs.Lasts.{last_map, map_same, map_snoc, snoc_some}
+use Rattle.pc_common.specs.{World.{Node}, Steps.{Step}, Lines.{Line, version_two, step, end}}
+use Rattle.pc_ground.specs.declared.version.Version.{Version, TheVariants.{One, Two}}
+use Rattle.cert_check.{specs.Certificates.{tree_lines}, proofs.Lasts.{last_map, map_same, map_snoc, snoc_some}}
 
 same_step_line : (r s : Step Node) → step r ≡ step s → r ≡ s
 same_step_line r s e = cc

@@ -2,25 +2,12 @@
 use Rattle.std.proofs.Common.{◌≡◌, ℕ, zero, suc, ◌≤◌, ◌<◌, true, false, List, ◌∷◌, map, length, refl, sym, ◌∙◌, ap, subst, arith}
 use Rattle.pc_common.specs.Lines.{Line, Verdict as PlainVerdict, observable, unobservable, line_words, verdict_text}
 use Rattle.pc_common.specs.declared.limits.TheConstants.{MAX_CERTIFICATE}
-use Rattle.line_judge.specs.Texts.{IsMadeOf}
-use Rattle.line_judge.specs.JudgedLines.{IsWhole}
-use Rattle.line_judge.specs.Feeds.{IsRefusedBy}
-use Rattle.cert_check.specs.Certificates.{Question, IsCertificate, IsCertificateText}
-use Rattle.cert_check.specs.Verified.{Verified, seen, unseen, too_long, refused}
-use Rattle.cert_check.specs.Proper.{IsAsked}
-use Rattle.cert_check.specs.Questions.{question_of}
-use Rattle.cert_check.specs.Ends.{checked_of}
-use Rattle.cert_check.specs.Stages.{is_end}
-use Rattle.cert_check.specs.RawLines.{RawWhole, RawStands}
-use Rattle.cert_check.specs.Fed.{judge_view}
-use Rattle.cert_check.specs.declared.header.Verdict.TheVariants.{Observable, Unobservable}
-use Rattle.cert_check.specs.declared.checked.Checked.TheVariants.{Refused}
-use Rattle.cert_check.specs.declared.stage.Stage.{Stage}
-use Rattle.cert_check.specs.declared.stage.Stage.TheVariants.{Start, Said, Graph, Tree, Ended}
-use Rattle.cert_check.specs.declared.judge.CertificateJudge.{CertificateJudge}
-use Rattle.cert_check.proofs.Raws.{to_certificate, from_certificate, to_refused}
-use Rattle.cert_check.proofs.RawStages.{raw_done}
-use Rattle.cert_check.proofs.Words.{one_verdict}
+use Rattle.line_judge.specs.{Texts.{IsMadeOf}, JudgedLines.{IsWhole}, Feeds.{IsRefusedBy}}
+use Rattle.cert_check.specs.{Certificates.{Question, IsCertificate, IsCertificateText}, Verified.{Verified, seen, unseen, too_long, refused}, Proper.{IsAsked}}
+use Rattle.cert_check.specs.{Questions.{question_of}, Ends.{checked_of}, Stages.{is_end}, RawLines.{RawWhole, RawStands}, Fed.{judge_view}}
+use Rattle.cert_check.specs.declared.{header.Verdict.TheVariants.{Observable, Unobservable}, checked.Checked.TheVariants.{Refused}, stage.Stage.{Stage}}
+use Rattle.cert_check.specs.declared.{stage.Stage.TheVariants.{Start, Said, Graph, Tree, Ended}, judge.CertificateJudge.{CertificateJudge}}
+use Rattle.cert_check.proofs.{Raws.{to_certificate, from_certificate, to_refused}, RawStages.{raw_done}, Words.{one_verdict}}
 
 -- a certificate's first line as bytes is its verdict
 first_is : (q : Question) (v : PlainVerdict) (ls : List Line) → IsCertificate q v ls → (rest : List (List ℕ))

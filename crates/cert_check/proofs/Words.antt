@@ -1,8 +1,6 @@
 -- Which lines have one text: by their first word.
-use Rattle.std.proofs.Common.{◌≡◌, ℕ, List, [], ◌∷◌, ◌++◌, refl, sym, ◌∙◌, ap, Bool, true, false, ◌==◌}
-use Rattle.std.specs.Prelude.{codes}
-use Rattle.pc_common.specs.World.{Node}
-use Rattle.pc_common.specs.Steps.{Leaf, cycle, path, absent, false_step, Step, split, close}
+use Rattle.std.{proofs.Common.{◌≡◌, ℕ, List, [], ◌∷◌, ◌++◌, refl, sym, ◌∙◌, ap, Bool, true, false, ◌==◌}, specs.Prelude.{codes}}
+use Rattle.pc_common.specs.{World.{Node}, Steps.{Leaf, cycle, path, absent, false_step, Step, split, close}}
 use Rattle.pc_common.specs.Lines.{Names, Line, Verdict, observable, unobservable, node, edge, step, end, line_words, verdict_text, verdict, second, version_two}
 use Rattle.pc_ground.specs.NodeForm.{IsNodeIn, AreReadable}
 use Rattle.refutation.specs.Reading.{leaf_head, leaf_nodes, head_of, nodes_of}

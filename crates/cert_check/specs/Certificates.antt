@@ -1,17 +1,10 @@
 -- What a certificate is: a graph whose world satisfies, or a refutation of the ground tree. And what one may begin
 -- with.
 use Rattle.std.specs.Prelude.{◌≡◌, Bool, List, [], ◌∷◌, ◌++◌, map, All, IsTrue, ℕ}
-use Rattle.pc_common.specs.Case.{Expectation}
-use Rattle.pc_common.specs.World.{Node, Edge, World}
-use Rattle.pc_common.specs.Generated.{HasEnds, IsGenerated}
-use Rattle.pc_common.specs.Steps.{Step}
+use Rattle.pc_common.specs.{Case.{Expectation}, World.{Node, Edge, World}, Generated.{HasEnds, IsGenerated}, Steps.{Step}}
 use Rattle.pc_common.specs.Lines.{Names, Line, Verdict, observable, unobservable, verdict, second, version_two, step, end, lines_text}
 use Rattle.pc_syntax.specs.Observable.{IsWorldOf}
-use Rattle.pc_ground.specs.NodeForm.{IsNodeIn}
-use Rattle.pc_ground.specs.Stages.{numbers_of}
-use Rattle.pc_ground.specs.Tree.{Tree}
-use Rattle.pc_ground.specs.declared.version.Version.{Version}
-use Rattle.pc_ground.specs.declared.version.Version.TheVariants.{One, Two}
+use Rattle.pc_ground.specs.{NodeForm.{IsNodeIn}, Stages.{numbers_of}, Tree.{Tree}, declared.version.Version.{Version, TheVariants.{One, Two}}}
 use Rattle.pc_ground.specs.Refutes.{Branch, IsPartial, IsRefutation}
 use Rattle.graph_text.specs.Graphs.{graph_lines}
 

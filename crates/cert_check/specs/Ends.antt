@@ -1,8 +1,6 @@
 -- What a stage counts as at the text's end.
-use Rattle.cert_check.specs.declared.checked.Checked.{Checked}
-use Rattle.cert_check.specs.declared.checked.Checked.TheVariants.{Observable, Unobservable, Refused}
-use Rattle.cert_check.specs.declared.header.Verdict.TheVariants.{Observable as seen, Unobservable as unseen}
-use Rattle.cert_check.specs.declared.stage.Stage.{Stage}
+use Rattle.cert_check.specs.declared.checked.Checked.{Checked, TheVariants.{Observable, Unobservable, Refused}}
+use Rattle.cert_check.specs.declared.{header.Verdict.TheVariants.{Observable as seen, Unobservable as unseen}, stage.Stage.{Stage}}
 use Rattle.cert_check.specs.declared.stage.Stage.TheVariants.{Start, Said, Graph, Tree, Ended}
 
 -- the verdict of a whole certificate; any stage before that counts as refused

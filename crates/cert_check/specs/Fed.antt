@@ -1,16 +1,10 @@
 -- What a checker is after a text.
-use Rattle.std.specs.Prelude.{◌≡◌, ◌<◌, ◌⊎◌, ◌++◌, ℕ, List, length}
+use Rattle.std.specs.Prelude.{◌≡◌, ℕ, List}
 use Rattle.pc_common.specs.declared.limits.TheConstants.{MAX_CERTIFICATE}
 use Rattle.pc_ground.specs.NodeForm.{names_of}
-use Rattle.line_judge.specs.Judges.{JudgeView}
-use Rattle.line_judge.specs.Feeds.{HasTaken}
-use Rattle.line_judge.specs.Texts.{HoldsRefused}
-use Rattle.cert_check.specs.Certificates.{Question}
-use Rattle.cert_check.specs.Proper.{IsAsked}
-use Rattle.cert_check.specs.Questions.{question_of}
-use Rattle.cert_check.specs.RawLines.{RawFirst, RawWhole, RawStands, RawBegins}
-use Rattle.cert_check.specs.declared.judge.CertificateJudge.{CertificateJudge}
-use Rattle.cert_check.specs.declared.checker.Checker.{Checker}
+use Rattle.line_judge.specs.{Judges.{JudgeView}, Feeds.{HasTaken}}
+use Rattle.cert_check.specs.{Certificates.{Question}, Proper.{IsAsked}, Questions.{question_of}, RawLines.{RawFirst, RawWhole, RawStands}}
+use Rattle.cert_check.specs.declared.{judge.CertificateJudge.{CertificateJudge}, checker.Checker.{Checker}}
 
 -- what a judge of certificates means
 abbrev pub judge_view : CertificateJudge → JudgeView
@@ -27,7 +21,3 @@ pub record IsFed (c : Checker) (q : Question) (text : List ℕ) : Type 0 where
   pub asks : question_of start.front.now ≡ q
   pub front : question_of c.front.now ≡ q
   pub taken : HasTaken judge_view start MAX_CERTIFICATE text c.feed
-
--- the next piece is only counted: the text is too long with it, or has a refused line
-abbrev pub IsSettled : Question → List ℕ → List ℕ → Type 0
-IsSettled q text piece = (MAX_CERTIFICATE < length (text ++ piece)) ⊎ HoldsRefused (RawBegins q) text

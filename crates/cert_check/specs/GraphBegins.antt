@@ -1,7 +1,6 @@
 -- Texts and lines that do not say unobservable first.
 use Rattle.std.specs.Prelude.{◌≡◌, ℕ, List, ◌∷◌, ◌++◌, codes}
-use Rattle.cert_check.specs.Certificates.{Question}
-use Rattle.cert_check.specs.RawLines.{RawFirst, RawWhole}
+use Rattle.cert_check.specs.{Certificates.{Question}, RawLines.{RawFirst, RawWhole}}
 
 -- the first line says unobservable, and its LF is there
 abbrev pub SaysUnobservable : List ℕ → Type 0

@@ -2,15 +2,9 @@
 use Rattle.std.specs.Prelude.{◌≡◌, ℕ, List}
 use Rattle.pc_common.specs.declared.limits.TheConstants.{MAX_CERTIFICATE}
 use Rattle.pc_ground.specs.NodeForm.{names_of_parts, AreReadable}
-use Rattle.line_judge.specs.Judges.{JudgeView}
-use Rattle.line_judge.specs.Feeds.{HasTaken}
-use Rattle.cert_check.specs.Certificates.{Question}
-use Rattle.cert_check.specs.Questions.{question_of_parts}
-use Rattle.cert_check.specs.RawLines.{RawStands}
-use Rattle.cert_check.specs.GraphStages.{as_stage}
-use Rattle.cert_check.specs.GraphBegins.{GraphFirst, GraphWhole}
-use Rattle.cert_check.specs.declared.graph_judge.GraphJudge.{GraphJudge}
-use Rattle.cert_check.specs.declared.graph_checker.GraphChecker.{GraphChecker}
+use Rattle.line_judge.specs.{Judges.{JudgeView}, Feeds.{HasTaken}}
+use Rattle.cert_check.specs.{Certificates.{Question}, Questions.{question_of_parts}, RawLines.{RawStands}, GraphStages.{as_stage}}
+use Rattle.cert_check.specs.{GraphBegins.{GraphFirst, GraphWhole}, declared.{graph_judge.GraphJudge.{GraphJudge}, graph_checker.GraphChecker.{GraphChecker}}}
 
 -- what a judge of certificates that are no refutations means
 abbrev pub graph_judge_view : GraphJudge → JudgeView

@@ -2,12 +2,8 @@
 -- makes of it.
 use Rattle.std.specs.Prelude.{◌≡◌, ℕ, List, [], codes, Bool, true, false, Option, Some, None}
 use Rattle.pc_common.specs.Lines.{Line}
-use Rattle.cert_check.specs.Certificates.{Question}
-use Rattle.cert_check.specs.Stages.{GoesOn, IsStuck}
-use Rattle.cert_check.specs.declared.header.Verdict.TheVariants.{Observable}
-use Rattle.cert_check.specs.declared.stage.Stage.{Stage}
-use Rattle.cert_check.specs.declared.stage.Stage.TheVariants.{Start, Said, Graph, Ended}
-use Rattle.cert_check.specs.declared.graph_stage.GraphStage.{GraphStage}
+use Rattle.cert_check.specs.{Certificates.{Question}, Stages.{GoesOn, IsStuck}, declared.{header.Verdict.TheVariants.{Observable}, stage.Stage.{Stage}}}
+use Rattle.cert_check.specs.declared.{stage.Stage.TheVariants.{Start, Said, Graph, Ended}, graph_stage.GraphStage.{GraphStage}}
 use Rattle.cert_check.specs.declared.graph_stage.GraphStage.TheVariants.{Start as at_start, Said as said_seen, Graph as graph_so_far, Ended as ended_seen}
 
 abbrev pub as_stage : GraphStage → Stage

@@ -1,15 +1,9 @@
 -- Laws of the judges of certificates: what they took, a first part of what begins well, and whole lines begin well.
-use Rattle.std.specs.Prelude.{ℕ, List, [], ◌++◌, ◌≡◌, ◌∷◌, map, codes}
-use Rattle.std.proofs.Common.{sym, ◌∙◌, ap}
-use Rattle.std.proofs.lemmas.List.{append-nil, append_assoc}
+use Rattle.std.{specs.Prelude.{ℕ, List, [], ◌++◌, ◌≡◌, ◌∷◌, map, codes}, proofs.{Common.{sym, ◌∙◌, ap}, lemmas.List.{append-nil, append_assoc}}}
 use Rattle.pc_common.specs.Lines.{Line, line_words}
-use Rattle.cert_check.specs.Certificates.{Question, whole}
-use Rattle.cert_check.specs.declared.stage.Stage.{Stage}
-use Rattle.cert_check.specs.RawLines.{RawWhole, RawFirst, RawStands}
-use Rattle.cert_check.specs.Stages.{StandsAt}
-use Rattle.cert_check.specs.GraphStages.{as_stage}
-use Rattle.cert_check.specs.declared.graph_stage.GraphStage.{GraphStage}
+use Rattle.cert_check.specs.{Certificates.{Question, whole}, declared.{stage.Stage.{Stage}, graph_stage.GraphStage.{GraphStage}}}
 use Rattle.cert_check.specs.declared.graph_stage.GraphStage.TheVariants.{Start as at_start, Said as said_seen, Graph as graph_so_far, Ended as ended_seen}
+use Rattle.cert_check.specs.{RawLines.{RawWhole, RawFirst, RawStands}, Stages.{StandsAt}, GraphStages.{as_stage}}
 use Rattle.cert_check.specs.GraphBegins.{IsUnobservableFirst, GraphFirst, GraphWhole}
 
 -- three laws of a judge

@@ -1,18 +1,12 @@
 -- Certificates by the rules of version 1 alone, and what a text is by them.
 use Rattle.std.specs.Prelude.{◌≡◌, ◌≤◌, ◌<◌, ℕ, List, ◌++◌, map, length, All}
-use Rattle.pc_common.specs.declared.limits.TheConstants.{MAX_CERTIFICATE}
-use Rattle.pc_common.specs.World.{Node, Edge}
-use Rattle.pc_common.specs.Generated.{HasEnds}
-use Rattle.pc_common.specs.Steps.{Step}
+use Rattle.pc_common.specs.{declared.limits.TheConstants.{MAX_CERTIFICATE}, World.{Node, Edge}, Generated.{HasEnds}, Steps.{Step}}
 use Rattle.pc_common.specs.Lines.{Line, Verdict, observable, unobservable, line_words, lines_text, step}
-use Rattle.pc_ground.specs.NodeForm.{IsNodeIn}
-use Rattle.pc_ground.specs.declared.version.Version.TheVariants.{One as version_one}
-use Rattle.pc_ground.specs.Refutes.{Branch, IsPartial, IsRefutation}
+use Rattle.pc_ground.specs.{NodeForm.{IsNodeIn}, declared.version.Version.TheVariants.{One as version_one}, Refutes.{Branch, IsPartial, IsRefutation}}
 use Rattle.graph_text.specs.Graphs.{graph_lines}
 use Rattle.line_judge.specs.Texts.{IsRefusedAt}
 use Rattle.cert_check.specs.Certificates.{Question, header, certificate_lines, IsGraphCertificate, IsTreeCertificate, IsCertificateText}
-use Rattle.cert_check.specs.declared.one.One.{One}
-use Rattle.cert_check.specs.declared.one.One.TheVariants.{Graph, Tree, Refused}
+use Rattle.cert_check.specs.declared.one.One.{One, TheVariants.{Graph, Tree, Refused}}
 
 -- the lines are a certificate of this verdict; a refutation is of version 1
 abbrev pub IsCertificateOne : Question → Verdict → List Line → Type 0

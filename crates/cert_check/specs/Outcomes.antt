@@ -1,12 +1,9 @@
 -- What the answer to a text says of the outcome.
 use Rattle.std.specs.Prelude.{Bool, IsTrue, map, ⊤}
 use Rattle.pc_common.specs.World.{Node, World, IsWorld}
-use Rattle.pc_syntax.specs.Closed.{closed_satisfies}
-use Rattle.pc_syntax.specs.Observable.{IsObservable}
-use Rattle.pc_ground.specs.declared.front.Front.{Front}
-use Rattle.pc_ground.specs.Stages.{plain_stage, plain_axioms, numbers_of}
-use Rattle.cert_check.specs.declared.checked.Checked.{Checked}
-use Rattle.cert_check.specs.declared.checked.Checked.TheVariants.{Observable, Unobservable, Refused}
+use Rattle.pc_syntax.specs.{Closed.{closed_satisfies}, Observable.{IsObservable}}
+use Rattle.pc_ground.specs.{declared.front.Front.{Front}, Stages.{plain_stage, plain_axioms, numbers_of}}
+use Rattle.cert_check.specs.declared.checked.Checked.{Checked, TheVariants.{Observable, Unobservable, Refused}}
 
 -- every axiom of the front is true in the world
 abbrev pub satisfied_by : Front → World Node → Bool

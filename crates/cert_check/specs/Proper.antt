@@ -1,9 +1,7 @@
 -- Lines that can be written and read again, and what a question's names and tree keep.
 use Rattle.std.specs.Prelude.{◌<◌, Contains}
 use Rattle.pc_common.specs.World.{Node}
-use Rattle.pc_ground.specs.NodeForm.{IsNodeIn, AreReadable}
-use Rattle.pc_ground.specs.Tree.{size_of}
-use Rattle.pc_ground.specs.Numbers.{nodes_of_tree}
+use Rattle.pc_ground.specs.{NodeForm.{IsNodeIn, AreReadable}, Tree.{size_of}, Numbers.{nodes_of_tree}}
 use Rattle.cert_check.specs.Certificates.{Question}
 
 -- no two nodes have one text, each node of the tree can be written, and the tree's positions have at most 64 bits

@@ -1,9 +1,6 @@
 -- The question that a front asks, and that its parts ask.
 use Rattle.pc_syntax.specs.Closed.{closed_satisfies}
-use Rattle.pc_ground.specs.declared.front.Front.{Front}
-use Rattle.pc_ground.specs.declared.parts.Parts.{Parts}
-use Rattle.pc_ground.specs.NodeForm.{names_of, names_of_parts}
-use Rattle.pc_ground.specs.GroundTree.{closed_ground_tree}
+use Rattle.pc_ground.specs.{declared.{front.Front.{Front}, parts.Parts.{Parts}}, NodeForm.{names_of, names_of_parts}, GroundTree.{closed_ground_tree}}
 use Rattle.pc_ground.specs.Stages.{plain_axioms}
 use Rattle.cert_check.specs.Certificates.{Question}
 

@@ -1,9 +1,7 @@
 -- The lines of a certificate as bytes.
 use Rattle.std.specs.Prelude.{ℕ, ◌≡◌, List, ◌++◌, map}
 use Rattle.pc_common.specs.Lines.{Line, Verdict, line_words}
-use Rattle.cert_check.specs.Certificates.{Question, IsCertificate, BeginsWell}
-use Rattle.cert_check.specs.Stages.{StandsAt}
-use Rattle.cert_check.specs.declared.stage.Stage.{Stage}
+use Rattle.cert_check.specs.{Certificates.{Question, IsCertificate, BeginsWell}, Stages.{StandsAt}, declared.stage.Stage.{Stage}}
 
 -- they begin a certificate well
 pub record RawBegins (q : Question) (raws : List (List ℕ)) : Type 0 where

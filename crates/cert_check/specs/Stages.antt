@@ -1,23 +1,13 @@
 -- What each stage of reading a certificate says of the lines so far, and what the next line makes of it.
 use Rattle.std.specs.Prelude.{◌≡◌, ℕ, List, [], ◌∷◌, ◌++◌, All, Bool, true, false, Option, Some, None}
-use Rattle.pc_common.specs.World.{Node}
-use Rattle.pc_common.specs.Generated.{HasEnds}
-use Rattle.pc_common.specs.Steps.{Step}
-use Rattle.pc_common.specs.Lines.{Names, Line, observable, unobservable, verdict, line_words}
-use Rattle.pc_ground.specs.NodeForm.{IsNodeIn}
-use Rattle.pc_ground.specs.Tree.{Tree as GroundTree}
-use Rattle.pc_ground.specs.declared.version.Version.{Version}
-use Rattle.pc_ground.specs.declared.version.Version.TheVariants.{One}
+use Rattle.pc_common.specs.{World.{Node}, Generated.{HasEnds}, Steps.{Step}, Lines.{Names, Line, observable, unobservable, verdict, line_words}}
+use Rattle.pc_ground.specs.{NodeForm.{IsNodeIn}, Tree.{Tree as GroundTree}, declared.version.Version.{Version, TheVariants.{One}}}
 use Rattle.pc_ground.specs.Refutes.{Branch, IsPartial, Runs}
-use Rattle.graph_text.specs.Graphs.{graph_lines}
-use Rattle.graph_text.specs.OpenGraphs.{PlainGraph}
+use Rattle.graph_text.specs.{Graphs.{graph_lines}, OpenGraphs.{PlainGraph}}
 use Rattle.refutation.specs.Reading.{IsLineOf}
 use Rattle.tree_check.specs.OpenBranches.{OpenBranches, Stands}
-use Rattle.cert_check.specs.Certificates.{Question, header, tree_lines, IsCertificate, BeginsWell}
-use Rattle.cert_check.specs.Verdicts.{plain_verdict}
-use Rattle.cert_check.specs.declared.open_tree.OpenTree.{OpenTree}
-use Rattle.cert_check.specs.declared.stage.Stage.{Stage}
-use Rattle.cert_check.specs.declared.stage.Stage.TheVariants.{Start, Said, Graph, Tree, Ended}
+use Rattle.cert_check.specs.{Certificates.{Question, header, tree_lines, IsCertificate, BeginsWell}, Verdicts.{plain_verdict}}
+use Rattle.cert_check.specs.declared.{open_tree.OpenTree.{OpenTree}, stage.Stage.{Stage, TheVariants.{Start, Said, Graph, Tree, Ended}}}
 
 -- a header and the lines of this graph
 pub record IsGraphSoFar (q : Question) (g : PlainGraph) (lines : List Line) : Type 0 where

@@ -1,12 +1,8 @@
 -- Steps that are read one after another from a text.
 use Rattle.std.specs.Prelude.{◌≡◌, List, [], ◌∷◌, ◌++◌, ℕ, All, map, length, codes}
-use Rattle.pc_common.specs.Case.{Expectation}
-use Rattle.pc_common.specs.World.{Node}
-use Rattle.pc_common.specs.Steps.{Step}
+use Rattle.pc_common.specs.{Case.{Expectation}, World.{Node}, Steps.{Step}}
 use Rattle.pc_common.specs.Lines.{Names, unobservable, verdict_text, second_text, step, end, step_words, lines_text}
-use Rattle.pc_ground.specs.Tree.{Tree}
-use Rattle.pc_ground.specs.declared.version.Version.TheVariants.{One as version_one}
-use Rattle.pc_ground.specs.Refutes.{Branch, Runs}
+use Rattle.pc_ground.specs.{Tree.{Tree}, declared.version.Version.TheVariants.{One as version_one}, Refutes.{Branch, Runs}}
 use Rattle.line_judge.specs.Texts.{IsLine}
 use Rattle.refutation.specs.Steps.{HasLine, IsStepIn, open_branches}
 

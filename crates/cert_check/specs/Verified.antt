@@ -1,11 +1,8 @@
 -- What a text is to a question: its certificate, or a text that is refused at a line.
 use Rattle.std.specs.Prelude.{ℕ, ◌<◌, ◌≤◌, List, length}
-use Rattle.pc_common.specs.declared.limits.TheConstants.{MAX_CERTIFICATE}
-use Rattle.pc_common.specs.Lines.{Verdict, observable, unobservable}
+use Rattle.pc_common.specs.{declared.limits.TheConstants.{MAX_CERTIFICATE}, Lines.{Verdict, observable, unobservable}}
 use Rattle.line_judge.specs.Texts.{IsRefusedAt}
-use Rattle.cert_check.specs.Certificates.{Question, IsCertificateText}
-use Rattle.cert_check.specs.RawLines.{RawBegins, RawWhole}
-use Rattle.cert_check.specs.declared.checked.Checked.{Checked}
+use Rattle.cert_check.specs.{Certificates.{Question, IsCertificateText}, RawLines.{RawBegins, RawWhole}, declared.checked.Checked.{Checked}}
 use Rattle.cert_check.specs.declared.checked.Checked.TheVariants.{Observable, Unobservable, Refused}
 
 -- the verdict whose certificate the text is; or, where it is none's, the first line with which it doesn't begin well

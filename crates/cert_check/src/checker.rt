@@ -4,7 +4,10 @@ ghost use Rattle.cert_check.specs.Certificates.{Question};
 ghost use Rattle.cert_check.specs.Questions.{question_of};
 ghost use Rattle.cert_check.specs.Verified.{Verified};
 ghost use Rattle.cert_check.specs.Outcomes.{SaysOutcome};
-ghost use Rattle.cert_check.specs.Fed.{IsFed, IsSettled};
+ghost use Rattle.pc_common.specs.declared.limits.TheConstants.{MAX_CERTIFICATE};
+ghost use Rattle.line_judge.specs.Feeds.{IsDecided};
+ghost use Rattle.cert_check.specs.RawLines.{RawBegins};
+ghost use Rattle.cert_check.specs.Fed.{IsFed};
 
 use super::checked::Checked;
 use super::judge::CertificateJudge;
@@ -41,7 +44,7 @@ impl<'a> Checker<'a> {
         ensures took { (q : Question) (text : List ℕ) → IsFed self.entry q text
             → IfOk result (λ c. IsFed c q (text ++ piece.now)) }
         ensures settled { (q : Question) (text : List ℕ) → IsFed self.entry q text
-            → IsSettled q text piece.now → IsOk result }
+            → IsDecided (RawBegins q) MAX_CERTIFICATE text (text ++ piece.now) → IsOk result }
     {
         Ok(Checker {
             front: self.front,

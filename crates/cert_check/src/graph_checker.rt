@@ -3,7 +3,9 @@ ghost use Rattle.cert_check.specs.Certificates.{Question};
 ghost use Rattle.cert_check.specs.Questions.{question_of_parts};
 ghost use Rattle.cert_check.specs.Verified.{Verified};
 ghost use Rattle.cert_check.specs.GraphBegins.{SaysUnobservable};
-ghost use Rattle.cert_check.specs.Fed.{IsSettled};
+ghost use Rattle.pc_common.specs.declared.limits.TheConstants.{MAX_CERTIFICATE};
+ghost use Rattle.line_judge.specs.Feeds.{IsDecided};
+ghost use Rattle.cert_check.specs.RawLines.{RawBegins};
 ghost use Rattle.cert_check.specs.GraphFed.{IsGraphFed};
 
 use super::checked::Checked;
@@ -38,7 +40,7 @@ impl<'a> GraphChecker<'a> {
         ensures took { (q : Question) (text : List ℕ) → IsGraphFed self.entry q text
             → IfOk result (λ c. IsGraphFed c q (text ++ piece.now)) }
         ensures settled { (q : Question) (text : List ℕ) → IsGraphFed self.entry q text
-            → IsSettled q text piece.now → IsOk result }
+            → IsDecided (RawBegins q) MAX_CERTIFICATE text (text ++ piece.now) → IsOk result }
     {
         Ok(GraphChecker {
             feed: self.feed.feed(piece)?,

@@ -1,22 +1,12 @@
 -- The outcome of `check`: what its answer says, and that it is due.
 use Rattle.std.proofs.Common.{◌≡◌, ℕ, List, subst}
-use Rattle.pc_common.specs.Outside.{FilesView}
-use Rattle.pc_common.specs.Case.{Case}
-use Rattle.pc_common.specs.declared.fault.InputFault.{InputFault}
-use Rattle.pc_common.specs.declared.status.Status.{Status}
+use Rattle.pc_common.specs.{Outside.{FilesView}, Case.{Case}, declared.{fault.InputFault.{InputFault}, status.Status.{Status}}}
 use Rattle.pc_syntax.specs.Written.{WrittenModel}
-use Rattle.pc_ground.specs.declared.front.Front.{Front}
-use Rattle.pc_ground.specs.declared.version.Version.{Version}
-use Rattle.command_base.specs.Inputs.{Inputs, Contents, Says}
-use Rattle.command_base.specs.SecondFiles.{IsForm}
-use Rattle.command_base.specs.VerdictStatus.{IsTrueStatus}
-use Rattle.command_base.specs.Outcomes.{HasFront, IsFilesOutcome}
+use Rattle.pc_ground.specs.declared.{front.Front.{Front}, version.Version.{Version}}
+use Rattle.command_base.specs.{Inputs.{Inputs, Contents, Says}, SecondFiles.{IsForm}, VerdictStatus.{IsTrueStatus}, Outcomes.{HasFront, IsFilesOutcome}}
 use Rattle.command_base.proofs.AnsweredFiles.{found_outcome, found_of, due_of_files}
-use Rattle.verdicts.specs.declared.verdict.Verdict.{Verdict}
-use Rattle.verdicts.specs.Verdicts.{status_of, verdict_text, IsVerdict}
-use Rattle.verdicts.specs.Certified.{IsCertified}
-use Rattle.verdicts.proofs.VerdictTexts.{verdict_certified}
-use Rattle.verdicts.proofs.CertifiedTruth.{certified_true, certified_due, no_usage_of, no_read_fault_of}
+use Rattle.verdicts.specs.{declared.verdict.Verdict.{Verdict}, Verdicts.{status_of, verdict_text, IsVerdict}, Certified.{IsCertified}}
+use Rattle.verdicts.proofs.{VerdictTexts.{verdict_certified}, CertifiedTruth.{certified_true, certified_due, no_usage_of, no_read_fault_of}}
 use Rattle.check_command.specs.CheckAnswers.{AnswersCheck, IsCheckDue}
 
 module _ {F : Type 0} {view : F → FilesView} {old new : F}

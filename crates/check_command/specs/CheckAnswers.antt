@@ -1,20 +1,10 @@
 -- The answer of `check` to two files, and the status that is due.
 use Rattle.std.specs.Prelude.{ℕ, List, Result}
-use Rattle.pc_common.specs.Outside.{FilesView}
-use Rattle.pc_common.specs.Case.{Case}
-use Rattle.pc_common.specs.declared.fault.InputFault.{InputFault}
-use Rattle.pc_common.specs.declared.status.Status.{Status}
+use Rattle.pc_common.specs.{Outside.{FilesView}, Case.{Case}, declared.{fault.InputFault.{InputFault}, status.Status.{Status}}}
 use Rattle.pc_ground.specs.declared.version.Version.{Version}
-use Rattle.command_base.specs.declared.inputs.Inputs.{Inputs as CodeInputs}
-use Rattle.command_base.specs.declared.ending.Ending.{Ending}
-use Rattle.command_base.specs.Inputs.{Inputs, Contents, plain_inputs}
-use Rattle.command_base.specs.Endings.{HasOutcome}
-use Rattle.command_base.specs.Outcomes.{IsFilesOutcome}
-use Rattle.command_base.specs.VerdictStatus.{IsDueStatus}
-use Rattle.command_base.specs.FileAnswers.{AnswersFiles, IsDueOfFiles}
-use Rattle.verdicts.specs.declared.verdict.Verdict.{Verdict}
-use Rattle.verdicts.specs.Verdicts.{status_of, verdict_text}
-use Rattle.verdicts.specs.Certified.{IsCertified}
+use Rattle.command_base.specs.{declared.{inputs.Inputs.{Inputs as CodeInputs}, ending.Ending.{Ending}}, Inputs.{Inputs, Contents, plain_inputs}}
+use Rattle.command_base.specs.{Endings.{HasOutcome}, Outcomes.{IsFilesOutcome}, VerdictStatus.{IsDueStatus}, FileAnswers.{AnswersFiles, IsDueOfFiles}}
+use Rattle.verdicts.specs.{declared.verdict.Verdict.{Verdict}, Verdicts.{status_of, verdict_text}, Certified.{IsCertified}}
 
 module _ (case_of : List ℕ → Case → Type 0) (first_fault : List ℕ → List ℕ → InputFault → Type 0) (holds : Contents)
     (i : Inputs) where

@@ -1,6 +1,6 @@
 //! The command check: from words and files to a status and a text.
 use example_texts::{BOTH_ORDERS, EMPTY, ITSELF, ONE, ORDERED, TWO, TWO_FORBIDDEN, TWO_IN_ORDER};
-use memory_runs::{Plan, are_failures_reported, ends_in, ends_over, held, words};
+use memory_runs::{Plan, are_failures_reported, ends_in, ends_over, hold_files, words};
 use pc_common::{Bytes, Calls, Held, HeldFile, MemFiles, Memory, Status, SureFiles, SureSink};
 use pipecheck_run::run;
 use std::alloc::Global;
@@ -227,7 +227,7 @@ fn a_failed_read_writes_nothing_and_a_failed_write_cuts_the_text(
 
 /// A model of so many spaces, and the empty test.
 fn spaces(alloc: Global, count: usize) -> Result<Held, Memory> {
-    let mut held = held(alloc, &[("test", EMPTY)])?;
+    let mut held = hold_files(alloc, &[("test", EMPTY)])?;
     let name = Bytes::from_vec(b"model".to_vec(alloc)?);
     let bytes = Bytes::from_vec(vec![in alloc; b' '; count]?);
     held.push(HeldFile { name, bytes })?;
@@ -261,7 +261,7 @@ fn a_model_is_read_up_to_its_limit(rt: HostRuntime) -> Result<(), Fail> {
 #[test]
 fn what_cannot_fail_is_answered(rt: HostRuntime) -> Result<(), Fail> {
     let words = words(rt.alloc(), "check model test")?;
-    let mut files = SureFiles::new(held(rt.alloc(), &[("model", ORDERED), ("test", TWO)])?);
+    let mut files = SureFiles::new(hold_files(rt.alloc(), &[("model", ORDERED), ("test", TWO)])?);
     let checked = run(rt.alloc(), &words, &mut files, &mut SureSink::new());
     let told = run(rt.alloc(), &[], &mut files, &mut SureSink::new());
     assert!(rt; checked == Status::Observable && told == Status::Usage);

@@ -1,7 +1,7 @@
 //! Questions that need many splits where the search does not follow what failed: their verdicts in both versions, with
 //! certificates that `verify` takes.
 use example_texts::{LOCK_OF_FOUR, ONE_MEMORY, RUN_OF_TWENTY_FOUR};
-use memory_runs::{End, ends_over, written};
+use memory_runs::{End, ends_over, output_of};
 use pc_common::{Memory, Status};
 use std::alloc::Global;
 use std::test::Fail;
@@ -54,7 +54,7 @@ fn is_judged<'a>(
     head: &str,
     end: End<'_>,
 ) -> Result<bool, Memory> {
-    let text = written(alloc, command, &[("model", ONE_MEMORY), ("test", test)])?;
+    let text = output_of(alloc, command, &[("model", ONE_MEMORY), ("test", test)])?;
     let Ok(text) = str::from_utf8(&text) else {
         return Ok(false);
     };

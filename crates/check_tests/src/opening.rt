@@ -1,13 +1,13 @@
 //! Which files a run opens, by the failed calls that they count: to start a name that is missing is one.
 use example_texts::EMPTY;
-use memory_runs::{End, ends_in, held, words};
+use memory_runs::{End, ends_in, hold_files, words};
 use pc_common::{Bytes, Calls, Held, HeldFile, MemFiles, Memory, Status};
 use std::alloc::Global;
 use std::test::Fail;
 
 /// The files `test` and `bad`, and `large`, which has one byte more than a model may have.
 fn contents(alloc: Global) -> Result<Held, Memory> {
-    let mut held = held(alloc, &[("test", EMPTY), ("bad", "t")])?;
+    let mut held = hold_files(alloc, &[("test", EMPTY), ("bad", "t")])?;
     let name = Bytes::from_vec(b"large".to_vec(alloc)?);
     let bytes = Bytes::from_vec(vec![in alloc; b' '; 1_048_577]?);
     held.push(HeldFile { name, bytes })?;

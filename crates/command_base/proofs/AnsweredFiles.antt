@@ -1,20 +1,12 @@
 -- What the answer to a command on two files says, and the outcome of a command at its front.
 use Rattle.std.proofs.Common.{◌≡◌, ◌≢◌, ℕ, List, [], inr, refl, subst}
-use Rattle.pc_common.specs.Outside.{FilesView}
-use Rattle.pc_common.specs.Case.{Case}
-use Rattle.pc_common.specs.declared.fault.InputFault.{InputFault}
-use Rattle.pc_common.specs.declared.status.Status.{Status}
+use Rattle.pc_common.specs.{Outside.{FilesView}, Case.{Case}, declared.{fault.InputFault.{InputFault}, status.Status.{Status}}}
 use Rattle.pc_common.specs.declared.status.Status.TheVariants.{Usage, Refused, ReadFault, Memory}
 use Rattle.pc_syntax.specs.Written.{WrittenModel}
 use Rattle.pc_ground.specs.declared.front.Front.{Front}
-use Rattle.command_base.specs.declared.ending.Ending.{Ending}
-use Rattle.command_base.specs.Inputs.{Inputs, Contents, Says, IsFirstInputFault}
-use Rattle.command_base.specs.SecondFiles.{IsForm}
-use Rattle.command_base.specs.Refusals.{refusal}
-use Rattle.command_base.specs.Endings.{ending_status, ending_text}
-use Rattle.command_base.specs.Outcomes.{HasFront, IsInputsEnding, IsFilesOutcome}
-use Rattle.command_base.specs.FileAnswers.{AnswersFiles, IsDueOfFiles, refused, found}
-use Rattle.command_base.proofs.OneCase.{one_said, no_fault_said}
+use Rattle.command_base.specs.{declared.ending.Ending.{Ending}, Inputs.{Inputs, Contents, Says, IsFirstInputFault}, SecondFiles.{IsForm}, Refusals.{refusal}}
+use Rattle.command_base.specs.{Endings.{ending_status, ending_text}, Outcomes.{HasFront, IsInputsEnding, IsFilesOutcome}}
+use Rattle.command_base.{specs.FileAnswers.{AnswersFiles, IsDueOfFiles, refused, found}, proofs.OneCase.{one_said, no_fault_said}}
 
 module _ {case_of : List ℕ → Case → Type 0} {first_fault : List ℕ → List ℕ → InputFault → Type 0} (form : IsForm case_of first_fault)
     {holds : Contents} {i : Inputs} {finds : WrittenModel → Case → Status → List ℕ → Type 0} where

@@ -1,18 +1,11 @@
 -- A front asks what its model and its case ask.
 use Rattle.std.proofs.Common.{◌≡◌, List, [], ◌∷◌, map, refl, sym, ◌∙◌, ap}
 use Rattle.pc_common.specs.Case.{Case}
-use Rattle.pc_syntax.specs.declared.model.StageItem.{StageItem}
-use Rattle.pc_syntax.specs.Written.{stage_numbers, WrittenModel}
-use Rattle.pc_syntax.specs.Observable.{satisfies}
-use Rattle.pc_ground.specs.declared.front.Front.{Front}
-use Rattle.pc_ground.specs.GroundTree.{ground_tree, closed_ground_tree}
-use Rattle.pc_ground.specs.NodeForm.{names_of}
-use Rattle.pc_ground.specs.Stages.{plain_stage, plain_axioms, numbers_of}
-use Rattle.pc_ground.proofs.FlatRows.{rows_injective}
-use Rattle.pc_front.specs.ModelFront.{written_stage}
-use Rattle.pc_front.specs.Front.{IsFrontOf}
-use Rattle.cert_check.specs.Questions.{question_of}
-use Rattle.cert_check.proofs.Alike.{AskAlike}
+use Rattle.pc_syntax.specs.{declared.model.StageItem.{StageItem}, Written.{stage_numbers, WrittenModel}, Observable.{satisfies}}
+use Rattle.pc_ground.specs.{declared.front.Front.{Front}, GroundTree.{ground_tree, closed_ground_tree}, NodeForm.{names_of}}
+use Rattle.pc_ground.{specs.Stages.{plain_stage, plain_axioms, numbers_of}, proofs.FlatRows.{rows_injective}}
+use Rattle.pc_front.specs.{ModelFront.{written_stage}, Front.{IsFrontOf}}
+use Rattle.cert_check.{specs.Questions.{question_of}, proofs.Alike.{AskAlike}}
 use Rattle.command_base.specs.Questions.{names_by, question_by}
 
 pub numbers_same : (ss : List StageItem) → numbers_of (map written_stage ss) ≡ stage_numbers ss

@@ -1,15 +1,10 @@
 -- What the two certificates say of the outcome.
 use Rattle.std.proofs.Common.{ℕ, List, sym, ◌∙◌, subst}
-use Rattle.pc_common.specs.Case.{Case}
-use Rattle.pc_common.specs.Lines.{observable, unobservable}
-use Rattle.pc_syntax.specs.Written.{WrittenModel}
-use Rattle.pc_syntax.specs.Observable.{Observable, IsWorldOf}
-use Rattle.pc_ground.specs.GroundTree.{ground_tree}
-use Rattle.pc_ground.proofs.UnfoldedTruth.{ground_tree_true}
-use Rattle.pc_ground.proofs.Refuted.{refutation_sound}
+use Rattle.pc_common.specs.{Case.{Case}, Lines.{observable, unobservable}}
+use Rattle.pc_syntax.specs.{Written.{WrittenModel}, Observable.{Observable, IsWorldOf}}
+use Rattle.pc_ground.{specs.GroundTree.{ground_tree}, proofs.{UnfoldedTruth.{ground_tree_true}, Refuted.{refutation_sound}}}
 use Rattle.cert_check.specs.Certificates.{IsCertificateText}
-use Rattle.command_base.specs.Questions.{question_by}
-use Rattle.command_base.proofs.AskedAlike.{numbers_same}
+use Rattle.command_base.{specs.Questions.{question_by}, proofs.AskedAlike.{numbers_same}}
 
 pub graph_observable : (m : WrittenModel) (c : Case) (text : List ℕ) → IsCertificateText (question_by m c) observable text → Observable m c
 graph_observable m c text t =

@@ -1,8 +1,5 @@
 -- A place past the end of a text has the line and the column of its end.
-use Rattle.std.proofs.Common.{◌≡◌, ℕ, ◌+◌, List, length, min, ap}
-use Rattle.std.specs.Prelude.{◌==◌, count_by, not}
-use Rattle.std.specs.List.{suffix_len}
-use Rattle.std.proofs.lemmas.List.{take_min}
+use Rattle.std.{proofs.{Common.{◌≡◌, ℕ, ◌+◌, List, length, min, ap}, lemmas.List.{take_min}}, specs.{Prelude.{◌==◌, count_by, not}, List.{suffix_len}}}
 use Rattle.pc_common.specs.LineColumn.{line_of, column_of}
 
 pub line_min : (bytes : List ℕ) (n : ℕ) → line_of bytes (min n (length bytes)) ≡ line_of bytes n

@@ -1,23 +1,13 @@
 -- Files whose reader says a case or names their first fault are a form of second files: a fault of the model comes before
 -- theirs.
-use Rattle.std.proofs.Common.{◌≡◌, ℕ, List, ◌⊎◌, inl, inr, Option, Some, sym, ◌∙◌, ap, subst}
-use Rattle.std.specs.Prelude.{unwrap_or}
-use Rattle.pc_common.specs.Case.{Case}
-use Rattle.pc_common.specs.declared.fault.FaultKind.{FaultKind}
-use Rattle.pc_common.specs.declared.fault.InputFault.{InputFault}
-use Rattle.pc_common.specs.declared.fault.Which.{Which}
-use Rattle.pc_common.specs.declared.fault.Which.TheVariants.{Model}
+use Rattle.std.{proofs.Common.{◌≡◌, ℕ, List, ◌⊎◌, inl, inr, Option, Some, sym, ◌∙◌, ap, subst}, specs.Prelude.{unwrap_or}}
+use Rattle.pc_common.specs.{Case.{Case}, declared.fault.{FaultKind.{FaultKind}, InputFault.{InputFault}, Which.{Which, TheVariants.{Model}}}}
 use Rattle.pc_common.specs.declared.place.Place.{Place}
 use Rattle.pc_syntax.specs.Written.{WrittenModel}
-use Rattle.pc_ground.specs.declared.front.Front.{Front}
-use Rattle.pc_ground.specs.declared.parts.Parts.{Parts}
-use Rattle.pc_front.specs.ModelFront.{IsModelFault, IsModelEnd}
-use Rattle.pc_front.specs.Front.{SaysModel, fault_at}
-use Rattle.pc_front.specs.declared.model_front.FrontEnd.{FrontEnd}
-use Rattle.pc_front.specs.declared.model_front.FrontEnd.TheVariants.{Refused, Memory}
-use Rattle.pc_front.proofs.OneModel.{no_whole_fault, one_model_fault}
-use Rattle.pc_front.proofs.ModelOrFault.{model_or_fault}
-use Rattle.pc_front.proofs.PartsOf.{front_is}
+use Rattle.pc_ground.specs.declared.{front.Front.{Front}, parts.Parts.{Parts}}
+use Rattle.pc_front.specs.{ModelFront.{IsModelFault, IsModelEnd}, Front.{SaysModel, fault_at}, declared.model_front.FrontEnd.{FrontEnd}}
+use Rattle.pc_front.{specs.declared.model_front.FrontEnd.TheVariants.{Refused, Memory}, proofs.OneModel.{no_whole_fault, one_model_fault}}
+use Rattle.pc_front.proofs.{ModelOrFault.{model_or_fault}, PartsOf.{front_is}}
 use Rattle.command_base.specs.Fronts.{front_of_parts}
 use Rattle.command_base.specs.SecondFiles.{SaysFront, SaysNone, IsOfTwo, IsFrontEnd, IsForm, IsToldFault, IsFaultOfTwo, in_model, in_second}
 

@@ -1,32 +1,19 @@
 -- How a command ends at its two files, and what a front of them says.
-use Rattle.std.proofs.Common.{◌≡◌, inl, inr, ℕ, ◌<◌, ◌≤◌, arith, List, ◌++◌, Some, None, length, refl, sym, ◌∙◌, ap, subst}
-use Rattle.std.specs.Prelude.{codes, IsTrue}
+use Rattle.std.{proofs.Common.{◌≡◌, inl, inr, ℕ, ◌<◌, ◌≤◌, arith, List, ◌++◌, Some, None, length, refl, sym, ◌∙◌, ap, subst}, specs.Prelude.{codes, IsTrue}}
 use Rattle.std.specs.Fmt.{decimal}
-use Rattle.pc_common.specs.Outside.{FilesView}
-use Rattle.pc_common.specs.LineColumn.{line_of, column_of}
-use Rattle.pc_common.specs.Case.{Case}
-use Rattle.pc_common.specs.Faults.{Rose}
-use Rattle.pc_common.specs.Reads.{Reads}
-use Rattle.pc_common.specs.declared.fault.InputFault.{InputFault}
-use Rattle.pc_common.specs.declared.fault.Which.{Which}
-use Rattle.pc_common.specs.declared.fault.Which.TheVariants.{Model, Test, Query}
-use Rattle.pc_common.specs.declared.reading.ReadEnd.{ReadEnd}
+use Rattle.pc_common.specs.{Outside.{FilesView}, LineColumn.{line_of, column_of}, Case.{Case}, Faults.{Rose}, Reads.{Reads}}
+use Rattle.pc_common.specs.declared.{fault.{InputFault.{InputFault}, Which.{Which, TheVariants.{Model, Test, Query}}}, reading.ReadEnd.{ReadEnd}}
 use Rattle.pc_common.specs.declared.reading.ReadEnd.TheVariants.{ReadFault as an_outside_fault, TooLarge as past_limit, Memory as no_memory}
-use Rattle.pc_common.specs.declared.status.Status.{Status}
-use Rattle.pc_common.specs.declared.status.Status.TheVariants.{Usage, Refused, ReadFault, Memory}
+use Rattle.pc_common.specs.declared.status.Status.{Status, TheVariants.{Usage, Refused, ReadFault, Memory}}
 use Rattle.pc_syntax.specs.Written.{WrittenModel}
 use Rattle.pc_ground.specs.declared.front.Front.{Front}
-use Rattle.pc_front.specs.declared.limits.TheConstants.{MAX_FILE}
-use Rattle.pc_front.specs.Front.{SaysModel}
-use Rattle.command_base.specs.declared.refusal.Refusal.{Refusal}
-use Rattle.command_base.specs.declared.ending.Ending.{Ending}
+use Rattle.pc_front.specs.{declared.limits.TheConstants.{MAX_FILE}, Front.{SaysModel}}
+use Rattle.command_base.specs.declared.{refusal.Refusal.{Refusal}, ending.Ending.{Ending}}
 use Rattle.command_base.specs.declared.ending.Ending.TheVariants.{ReadFault as a_read_fault, Memory as a_memory, Refused as a_refusal}
 use Rattle.command_base.specs.Words.{fault_word, file_word}
 use Rattle.command_base.specs.Inputs.{Inputs, Contents, IsRead, IsTooLarge, IsFirstInputFault, large_model, large_test, in_bytes, too_large, LacksInput, Says}
-use Rattle.command_base.specs.SecondFiles.{IsOfTwo, SaysFront, SaysNone, AnyCase, NoFault}
-use Rattle.command_base.specs.Refusals.{IsInputRefusal, refusal, refused_text, name_of}
-use Rattle.command_base.specs.Endings.{refusal_text, bytes_of, IsBytesEnding, IsUnread}
-use Rattle.command_base.specs.Outcomes.{HasFront, IsInputsEnding, IsUnreadEnding}
+use Rattle.command_base.specs.{SecondFiles.{IsOfTwo, SaysFront, SaysNone, AnyCase, NoFault}, Refusals.{IsInputRefusal, refusal, refused_text, name_of}}
+use Rattle.command_base.specs.{Endings.{refusal_text, bytes_of, IsBytesEnding, IsUnread}, Outcomes.{HasFront, IsInputsEnding, IsUnreadEnding}}
 use Rattle.command_base.proofs.OneCase.{never_both, one_held}
 
 some_none : {X : Type 0} {x : X} → Some x ≡ None → ⊥

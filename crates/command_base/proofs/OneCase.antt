@@ -1,12 +1,9 @@
 -- Two files of a form say one model and one case at most, have one first fault at most, and one of both.
 use Rattle.std.proofs.Common.{◌≡◌, ◌⊎◌, inl, inr, ℕ, List, Option, Some, None, length, sym, ◌∙◌, ap, refl, subst, arith}
-use Rattle.pc_common.specs.Case.{Case}
-use Rattle.pc_common.specs.declared.fault.InputFault.{InputFault}
+use Rattle.pc_common.specs.{Case.{Case}, declared.fault.InputFault.{InputFault}}
 use Rattle.pc_syntax.specs.Written.{WrittenModel}
-use Rattle.pc_front.specs.Front.{SaysModel}
-use Rattle.pc_front.proofs.OneModel.{one_whole_model}
-use Rattle.command_base.specs.Inputs.{Inputs, Contents, IsRead, IsTooLarge, IsFirstInputFault, large_model, large_test, in_bytes, Says}
-use Rattle.command_base.specs.SecondFiles.{IsForm}
+use Rattle.pc_front.{specs.Front.{SaysModel}, proofs.OneModel.{one_whole_model}}
+use Rattle.command_base.specs.{Inputs.{Inputs, Contents, IsRead, IsTooLarge, IsFirstInputFault, large_model, large_test, in_bytes, Says}, SecondFiles.{IsForm}}
 
 value_of : List ℕ → Option (List ℕ) → List ℕ
 value_of d None = d

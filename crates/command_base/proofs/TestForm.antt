@@ -1,26 +1,15 @@
 -- Test files are a form of second files.
-use Rattle.std.proofs.Common.{◌≡◌, ◌≢◌, ℕ, List, ◌⊎◌, inl, inr, Some, refl, sym, ◌∙◌, ap, subst}
-use Rattle.std.specs.Prelude.{unwrap_or}
-use Rattle.pc_common.specs.Case.{Case}
-use Rattle.pc_common.specs.declared.fault.FaultKind.TheVariants.{Lexical, Syntax}
-use Rattle.pc_common.specs.declared.fault.InputFault.{InputFault}
-use Rattle.pc_common.specs.declared.fault.Which.TheVariants.{Test}
+use Rattle.std.{proofs.Common.{◌≡◌, ◌≢◌, ℕ, List, ◌⊎◌, inl, inr, Some, refl, sym, ◌∙◌, ap, subst}, specs.Prelude.{unwrap_or}}
+use Rattle.pc_common.specs.{Case.{Case}, declared.fault.{FaultKind.TheVariants.{Lexical, Syntax}, InputFault.{InputFault}, Which.TheVariants.{Test}}}
 use Rattle.pc_case.specs.MicroOps.{AreMicroOps}
 use Rattle.pc_syntax.specs.Written.{WrittenModel}
-use Rattle.litmus_reader.specs.Answer.{CaseOf, IsCaseFault}
-use Rattle.litmus_reader.specs.declared.fault.CaseFault.{CaseFault}
+use Rattle.litmus_reader.specs.{Answer.{CaseOf, IsCaseFault}, declared.fault.CaseFault.{CaseFault}}
 use Rattle.litmus_reader.specs.declared.fault.CaseFault.TheVariants.{Lexical as a_lexical_fault, Syntax as a_syntax_fault, Content as a_fault_of_content, Memory as no_room}
-use Rattle.litmus_reader.proofs.CleanFacts.{are_micro_ops}
-use Rattle.litmus_reader.proofs.Exclusive.{one_case, no_fault}
-use Rattle.litmus_reader.proofs.OneFault.{one_fault}
-use Rattle.litmus_reader.proofs.Totality.{case_or_fault}
+use Rattle.litmus_reader.proofs.{CleanFacts.{are_micro_ops}, Exclusive.{one_case, no_fault}, OneFault.{one_fault}, Totality.{case_or_fault}}
 use Rattle.pc_ground.specs.declared.parts.Parts.{Parts}
 use Rattle.pc_front.specs.Front.{SaysModel, SayParts, IsEnd, fault_at, case_fault_of, IsFirstFrontFault, in_model as of_model, in_test}
-use Rattle.pc_front.specs.declared.model_front.FrontEnd.{FrontEnd}
-use Rattle.pc_front.specs.declared.model_front.FrontEnd.TheVariants.{Refused as a_refusal, Memory as no_memory}
-use Rattle.pc_front.proofs.PartsOf.{front_is}
-use Rattle.command_base.specs.Fronts.{front_of_parts}
-use Rattle.command_base.specs.SecondFiles.{SaysFront, IsOfTwo, IsFrontEnd, IsForm, IsToldFault, IsFaultOfTwo, in_model, in_second}
+use Rattle.pc_front.{specs.declared.model_front.FrontEnd.{FrontEnd, TheVariants.{Refused as a_refusal, Memory as no_memory}}, proofs.PartsOf.{front_is}}
+use Rattle.command_base.specs.{Fronts.{front_of_parts}, SecondFiles.{SaysFront, IsOfTwo, IsFrontEnd, IsForm, IsToldFault, IsFaultOfTwo, in_model, in_second}}
 use Rattle.command_base.proofs.Forms.{IsReader, form_of, fault_of_two}
 
 -- want of memory is no fault of a test

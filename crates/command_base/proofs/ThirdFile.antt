@@ -1,19 +1,11 @@
 -- The outcome of a command that reads a third file where the two have no fault.
-use Rattle.std.proofs.Common.{◌≡◌, ◌≢◌, ◌⊎◌, ℕ, Bool, List, inl, inr, Some, None, refl, sym, ◌∙◌, subst}
-use Rattle.std.specs.Prelude.{IsTrue}
-use Rattle.pc_common.specs.Outside.{FilesView}
-use Rattle.pc_common.specs.Case.{Case}
-use Rattle.pc_common.specs.Reads.{Reads}
-use Rattle.pc_common.specs.declared.fault.InputFault.{InputFault}
-use Rattle.pc_common.specs.declared.status.Status.{Status}
+use Rattle.std.{proofs.Common.{◌≡◌, ◌≢◌, ◌⊎◌, ℕ, Bool, List, inl, inr, Some, None, refl, sym, ◌∙◌, subst}, specs.Prelude.{IsTrue}}
+use Rattle.pc_common.specs.{Outside.{FilesView}, Case.{Case}, Reads.{Reads}, declared.{fault.InputFault.{InputFault}, status.Status.{Status}}}
 use Rattle.pc_common.specs.declared.status.Status.TheVariants.{Observable, Unobservable, Done, Usage, Refused, ReadFault, WriteFault, CertRefused, Memory}
 use Rattle.pc_syntax.specs.Written.{WrittenModel}
 use Rattle.pc_ground.specs.declared.front.Front.{Front}
-use Rattle.command_base.specs.declared.ending.Ending.{Ending}
-use Rattle.command_base.specs.FileAnswers.{refused, found}
-use Rattle.command_base.specs.Inputs.{Inputs, Contents, LacksInput}
-use Rattle.command_base.specs.Endings.{ending_status, ending_text}
-use Rattle.command_base.specs.Outcomes.{HasFront, IsInputsEnding, IsThirdOutcome, LacksThirdFile}
+use Rattle.command_base.specs.{declared.ending.Ending.{Ending}, FileAnswers.{refused, found}, Inputs.{Inputs, Contents, LacksInput}}
+use Rattle.command_base.specs.{Endings.{ending_status, ending_text}, Outcomes.{HasFront, IsInputsEnding, IsThirdOutcome, LacksThirdFile}}
 use Rattle.command_base.proofs.InputsRead.{reads_then}
 
 some_none : {x : List ℕ} → Some x ≡ None → ⊥

@@ -1,10 +1,7 @@
 -- The status and the line of what a text was found to be.
-use Rattle.std.specs.Prelude.{◌++◌, ℕ, List, codes}
-use Rattle.std.specs.Fmt.{decimal}
-use Rattle.pc_common.specs.declared.status.Status.{Status}
-use Rattle.pc_common.specs.declared.status.Status.TheVariants.{Observable, Unobservable, CertRefused}
-use Rattle.cert_check.specs.declared.checked.Checked.{Checked}
-use Rattle.cert_check.specs.declared.checked.Checked.TheVariants.{Observable as seen, Unobservable as unseen, Refused as refused_at}
+use Rattle.std.specs.{Prelude.{◌++◌, ℕ, List, codes}, Fmt.{decimal}}
+use Rattle.pc_common.specs.declared.status.Status.{Status, TheVariants.{Observable, Unobservable, CertRefused}}
+use Rattle.cert_check.specs.declared.checked.Checked.{Checked, TheVariants.{Observable as seen, Unobservable as unseen, Refused as refused_at}}
 
 abbrev pub checked_status : Checked → Status
 checked_status seen = Observable

@@ -1,24 +1,13 @@
 -- The status and the text of an ending, and of what a command returns.
-use Rattle.std.specs.Prelude.{◌≡◌, ◌++◌, ⊤, ℕ, List, [], Result, Ok, Err, MatchResult, codes}
-use Rattle.std.specs.Fmt.{decimal}
-use Rattle.pc_common.specs.Case.{Case}
-use Rattle.pc_common.specs.LineColumn.{line_of, column_of}
-use Rattle.pc_common.specs.declared.status.Status.{Status}
-use Rattle.pc_common.specs.declared.status.Status.TheVariants.{Refused, ReadFault, Memory}
-use Rattle.pc_common.specs.declared.fault.InputFault.{InputFault}
-use Rattle.pc_common.specs.declared.fault.Which.{Which}
-use Rattle.pc_common.specs.declared.fault.Which.TheVariants.{Model, Test, Query}
-use Rattle.pc_common.specs.declared.reading.ReadEnd.{ReadEnd}
+use Rattle.std.specs.{Prelude.{◌≡◌, ◌++◌, ⊤, ℕ, List, [], Result, Ok, Err, MatchResult, codes}, Fmt.{decimal}}
+use Rattle.pc_common.specs.{Case.{Case}, LineColumn.{line_of, column_of}, declared.status.Status.{Status, TheVariants.{Refused, ReadFault, Memory}}}
+use Rattle.pc_common.specs.declared.{fault.{InputFault.{InputFault}, Which.{Which, TheVariants.{Model, Test, Query}}}, reading.ReadEnd.{ReadEnd}}
 use Rattle.pc_common.specs.declared.reading.ReadEnd.TheVariants.{ReadFault as an_outside_fault, TooLarge as past_limit, Memory as no_memory}
 use Rattle.pc_ground.specs.declared.front.Front.{Front}
-use Rattle.command_base.specs.declared.refusal.Refusal.{Refusal}
-use Rattle.command_base.specs.declared.ending.Ending.{Ending}
+use Rattle.command_base.specs.declared.{refusal.Refusal.{Refusal}, ending.Ending.{Ending}}
 use Rattle.command_base.specs.declared.ending.Ending.TheVariants.{ReadFault as a_read_fault, Memory as a_memory, Refused as a_refusal}
-use Rattle.command_base.specs.declared.feed_end.FeedEnd.{FeedEnd}
-use Rattle.command_base.specs.declared.feed_end.FeedEnd.TheVariants.{ReadFault as a_failed_call, Memory as refused_memory}
-use Rattle.command_base.specs.Words.{fault_word, file_word}
-use Rattle.command_base.specs.Inputs.{too_large}
-use Rattle.command_base.specs.SecondFiles.{SaysFront, SaysNone, IsOfTwo}
+use Rattle.command_base.specs.declared.feed_end.FeedEnd.{FeedEnd, TheVariants.{ReadFault as a_failed_call, Memory as refused_memory}}
+use Rattle.command_base.specs.{Words.{fault_word, file_word}, Inputs.{too_large}, SecondFiles.{SaysFront, SaysNone, IsOfTwo}}
 
 abbrev pub refusal_text : Refusal → List ℕ
 refusal_text r =

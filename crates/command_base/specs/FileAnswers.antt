@@ -1,12 +1,8 @@
 -- What a command on two files answers, and which status is due of it.
 use Rattle.std.specs.Prelude.{◌≡◌, ℕ, List}
-use Rattle.pc_common.specs.Case.{Case}
-use Rattle.pc_common.specs.declared.fault.InputFault.{InputFault}
-use Rattle.pc_common.specs.declared.status.Status.{Status}
-use Rattle.pc_common.specs.declared.status.Status.TheVariants.{Refused}
+use Rattle.pc_common.specs.{Case.{Case}, declared.{fault.InputFault.{InputFault}, status.Status.{Status, TheVariants.{Refused}}}}
 use Rattle.pc_syntax.specs.Written.{WrittenModel}
-use Rattle.command_base.specs.Inputs.{Inputs, Contents, Says, IsFirstInputFault}
-use Rattle.command_base.specs.Refusals.{IsInputRefusal}
+use Rattle.command_base.specs.{Inputs.{Inputs, Contents, Says, IsFirstInputFault}, Refusals.{IsInputRefusal}}
 
 -- the answer to a command on two files: the refusal by their first fault, or what the command finds of the model and
 -- the case

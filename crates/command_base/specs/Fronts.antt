@@ -1,10 +1,6 @@
 -- The front that parts make, for definitions that speak of one: a command that works with parts builds no ground tree.
 use Rattle.std.proofs.Common.{refl}
-use Rattle.pc_ground.specs.declared.front.Front.{Front}
-use Rattle.pc_ground.specs.declared.parts.Parts.{Parts}
-use Rattle.pc_ground.specs.GroundTree.{closed_ground_tree}
-use Rattle.pc_ground.specs.Numbers.{numbered}
-use Rattle.pc_ground.specs.Rows.{rows_of}
+use Rattle.pc_ground.specs.{declared.{front.Front.{Front}, parts.Parts.{Parts}}, GroundTree.{closed_ground_tree}, Numbers.{numbered}, Rows.{rows_of}}
 use Rattle.pc_ground.specs.Stages.{plain_axioms}
 
 abbrev pub front_of_parts : Parts → Front

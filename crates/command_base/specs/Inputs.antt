@@ -1,15 +1,10 @@
 -- What the two files of a command say together, and their first fault. The form of the second file is two relations:
 -- which case its bytes say, and which fault is the first of a model's bytes and its own.
 use Rattle.std.specs.Prelude.{◌≡◌, ◌⊎◌, ℕ, ◌<◌, ◌≤◌, List, Option, Some, None, length}
-use Rattle.pc_common.specs.Case.{Case}
-use Rattle.pc_common.specs.declared.fault.FaultKind.TheVariants.{TooLarge}
+use Rattle.pc_common.specs.{Case.{Case}, declared.fault.{FaultKind.TheVariants.{TooLarge}, InputFault.{InputFault}, Which.{Which, TheVariants.{Model, Test}}}}
 use Rattle.pc_common.specs.declared.place.Place.{Place}
-use Rattle.pc_common.specs.declared.fault.InputFault.{InputFault}
-use Rattle.pc_common.specs.declared.fault.Which.{Which}
-use Rattle.pc_common.specs.declared.fault.Which.TheVariants.{Model, Test}
 use Rattle.pc_syntax.specs.Written.{WrittenModel}
-use Rattle.pc_front.specs.declared.limits.TheConstants.{MAX_FILE}
-use Rattle.pc_front.specs.Front.{SaysModel, fault_at}
+use Rattle.pc_front.specs.{declared.limits.TheConstants.{MAX_FILE}, Front.{SaysModel, fault_at}}
 use Rattle.command_base.specs.declared.inputs.Inputs.{Inputs as CodeInputs}
 
 -- the names of a model and of a second file

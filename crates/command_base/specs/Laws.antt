@@ -1,7 +1,6 @@
 -- What holds of every two files.
 use Rattle.std.specs.Prelude.{◌≡◌, ◌⊎◌, List, ℕ}
-use Rattle.pc_common.specs.Case.{Case}
-use Rattle.pc_common.specs.declared.fault.InputFault.{InputFault}
+use Rattle.pc_common.specs.{Case.{Case}, declared.fault.InputFault.{InputFault}}
 use Rattle.pc_syntax.specs.Written.{WrittenModel}
 use Rattle.command_base.specs.Inputs.{Inputs, Contents, IsRead, Says, IsFirstInputFault}
 

@@ -1,8 +1,7 @@
 -- What a lifted refutation of a model and a case is of.
 use Rattle.std.specs.Prelude.{map}
 use Rattle.pc_common.specs.Case.{Case}
-use Rattle.pc_syntax.specs.Written.{WrittenModel}
-use Rattle.pc_syntax.specs.Observable.{axioms_of}
+use Rattle.pc_syntax.specs.{Written.{WrittenModel}, Observable.{axioms_of}}
 use Rattle.pc_front.specs.ModelFront.{closed_axiom}
 use Rattle.lifted_check.specs.LiftedTexts.{Question as LiftedQuestion}
 

@@ -1,26 +1,13 @@
 -- What a command keeps of the files, and when it returns which status and text.
-use Rattle.std.specs.Prelude.{◌≡◌, ◌≢◌, ◌≤◌, ◌⊎◌, ℕ, List, None, Result, MatchResult, length, IsTrue}
-use Rattle.std.specs.Global.{Vec}
-use Rattle.pc_common.specs.Outside.{FilesView}
-use Rattle.pc_common.specs.Case.{Case}
-use Rattle.pc_common.specs.Faults.{Rose}
-use Rattle.pc_common.specs.Reads.{Reads}
-use Rattle.pc_common.specs.declared.fault.InputFault.{InputFault}
-use Rattle.pc_common.specs.declared.status.Status.{Status}
+use Rattle.std.specs.{Prelude.{◌≡◌, ◌≢◌, ◌≤◌, ◌⊎◌, ℕ, List, None, Result, MatchResult, length, IsTrue}, Global.{Vec}}
+use Rattle.pc_common.specs.{Outside.{FilesView}, Case.{Case}, Faults.{Rose}, Reads.{Reads}, declared.{fault.InputFault.{InputFault}, status.Status.{Status}}}
 use Rattle.pc_common.specs.declared.status.Status.TheVariants.{Usage, ReadFault, Memory}
 use Rattle.pc_case.specs.MicroOps.{AreMicroOps}
 use Rattle.pc_syntax.specs.Written.{WrittenModel}
-use Rattle.pc_ground.specs.declared.front.Front.{Front}
-use Rattle.pc_ground.specs.declared.parts.Parts.{Parts}
-use Rattle.pc_front.specs.declared.limits.TheConstants.{MAX_FILE}
-use Rattle.pc_front.specs.Front.{IsFrontOf}
-use Rattle.command_base.specs.declared.ending.Ending.{Ending}
-use Rattle.command_base.specs.Fronts.{front_of_parts}
-use Rattle.command_base.specs.Inputs.{Inputs, Contents, IsRead, Says, LacksInput}
-use Rattle.command_base.specs.SecondFiles.{AnyCase, NoFault}
-use Rattle.command_base.specs.Refusals.{IsInputRefusal}
-use Rattle.command_base.specs.Endings.{ending_status, ending_text}
-use Rattle.command_base.specs.FileAnswers.{AnswersFiles}
+use Rattle.pc_ground.specs.declared.{front.Front.{Front}, parts.Parts.{Parts}}
+use Rattle.pc_front.specs.{declared.limits.TheConstants.{MAX_FILE}, Front.{IsFrontOf}}
+use Rattle.command_base.specs.{declared.ending.Ending.{Ending}, Fronts.{front_of_parts}, Inputs.{Inputs, Contents, IsRead, Says, LacksInput}}
+use Rattle.command_base.specs.{SecondFiles.{AnyCase, NoFault}, Refusals.{IsInputRefusal}, Endings.{ending_status, ending_text}, FileAnswers.{AnswersFiles}}
 
 -- the bytes of the two files, of at most the limit, which (view files).modelled hold
 pub record HasBytes {F : Type 0} (view : F → FilesView) (i : Inputs) (old new : F) (model second : List ℕ) : Type 0 where

@@ -1,10 +1,8 @@
 -- What a certificate of a model and a case is of: one definition, for the commands that write one and for those that
 -- judge one.
 use Rattle.std.specs.Prelude.{map}
-use Rattle.pc_common.specs.Case.{Case}
-use Rattle.pc_common.specs.Lines.{Names}
-use Rattle.pc_syntax.specs.Written.{WrittenModel}
-use Rattle.pc_syntax.specs.Observable.{satisfies}
+use Rattle.pc_common.specs.{Case.{Case}, Lines.{Names}}
+use Rattle.pc_syntax.specs.{Written.{WrittenModel}, Observable.{satisfies}}
 use Rattle.pc_ground.specs.GroundTree.{ground_tree}
 use Rattle.pc_front.specs.ModelFront.{written_stage}
 use Rattle.cert_check.specs.Certificates.{Question}

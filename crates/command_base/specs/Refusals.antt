@@ -1,14 +1,8 @@
 -- The refusal of two files by their first fault.
-use Rattle.std.specs.Prelude.{◌≡◌, ℕ, List, [], ◌++◌, codes, Some}
-use Rattle.std.specs.Fmt.{decimal}
-use Rattle.pc_common.specs.declared.status.Status.{Status}
-use Rattle.pc_common.specs.declared.status.Status.TheVariants.{Refused}
-use Rattle.pc_common.specs.declared.fault.Which.{Which}
-use Rattle.pc_common.specs.declared.fault.Which.TheVariants.{Model, Test, Query}
-use Rattle.pc_common.specs.declared.fault.InputFault.{InputFault}
-use Rattle.pc_common.specs.LineColumn.{line_of, column_of}
-use Rattle.command_base.specs.Words.{fault_word, file_word}
-use Rattle.command_base.specs.Inputs.{Inputs, Contents, IsFirstInputFault}
+use Rattle.std.specs.{Prelude.{◌≡◌, ℕ, List, [], ◌++◌, codes, Some}, Fmt.{decimal}}
+use Rattle.pc_common.specs.declared.{status.Status.{Status, TheVariants.{Refused}}, fault.Which.{Which, TheVariants.{Model, Test, Query}}}
+use Rattle.pc_common.specs.{declared.fault.InputFault.{InputFault}, LineColumn.{line_of, column_of}}
+use Rattle.command_base.specs.{Words.{fault_word, file_word}, Inputs.{Inputs, Contents, IsFirstInputFault}}
 
 -- a fault of a file with these bytes: the file, the word, the line and the column
 abbrev pub refused_text : List ℕ → InputFault → List ℕ

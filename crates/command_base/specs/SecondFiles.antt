@@ -1,17 +1,11 @@
 -- What the bytes of a model and of a second file say together, and what a form of second files has to be.
 use Rattle.std.specs.Prelude.{◌≡◌, ◌⊎◌, ⊤, ℕ, List, Option, Some}
-use Rattle.pc_common.specs.Case.{Case}
-use Rattle.pc_common.specs.declared.fault.FaultKind.{FaultKind}
-use Rattle.pc_common.specs.declared.fault.InputFault.{InputFault}
-use Rattle.pc_common.specs.declared.fault.Which.{Which}
-use Rattle.pc_common.specs.declared.fault.Which.TheVariants.{Model, Test, Query}
+use Rattle.pc_common.specs.{Case.{Case}, declared.fault.{FaultKind.{FaultKind}, InputFault.{InputFault}, Which.{Which, TheVariants.{Model, Test, Query}}}}
 use Rattle.pc_common.specs.declared.place.Place.{Place}
 use Rattle.pc_case.specs.MicroOps.{AreMicroOps}
 use Rattle.pc_syntax.specs.Written.{WrittenModel}
 use Rattle.pc_ground.specs.declared.front.Front.{Front}
-use Rattle.pc_front.specs.declared.model_front.FrontEnd.{FrontEnd}
-use Rattle.pc_front.specs.declared.model_front.FrontEnd.TheVariants.{Refused, Memory}
-use Rattle.pc_front.specs.ModelFront.{IsModelFault}
+use Rattle.pc_front.specs.{declared.model_front.FrontEnd.{FrontEnd, TheVariants.{Refused, Memory}}, ModelFront.{IsModelFault}}
 use Rattle.pc_front.specs.Front.{fault_at, SaysModel, IsFrontOf}
 
 -- the bytes of a model and of a second file say this front

@@ -1,10 +1,7 @@
 -- What the two statuses of a verdict say of a model and a case.
 use Rattle.std.specs.Prelude.{◌≡◌}
-use Rattle.pc_common.specs.Case.{Case}
-use Rattle.pc_common.specs.declared.status.Status.{Status}
-use Rattle.pc_common.specs.declared.status.Status.TheVariants.{Observable as is_observable, Unobservable as is_unobservable}
-use Rattle.pc_syntax.specs.Written.{WrittenModel}
-use Rattle.pc_syntax.specs.Observable.{Observable}
+use Rattle.pc_common.specs.{Case.{Case}, declared.status.Status.{Status, TheVariants.{Observable as is_observable, Unobservable as is_unobservable}}}
+use Rattle.pc_syntax.specs.{Written.{WrittenModel}, Observable.{Observable}}
 
 -- observable only where some choice of nodes with some strict order makes every axiom true, and unobservable only where
 -- none does

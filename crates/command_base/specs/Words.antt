@@ -1,8 +1,6 @@
 -- The word of each fault, and of each file.
 use Rattle.std.specs.Prelude.{ℕ, List, codes}
-use Rattle.pc_common.specs.declared.fault.Which.{Which}
-use Rattle.pc_common.specs.declared.fault.Which.TheVariants.{Model, Test, Query}
-use Rattle.pc_common.specs.declared.fault.FaultKind.{FaultKind}
+use Rattle.pc_common.specs.declared.fault.{Which.{Which, TheVariants.{Model, Test, Query}}, FaultKind.{FaultKind}}
 use Rattle.pc_common.specs.declared.fault.FaultKind.TheVariants.{TooLarge, Lexical, Syntax, Depth, StageNumber, StageAgain, MacroAgain, ParameterAgain, MacroUnknown, MacroArguments, TooDeep, TooBig, PredicateUnknown, Arity, Unbound, WrongSort, CoreNumber, StageUnknown, TooManyVariables, TooManyOps, SplitInstruction, DuplicateOp, OpUnknown, AgainInitial, AgainFinal, AgainExpectation, MarkValue, TooManyRows, X86Column, X86Reload, X86Unloaded, X86Again, X86Open}
 
 abbrev pub fault_word : FaultKind → List ℕ

@@ -1,7 +1,5 @@
 -- The words of `gen`.
-use Rattle.std.proofs.Common.{◌≡◌, ℕ, ◌≤◌, List, [], ◌∷◌, Option, Some, None, sym, ◌∙◌, ap}
-use Rattle.std.specs.Prelude.{codes, MatchOption}
-use Rattle.std.specs.Fmt.{decimal}
+use Rattle.std.{proofs.Common.{◌≡◌, ℕ, ◌≤◌, List, [], ◌∷◌, Option, Some, None, sym, ◌∙◌, ap}, specs.{Prelude.{codes, MatchOption}, Fmt.{decimal}}}
 use Rattle.command_line.specs.Command.{gen, IsCommand}
 
 second : List (List ℕ) → List ℕ

@@ -1,10 +1,7 @@
 -- Words are one command at most: the first word tells which, and the others are its arguments.
 use Rattle.std.proofs.Common.{◌≡◌, ◌≤◌, ◌<◌, ℕ, zero, suc, ◌⊎◌, inl, inr, Bool, true, false, cond, List, [], ◌∷◌, refl, sym, ◌∙◌, ap, arith, nat_eq}
-use Rattle.std.specs.Prelude.{codes}
-use Rattle.std.specs.Fmt.{decimal}
+use Rattle.std.{proofs.lemmas.{Bool.{cases_order}, Fmt.{decimal_injective}}, specs.{Prelude.{codes}, Fmt.{decimal}}}
 use Rattle.std.specs.Cmp.Lexicographic.{pointwise, same_text, bytes_decides}
-use Rattle.std.proofs.lemmas.Bool.{cases_order}
-use Rattle.std.proofs.lemmas.Fmt.{decimal_injective}
 use Rattle.pc_ground.specs.declared.version.Version.TheVariants.{One, Two}
 use Rattle.command_base.specs.Inputs.{Inputs}
 use Rattle.command_line.specs.Command.{Command, check, verify, find_core, check_listing, verify_listing, sweep_rows, verify_lifted, ask_query, lift_tree, gen, words_of, IsWithin, IsCommand, IsNoCommand}

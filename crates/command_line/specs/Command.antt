@@ -1,9 +1,6 @@
 -- A command, and which words are one.
-use Rattle.std.specs.Prelude.{◌≡◌, ◌≤◌, ⊤, ℕ, List, [], ◌∷◌, Bool, Option, Some, None, IsTrue, String, map, codes}
-use Rattle.std.specs.Fmt.{decimal}
-use Rattle.std.specs.String.{string_bytes}
-use Rattle.pc_ground.specs.declared.version.Version.{Version}
-use Rattle.pc_ground.specs.declared.version.Version.TheVariants.{One, Two}
+use Rattle.std.specs.{Prelude.{◌≡◌, ◌≤◌, ⊤, ℕ, List, [], ◌∷◌, Bool, Option, Some, None, IsTrue, String, map, codes}, Fmt.{decimal}, String.{string_bytes}}
+use Rattle.pc_ground.specs.declared.version.Version.{Version, TheVariants.{One, Two}}
 use Rattle.command_base.specs.Inputs.{Inputs, plain_inputs}
 use Rattle.command_line.specs.declared.command.Command.{Command as CodeCommand}
 use Rattle.command_line.specs.declared.command.Command.TheVariants.{Check, Verify, Core, CheckListing, VerifyListing, Sweep, VerifyLifted, Ask, Lift, Gen}

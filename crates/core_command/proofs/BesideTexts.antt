@@ -1,8 +1,6 @@
 -- Two lists side by side: their places.
 use Rattle.std.proofs.Common.{◌≡◌, ℕ, zero, suc, ◌<◌, List, [], ◌∷◌, Some, length, map, get_or, refl, sym, ◌∙◌, ap, arith}
-use Rattle.std.specs.Prelude.{slice_get}
-use Rattle.std.proofs.lemmas.List.{get_or-map, length-map}
-use Rattle.std.proofs.lemmas.Option.{get_or_from_slice_get}
+use Rattle.std.{proofs.lemmas.{List.{get_or-map, length-map}, Option.{get_or_from_slice_get}}, specs.Prelude.{slice_get}}
 use Rattle.core_command.specs.CoreTexts.{pairs}
 
 beside_length : {X Y : Type 0} (xs : List X) (ys : List Y) → length xs ≡ length ys → length (pairs xs ys) ≡ length ys

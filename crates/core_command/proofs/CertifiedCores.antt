@@ -1,34 +1,19 @@
 -- A core of a front is one of its model, with certificates.
 use Rattle.std.proofs.Common.{◌≡◌, ℕ, zero, suc, ◌<◌, inl, inr, List, [], ◌∷◌, length, map, get_or, refl, sym, ◌∙◌, ap, subst, arith}
-use Rattle.std.proofs.lemmas.List.{length-map}
-use Rattle.std.specs.Prelude.{All}
-use Rattle.pc_common.specs.Case.{Case}
-use Rattle.pc_common.specs.Steps.{Step}
-use Rattle.pc_common.specs.World.{Node}
+use Rattle.std.{proofs.lemmas.List.{length-map}, specs.Prelude.{All}}
+use Rattle.pc_common.specs.{Case.{Case}, Steps.{Step}, World.{Node}}
 use Rattle.pc_common.specs.declared.status.Status.TheVariants.{Done, Observable as is_observable, Unobservable as is_unobservable}
 use Rattle.pc_common.proofs.Elements.{In, in_from_contains}
 use Rattle.pc_case.specs.MicroOps.{AreMicroOps}
-use Rattle.pc_syntax.specs.Written.{WrittenModel}
-use Rattle.pc_syntax.specs.Observable.{axioms_of, macros_of, setting, Observable}
-use Rattle.pc_syntax.specs.Truth.{is_true}
-use Rattle.pc_ground.specs.declared.front.Front.{Front}
-use Rattle.pc_ground.specs.declared.version.Version.TheVariants.{One}
-use Rattle.pc_ground.specs.NodeForm.{names_of}
+use Rattle.pc_syntax.specs.{Written.{WrittenModel}, Observable.{axioms_of, macros_of, setting, Observable}, Truth.{is_true}}
+use Rattle.pc_ground.specs.{declared.{front.Front.{Front}, version.Version.TheVariants.{One}}, NodeForm.{names_of}}
 use Rattle.pc_front.specs.Front.{IsFrontOf}
 use Rattle.graph_text.specs.declared.graph.Graph.{Graph}
 use Rattle.solver.specs.declared.answer.Answer.TheVariants.{Observable as a_graph, Unobservable as a_refutation}
-use Rattle.axiom_core.specs.Chosen.{Choice, among, less, AreRising}
-use Rattle.axiom_core.specs.ModelWith.{model_with}
-use Rattle.axiom_core.specs.Cores.{AreShownWithout, IsCore, IsCoreOf}
-use Rattle.axiom_core.specs.declared.answer.Core.{Core}
-use Rattle.axiom_core.specs.declared.answer.Core.TheVariants.{None as no_axioms, Minimal}
-use Rattle.axiom_core.proofs.Taking.{all_hold}
-use Rattle.axiom_core.proofs.AxiomsWith.{satisfies_with}
-use Rattle.verdicts.specs.Verdicts.{IsWritable}
-use Rattle.verdicts.specs.Certified.{IsCertified}
-use Rattle.verdicts.proofs.CertifiedTruth.{certified_true}
-use Rattle.core_command.specs.CoreAnswers.{AreCertifiedWithout, IsCoreSet, IsCoreText, no_core, a_core}
-use Rattle.core_command.specs.Found.{graph_text, tree_text, text_of, CanBeWritten}
+use Rattle.axiom_core.specs.{Chosen.{Choice, among, less, AreRising}, ModelWith.{model_with}, Cores.{AreShownWithout, IsCore, IsCoreOf}}
+use Rattle.axiom_core.{specs.declared.answer.Core.{Core, TheVariants.{None as no_axioms, Minimal}}, proofs.{Taking.{all_hold}, AxiomsWith.{satisfies_with}}}
+use Rattle.verdicts.{specs.{Verdicts.{IsWritable}, Certified.{IsCertified}}, proofs.CertifiedTruth.{certified_true}}
+use Rattle.core_command.specs.{CoreAnswers.{AreCertifiedWithout, IsCoreSet, IsCoreText, no_core, a_core}, Found.{graph_text, tree_text, text_of, CanBeWritten}}
 use Rattle.core_command.proofs.PartFronts.{found_certified, found_writable, part_front}
 
 -- an outcome that all axioms allow is allowed by some of them

@@ -1,21 +1,13 @@
 -- The outcome of `core`: what its answer says, and that it is due.
 use Rattle.std.proofs.Common.{◌≡◌, ℕ, List, refl}
-use Rattle.pc_common.specs.Outside.{FilesView}
-use Rattle.pc_common.specs.Case.{Case}
-use Rattle.pc_common.specs.declared.fault.InputFault.{InputFault}
-use Rattle.pc_common.specs.declared.status.Status.{Status}
+use Rattle.pc_common.specs.{Outside.{FilesView}, Case.{Case}, declared.{fault.InputFault.{InputFault}, status.Status.{Status}}}
 use Rattle.pc_common.specs.declared.status.Status.TheVariants.{Done, Usage, ReadFault}
 use Rattle.pc_syntax.specs.Written.{WrittenModel}
 use Rattle.pc_ground.specs.declared.front.Front.{Front}
-use Rattle.axiom_core.specs.Cores.{IsCoreOf}
-use Rattle.axiom_core.specs.declared.answer.Core.{Core}
-use Rattle.command_base.specs.Inputs.{Inputs, Contents}
-use Rattle.command_base.specs.SecondFiles.{IsForm}
-use Rattle.command_base.specs.Outcomes.{HasFront, IsFilesOutcome}
+use Rattle.axiom_core.specs.{Cores.{IsCoreOf}, declared.answer.Core.{Core}}
+use Rattle.command_base.specs.{Inputs.{Inputs, Contents}, SecondFiles.{IsForm}, Outcomes.{HasFront, IsFilesOutcome}}
 use Rattle.command_base.proofs.AnsweredFiles.{found_outcome, due_of_files}
-use Rattle.core_command.specs.CoreAnswers.{IsCoreText, no_core, a_core, AnswersCore, IsCoreDue}
-use Rattle.core_command.specs.Found.{text_of}
-use Rattle.core_command.proofs.CertifiedCores.{core_answer}
+use Rattle.core_command.{specs.{CoreAnswers.{IsCoreText, no_core, a_core, AnswersCore, IsCoreDue}, Found.{text_of}}, proofs.CertifiedCores.{core_answer}}
 
 module _ {F : Type 0} {view : F → FilesView} {old new : F}
     {case_of : List ℕ → Case → Type 0} {first_fault : List ℕ → List ℕ → InputFault → Type 0} {i : Inputs} where

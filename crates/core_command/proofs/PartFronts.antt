@@ -1,38 +1,17 @@
 -- The front of chosen axioms is the front of the model with just those axioms.
 use Rattle.std.proofs.Common.{◌≡◌, [], map, sym, ◌∙◌, ap, subst}
-use Rattle.pc_common.specs.Case.{Case}
-use Rattle.pc_common.specs.World.{Node}
+use Rattle.pc_common.specs.{Case.{Case}, World.{Node}}
 use Rattle.pc_case.specs.MicroOps.{AreMicroOps}
-use Rattle.pc_syntax.specs.Written.{WrittenModel}
-use Rattle.pc_syntax.specs.Observable.{axioms_of}
-use Rattle.pc_syntax.specs.Expansion.{expansion_of}
-use Rattle.pc_syntax.specs.Closing.{closing_of}
-use Rattle.pc_syntax.specs.Closed.{closed_satisfies}
-use Rattle.pc_ground.specs.declared.front.Front.{Front}
-use Rattle.pc_ground.specs.declared.version.Version.TheVariants.{One}
-use Rattle.pc_ground.specs.Tree.{Tree}
-use Rattle.pc_ground.specs.Rows.{rows_of}
-use Rattle.pc_ground.specs.GroundTree.{closed_ground_tree}
-use Rattle.pc_ground.specs.NodeForm.{names_of}
-use Rattle.pc_ground.specs.Stages.{plain_stage, plain_axioms}
-use Rattle.pc_ground.proofs.KeptTrees.{closed_tree}
-use Rattle.pc_front.specs.ModelFront.{closed_axiom}
-use Rattle.pc_front.specs.Front.{ArePartsOf, IsFrontOf}
-use Rattle.pc_front.proofs.FrontLaws.{satisfied_alike}
-use Rattle.pc_front.proofs.PartsOf.{no_name_fault}
-use Rattle.solver.specs.Answers.{IsAnswer}
-use Rattle.solver.specs.declared.answer.Answer.{Answer}
-use Rattle.axiom_core.specs.Chosen.{Choice, taken}
-use Rattle.axiom_core.specs.ModelWith.{model_with}
+use Rattle.pc_syntax.specs.{Written.{WrittenModel}, Observable.{axioms_of}, Expansion.{expansion_of}, Closing.{closing_of}, Closed.{closed_satisfies}}
+use Rattle.pc_ground.specs.{declared.{front.Front.{Front}, version.Version.TheVariants.{One}}, Tree.{Tree}, Rows.{rows_of}, GroundTree.{closed_ground_tree}}
+use Rattle.pc_ground.{specs.{NodeForm.{names_of}, Stages.{plain_stage, plain_axioms}}, proofs.KeptTrees.{closed_tree}}
+use Rattle.pc_front.{specs.{ModelFront.{closed_axiom}, Front.{ArePartsOf, IsFrontOf}}, proofs.{FrontLaws.{satisfied_alike}, PartsOf.{no_name_fault}}}
+use Rattle.solver.specs.{Answers.{IsAnswer}, declared.answer.Answer.{Answer}}
+use Rattle.axiom_core.{specs.{Chosen.{Choice, taken}, ModelWith.{model_with}, Cores.{IsFrontWith}}, proofs.Taking.{map_taken}}
+use Rattle.axiom_core.proofs.{AxiomsWith.{axioms_with, macros_with}, Faultless.{faultless_with}}
 use Rattle.search_trait.specs.Found.{IsFound}
-use Rattle.axiom_core.specs.Cores.{IsFrontWith}
-use Rattle.axiom_core.proofs.Taking.{map_taken}
-use Rattle.axiom_core.proofs.AxiomsWith.{axioms_with, macros_with}
-use Rattle.axiom_core.proofs.Faultless.{faultless_with}
 use Rattle.command_base.proofs.AskedAlike.{same_tree}
-use Rattle.verdicts.specs.Verdicts.{IsVerdict, IsWritable, status_of}
-use Rattle.verdicts.specs.Certified.{IsCertified}
-use Rattle.verdicts.proofs.VerdictTexts.{verdict_certified}
+use Rattle.verdicts.{specs.{Verdicts.{IsVerdict, IsWritable, status_of}, Certified.{IsCertified}}, proofs.VerdictTexts.{verdict_certified}}
 use Rattle.verdicts.proofs.FrontVerdicts.{verdict_writable}
 use Rattle.core_command.specs.Found.{certificate_text}
 

@@ -1,25 +1,14 @@
 -- The answer of `core` to two files, and the status that is due.
 use Rattle.std.specs.Prelude.{◌≡◌, ℕ, List, [], ◌∷◌, length, Contains, Result}
-use Rattle.pc_common.specs.Outside.{FilesView}
-use Rattle.pc_common.specs.Case.{Case}
-use Rattle.pc_common.specs.declared.fault.InputFault.{InputFault}
-use Rattle.pc_common.specs.declared.status.Status.{Status}
+use Rattle.pc_common.specs.{Outside.{FilesView}, Case.{Case}, declared.{fault.InputFault.{InputFault}, status.Status.{Status}}}
 use Rattle.pc_common.specs.declared.status.Status.TheVariants.{Observable as is_observable, Unobservable as is_unobservable, Done}
-use Rattle.pc_syntax.specs.Written.{WrittenModel}
-use Rattle.pc_syntax.specs.Observable.{axioms_of, Observable}
+use Rattle.pc_syntax.specs.{Written.{WrittenModel}, Observable.{axioms_of, Observable}}
 use Rattle.pc_ground.specs.declared.version.Version.TheVariants.{One}
-use Rattle.axiom_core.specs.Chosen.{Choice, among, less, AreRising}
-use Rattle.axiom_core.specs.ModelWith.{model_with}
-use Rattle.command_base.specs.declared.inputs.Inputs.{Inputs as CodeInputs}
-use Rattle.command_base.specs.declared.ending.Ending.{Ending}
-use Rattle.command_base.specs.Inputs.{Inputs, Contents, plain_inputs}
-use Rattle.command_base.specs.Endings.{HasOutcome}
-use Rattle.command_base.specs.Outcomes.{IsFilesOutcome}
-use Rattle.command_base.specs.FileAnswers.{AnswersFiles, IsDueOfFiles}
+use Rattle.axiom_core.specs.{Chosen.{Choice, among, less, AreRising}, ModelWith.{model_with}}
+use Rattle.command_base.specs.{declared.{inputs.Inputs.{Inputs as CodeInputs}, ending.Ending.{Ending}}, Inputs.{Inputs, Contents, plain_inputs}}
+use Rattle.command_base.specs.{Endings.{HasOutcome}, Outcomes.{IsFilesOutcome}, FileAnswers.{AnswersFiles, IsDueOfFiles}}
 use Rattle.verdicts.specs.Certified.{IsCertified}
-use Rattle.core_command.specs.declared.command.FoundCore.{FoundCore}
-use Rattle.core_command.specs.CoreTexts.{no_core_text, core_text}
-use Rattle.core_command.specs.Found.{found_text}
+use Rattle.core_command.specs.{declared.command.FoundCore.{FoundCore}, CoreTexts.{no_core_text, core_text}, Found.{found_text}}
 
 -- the axioms of these numbers, counted from 0, make the outcome unobservable, and without any one of them the others don't
 pub record IsMinimalSet (m : WrittenModel) (c : Case) (numbers : List ℕ) : Type 0 where

@@ -1,7 +1,5 @@
 -- The text of a core, by the texts of the certificates in it.
-use Rattle.std.specs.Prelude.{ℕ, List, [], ◌∷◌, ◌++◌, codes, length}
-use Rattle.std.specs.List.{flat_map}
-use Rattle.std.specs.Fmt.{decimal}
+use Rattle.std.specs.{Prelude.{ℕ, List, [], ◌∷◌, ◌++◌, codes, length}, List.{flat_map}, Fmt.{decimal}}
 
 -- a word and a number
 abbrev pub numbered_line : List ℕ → ℕ → List ℕ

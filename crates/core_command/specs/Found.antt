@@ -1,18 +1,12 @@
 -- The code's core with its front, and its text.
 use Rattle.std.specs.Prelude.{◌≡◌, ℕ, List, length, map, All}
-use Rattle.pc_common.specs.World.{Node}
-use Rattle.pc_common.specs.Steps.{Step}
-use Rattle.pc_ground.specs.declared.front.Front.{Front}
-use Rattle.pc_ground.specs.declared.version.Version.TheVariants.{One}
-use Rattle.pc_ground.specs.NodeForm.{names_of}
+use Rattle.pc_common.specs.{World.{Node}, Steps.{Step}}
+use Rattle.pc_ground.specs.{declared.{front.Front.{Front}, version.Version.TheVariants.{One}}, NodeForm.{names_of}}
 use Rattle.graph_text.specs.declared.graph.Graph.{Graph}
-use Rattle.solver.specs.declared.answer.Answer.{Answer}
-use Rattle.solver.specs.declared.answer.Answer.TheVariants.{Observable as a_graph, Unobservable as a_refutation}
-use Rattle.axiom_core.specs.declared.answer.Core.{Core}
-use Rattle.axiom_core.specs.declared.answer.Core.TheVariants.{None as no_axioms, Minimal}
+use Rattle.solver.specs.declared.answer.Answer.{Answer, TheVariants.{Observable as a_graph, Unobservable as a_refutation}}
+use Rattle.axiom_core.specs.declared.answer.Core.{Core, TheVariants.{None as no_axioms, Minimal}}
 use Rattle.verdicts.specs.Verdicts.{verdict_text, IsWritable}
-use Rattle.core_command.specs.declared.command.FoundCore.{FoundCore}
-use Rattle.core_command.specs.CoreTexts.{no_core_text, core_text}
+use Rattle.core_command.specs.{declared.command.FoundCore.{FoundCore}, CoreTexts.{no_core_text, core_text}}
 
 -- the certificate of what the search finds of a front
 abbrev pub certificate_text : Front → Answer → List ℕ

@@ -1,6 +1,6 @@
 //! Two hundred axioms, of which two matter.
 use example_texts::TWO_FORBIDDEN;
-use memory_runs::{ends_over, joined};
+use memory_runs::{ends_over, join_pieces};
 use pc_common::Status;
 use std::test::Fail;
 
@@ -51,7 +51,7 @@ end
 
 #[test]
 fn two_of_two_hundred_axioms_matter(rt: HostRuntime) -> Result<(), Fail> {
-    let model = joined(rt.alloc(), TWO_HUNDRED)?;
+    let model = join_pieces(rt.alloc(), TWO_HUNDRED)?;
     let contents = &[("model", model.as_str()), ("test", TWO_FORBIDDEN)];
     let end = (Status::Done, CORE);
     assert!(rt; ends_over(rt.alloc(), "core model test", contents, (&[], &[]), end)?);

@@ -1,6 +1,6 @@
 //! The certificates of a core are those that check writes for the models of just those axioms.
 use example_texts::STORE_BUFFERING;
-use memory_runs::{joined, written};
+use memory_runs::{join_pieces, output_of};
 use pc_common::Memory;
 use std::alloc::Global;
 use std::test::Fail;
@@ -28,9 +28,9 @@ const MODEL: &[(&'static str, usize)] = &[(STAGES, 1), (PATH, 1), (ORDER, 1), (R
 
 /// What a command writes for a model in pieces, and store buffering.
 fn written_of(alloc: Global, command: &str, pieces: &[(&str, usize)]) -> Result<Vec<u8>, Memory> {
-    let model = joined(alloc, pieces)?;
+    let model = join_pieces(alloc, pieces)?;
     let contents = &[("model", model.as_str()), ("test", STORE_BUFFERING)];
-    written(alloc, command, contents)
+    output_of(alloc, command, contents)
 }
 
 /// A line, and the model whose certificate follows.

@@ -20,7 +20,7 @@ fn values(word: &'static str, first: Value, again: Value) -> Told {
 }
 
 /// What tests compare of a fault. `FaultKind` has no `==`, which only they would call.
-pub fn told(kind: FaultKind) -> Told {
+pub fn tell_fault(kind: FaultKind) -> Told {
     match kind {
         FaultKind::TooLarge { limit } => number("too-large", limit),
         FaultKind::Lexical => word("lexical"),

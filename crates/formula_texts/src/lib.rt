@@ -17,6 +17,6 @@ mod showing;
 mod written;
 
 pub use closed::show_closed;
-pub use faults::{Told, told};
-pub use pieces::{Pieces, joined, put, put_number};
+pub use faults::{Told, tell_fault};
+pub use pieces::{Pieces, join_pieces, put, put_number};
 pub use written::show;

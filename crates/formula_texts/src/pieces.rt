@@ -18,7 +18,7 @@ pub fn put_number(text: &mut Vec<u8>, number: u64) -> Result<(), Memory> {
 }
 
 /// The text of the pieces.
-pub fn joined(alloc: Global, pieces: &[(&'static str, usize)]) -> Result<Vec<u8>, Memory> {
+pub fn join_pieces(alloc: Global, pieces: &[(&'static str, usize)]) -> Result<Vec<u8>, Memory> {
     let mut text = Vec::new(alloc);
     for (piece, times) in pieces {
         for _ in 0..*times {

@@ -1,25 +1,16 @@
 -- The outcome of `gen`: what its answer says, and that it is due.
 use Rattle.std.proofs.Common.{◌≡◌, ℕ, List, refl, sym, subst}
-use Rattle.pc_common.specs.Outside.{FilesView}
-use Rattle.pc_common.specs.Case.{Case}
-use Rattle.pc_common.specs.declared.fault.InputFault.{InputFault}
-use Rattle.pc_common.specs.declared.status.Status.{Status}
+use Rattle.pc_common.specs.{Outside.{FilesView}, Case.{Case}, declared.{fault.InputFault.{InputFault}, status.Status.{Status}}}
 use Rattle.pc_common.specs.declared.status.Status.TheVariants.{Done, Usage, Refused, ReadFault, Memory}
 use Rattle.pc_syntax.specs.Written.{WrittenModel}
 use Rattle.litmus_reader.specs.Answer.{CaseOf}
 use Rattle.pc_front.specs.Front.{IsFirstFrontFault as IsTestFault}
 use Rattle.cert_check.specs.Verdicts.{plain_verdict}
-use Rattle.gen_command.specs.Ring.{ring_model, ring_test}
-use Rattle.command_base.specs.declared.ending.Ending.{Ending}
-use Rattle.command_base.specs.declared.ending.Ending.TheVariants.{ReadFault as a_read_fault, Memory as a_memory, Refused as a_refusal}
-use Rattle.command_base.specs.Endings.{ending_status, ending_text, bytes_of, IsBytesEnding}
-use Rattle.command_base.specs.Outcomes.{IsOutcome}
-use Rattle.command_base.proofs.InputsRead.{refusal_is, reads_none}
-use Rattle.command_base.proofs.TestForm.{test_form}
-use Rattle.gen_command.specs.declared.report.Report.{Report}
-use Rattle.gen_command.specs.Texts.{SaysRing, IsRingFault, ring_text}
-use Rattle.gen_command.specs.Reports.{report_text}
+use Rattle.gen_command.specs.{Ring.{ring_model, ring_test}, declared.report.Report.{Report}, Texts.{SaysRing, IsRingFault, ring_text}, Reports.{report_text}}
 use Rattle.gen_command.specs.GenAnswers.{IsRingReport, AnswersGen, refused_ring, reported_ring, IsGenDue, IsGenOutcome}
+use Rattle.command_base.specs.declared.ending.Ending.{Ending, TheVariants.{ReadFault as a_read_fault, Memory as a_memory, Refused as a_refusal}}
+use Rattle.command_base.specs.{Endings.{ending_status, ending_text, bytes_of, IsBytesEnding}, Outcomes.{IsOutcome}}
+use Rattle.command_base.proofs.{InputsRead.{refusal_is, reads_none}, TestForm.{test_form}}
 
 done_no_usage : Done ≡ Usage → ⊥
 done_no_usage e = cc

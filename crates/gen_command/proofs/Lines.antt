@@ -1,9 +1,6 @@
 -- The text of a line by its pieces, and the lines of one core more.
-use Rattle.std.proofs.Common.{arith, ◌≡◌, ℕ, zero, suc, ◌+◌, List, ◌++◌, Result, OnOk, sym, ◌∙◌, ap, append_assoc}
-use Rattle.std.proofs.lemmas.List.{append-nil}
-use Rattle.std.specs.Prelude.{codes}
-use Rattle.std.specs.Fmt.{decimal}
-use Rattle.std.specs.List.{flat_map, range_with_len}
+use Rattle.std.proofs.{Common.{arith, ◌≡◌, ℕ, zero, suc, ◌+◌, List, ◌++◌, Result, OnOk, sym, ◌∙◌, ap, append_assoc}, lemmas.List.{append-nil}}
+use Rattle.std.specs.{Prelude.{codes}, Fmt.{decimal}, List.{flat_map, range_with_len}}
 use Rattle.gen_command.specs.Ring.{op_line, core_lines}
 
 grouped : (a b c d e f g h i j k : List ℕ)

@@ -1,41 +1,21 @@
 -- The report on the ring's front says what is found of its model and its case.
-use Rattle.std.proofs.Common.{◌≡◌, ℕ, List, length, refl, sym, ◌∙◌, ap, subst}
-use Rattle.std.specs.Prelude.{Result}
-use Rattle.pc_common.specs.Case.{Case}
-use Rattle.pc_common.specs.World.{Node}
-use Rattle.pc_common.specs.Lines.{Verdict as Kind, observable, unobservable}
-use Rattle.pc_common.specs.declared.status.Status.{Status}
+use Rattle.std.{proofs.Common.{◌≡◌, ℕ, List, length, refl, sym, ◌∙◌, ap, subst}, specs.Prelude.{Result}}
+use Rattle.pc_common.specs.{Case.{Case}, World.{Node}, Lines.{Verdict as Kind, observable, unobservable}, declared.status.Status.{Status}}
 use Rattle.pc_common.specs.declared.status.Status.TheVariants.{Observable as is_observable, Unobservable as is_unobservable}
 use Rattle.pc_case.specs.MicroOps.{AreMicroOps}
 use Rattle.pc_syntax.specs.Written.{WrittenModel}
-use Rattle.pc_ground.specs.declared.front.Front.{Front}
-use Rattle.pc_ground.specs.GroundTree.{ground_tree}
+use Rattle.pc_ground.specs.{declared.{front.Front.{Front}, version.Version.{Version, TheVariants.{One}}}, GroundTree.{ground_tree}, Refutes.{IsRefutation}}
 use Rattle.litmus_reader.specs.Answer.{CaseOf}
 use Rattle.pc_front.specs.Front.{IsFrontOf, IsFirstFrontFault as IsTestFault}
-use Rattle.pc_ground.specs.declared.version.Version.{Version}
-use Rattle.pc_ground.specs.declared.version.Version.TheVariants.{One}
-use Rattle.pc_ground.specs.Refutes.{IsRefutation}
-use Rattle.solver.specs.Answers.{IsAnswer}
-use Rattle.solver.specs.declared.answer.Answer.{Answer as Found}
-use Rattle.solver.specs.declared.answer.Answer.TheVariants.{Observable as a_graph, Unobservable as a_refutation}
-use Rattle.cert_check.specs.Certificates.{certificate_lines, tree_lines}
-use Rattle.cert_check.specs.Verdicts.{plain_verdict}
-use Rattle.gen_command.specs.Ring.{ring_model, ring_test}
-use Rattle.command_base.specs.declared.ending.Ending.{Ending}
-use Rattle.command_base.specs.SecondFiles.{SaysFront}
-use Rattle.command_base.specs.Endings.{ReturnsFront}
-use Rattle.verdicts.specs.declared.verdict.Verdict.{Verdict}
-use Rattle.gen_command.specs.declared.report.Report.{Report}
-use Rattle.command_base.specs.Questions.{question_by}
-use Rattle.verdicts.specs.Certified.{IsCertified, seen, unseen}
-use Rattle.verdicts.specs.Verdicts.{IsVerdict, status_of, kind_of_found, verdict_text}
-use Rattle.gen_command.specs.Summaries.{IsTrueVerdict, IsCounted, of_graph, of_tree, IsSummary}
-use Rattle.verdicts.specs.StepCounts.{splits_found, leaves_found}
-use Rattle.gen_command.specs.Reports.{IsReport}
-use Rattle.gen_command.specs.GenAnswers.{IsRingReport}
-use Rattle.verdicts.proofs.CertifiedTruth.{certified_true}
+use Rattle.solver.specs.{Answers.{IsAnswer}, declared.answer.Answer.{Answer as Found, TheVariants.{Observable as a_graph, Unobservable as a_refutation}}}
+use Rattle.cert_check.specs.{Certificates.{certificate_lines, tree_lines}, Verdicts.{plain_verdict}}
+use Rattle.gen_command.specs.{Ring.{ring_model, ring_test}, declared.report.Report.{Report}, Summaries.{IsTrueVerdict, IsCounted, of_graph, of_tree, IsSummary}}
+use Rattle.gen_command.specs.{Reports.{IsReport}, GenAnswers.{IsRingReport}}
+use Rattle.command_base.specs.{declared.ending.Ending.{Ending}, SecondFiles.{SaysFront}, Endings.{ReturnsFront}, Questions.{question_by}}
+use Rattle.verdicts.specs.{declared.verdict.Verdict.{Verdict}, Certified.{IsCertified, seen, unseen}}
+use Rattle.verdicts.specs.{Verdicts.{IsVerdict, status_of, kind_of_found, verdict_text}, StepCounts.{splits_found, leaves_found}}
+use Rattle.verdicts.proofs.{CertifiedTruth.{certified_true}, VerdictTexts.{verdict_certified}}
 use Rattle.search_trait.proofs.FoundFronts.{front_numbered}
-use Rattle.verdicts.proofs.VerdictTexts.{verdict_certified}
 
 -- what is said of these bytes is said of those
 pub front_moved : (r : Result Front Ending) (mb tb model test : List ℕ) → mb ≡ model → tb ≡ test

@@ -1,7 +1,5 @@
 -- The six lines by their pieces.
-use Rattle.std.proofs.Common.{◌≡◌, ℕ, List, ◌++◌, append_assoc}
-use Rattle.std.specs.Prelude.{codes}
-use Rattle.std.specs.Fmt.{decimal}
+use Rattle.std.{proofs.Common.{◌≡◌, ℕ, List, ◌++◌, append_assoc}, specs.{Prelude.{codes}, Fmt.{decimal}}}
 use Rattle.pc_common.specs.Lines.{Verdict, verdict_text}
 use Rattle.gen_command.specs.Texts.{ring_text}
 

@@ -1,11 +1,6 @@
 -- The two texts of a ring are short.
-use Rattle.std.proofs.Common.{◌≡◌, ℕ, zero, suc, ◌<◌, ◌≤◌, ◌+◌, ◌*◌, ◌%◌, List, ◌++◌, length, arith}
-use Rattle.std.proofs.lemmas.List.{length-append}
-use Rattle.std.proofs.lemmas.Fmt.{length-decimal-le_succ}
-use Rattle.std.proofs.Math.Nat.{mod-le}
-use Rattle.std.specs.Prelude.{codes}
-use Rattle.std.specs.Fmt.{decimal}
-use Rattle.std.specs.List.{flat_map, range_with_len}
+use Rattle.std.proofs.{Common.{◌≡◌, ℕ, zero, suc, ◌<◌, ◌≤◌, ◌+◌, ◌*◌, ◌%◌, List, ◌++◌, length, arith}, lemmas.List.{length-append}}
+use Rattle.std.{proofs.{lemmas.Fmt.{length-decimal-le_succ}, Math.Nat.{mod-le}}, specs.{Prelude.{codes}, Fmt.{decimal}, List.{flat_map, range_with_len}}}
 use Rattle.pc_front.specs.declared.limits.TheConstants.{MAX_FILE}
 use Rattle.gen_command.specs.Ring.{op_line, core_lines, ring_test}
 

@@ -1,20 +1,12 @@
 -- The answer of `gen`, and the status that is due.
 use Rattle.std.specs.Prelude.{◌≡◌, ◌≢◌, ℕ, List, Result}
-use Rattle.pc_common.specs.Case.{Case}
-use Rattle.pc_common.specs.Lines.{Verdict}
-use Rattle.pc_common.specs.declared.fault.InputFault.{InputFault}
-use Rattle.pc_common.specs.declared.status.Status.{Status}
+use Rattle.pc_common.specs.{Case.{Case}, Lines.{Verdict}, declared.{fault.InputFault.{InputFault}, status.Status.{Status}}}
 use Rattle.pc_common.specs.declared.status.Status.TheVariants.{Done, Usage, Refused, ReadFault, Memory}
 use Rattle.pc_syntax.specs.Written.{WrittenModel}
 use Rattle.cert_check.specs.Verdicts.{plain_verdict}
-use Rattle.gen_command.specs.Ring.{ring_model, ring_test}
-use Rattle.command_base.specs.Refusals.{refused_text}
-use Rattle.command_base.specs.declared.ending.Ending.{Ending}
-use Rattle.command_base.specs.Endings.{bytes_of, HasOutcome}
-use Rattle.gen_command.specs.declared.report.Report.{Report}
-use Rattle.gen_command.specs.Reports.{report_text}
-use Rattle.gen_command.specs.Texts.{SaysRing, IsRingFault, ring_text}
+use Rattle.gen_command.specs.{Ring.{ring_model, ring_test}, declared.report.Report.{Report}, Reports.{report_text}, Texts.{SaysRing, IsRingFault, ring_text}}
 use Rattle.gen_command.specs.Summaries.{IsSummary}
+use Rattle.command_base.specs.{Refusals.{refused_text}, declared.ending.Ending.{Ending}, Endings.{bytes_of, HasOutcome}}
 
 -- the report says what is found of the model and the case of the ring
 pub record IsRingReport (n : ℕ) (r : Report) : Type 0 where

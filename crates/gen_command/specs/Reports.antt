@@ -1,11 +1,8 @@
 -- The code's report, what it is of, and its text.
 use Rattle.std.specs.Prelude.{◌≡◌, ℕ, List, length}
 use Rattle.cert_check.specs.Verdicts.{plain_verdict}
-use Rattle.verdicts.specs.declared.verdict.Verdict.{Verdict}
-use Rattle.gen_command.specs.declared.report.Report.{Report}
-use Rattle.verdicts.specs.Verdicts.{kind_of_found}
-use Rattle.verdicts.specs.StepCounts.{splits_found, leaves_found}
-use Rattle.gen_command.specs.Texts.{ring_text}
+use Rattle.verdicts.specs.{declared.verdict.Verdict.{Verdict}, Verdicts.{kind_of_found}, StepCounts.{splits_found, leaves_found}}
+use Rattle.gen_command.specs.{declared.report.Report.{Report}, Texts.{ring_text}}
 
 -- the report of what was found of the ring of n cores
 pub record IsReport (n : ℕ) (v : Verdict) (r : Report) : Type 0 where

@@ -1,7 +1,5 @@
 -- The ring: a model of one stage, and a test in which each core reads what the next one writes.
-use Rattle.std.specs.Prelude.{ℕ, ◌+◌, ◌*◌, ◌%◌, List, ◌++◌, codes}
-use Rattle.std.specs.List.{flat_map, range_with_len}
-use Rattle.std.specs.Fmt.{decimal}
+use Rattle.std.specs.{Prelude.{ℕ, ◌+◌, ◌*◌, ◌%◌, List, ◌++◌, codes}, List.{flat_map, range_with_len}, Fmt.{decimal}}
 
 -- the stage, and the axiom that a core's micro-ops keep program order
 abbrev pub program_order : List ℕ

@@ -1,13 +1,9 @@
 -- What is reported of a model and a case: the verdict, the number of nodes, and the numbers of lines of one
 -- certificate.
 use Rattle.std.specs.Prelude.{◌≡◌, ℕ, List, length}
-use Rattle.pc_common.specs.Case.{Case}
-use Rattle.pc_common.specs.Lines.{Line, Verdict, observable, unobservable}
-use Rattle.pc_syntax.specs.Written.{WrittenModel}
-use Rattle.pc_syntax.specs.Observable.{Observable}
-use Rattle.pc_ground.specs.GroundTree.{ground_tree}
-use Rattle.pc_ground.specs.Numbers.{numbered}
-use Rattle.pc_ground.specs.declared.version.Version.TheVariants.{One}
+use Rattle.pc_common.specs.{Case.{Case}, Lines.{Line, Verdict, observable, unobservable}}
+use Rattle.pc_syntax.specs.{Written.{WrittenModel}, Observable.{Observable}}
+use Rattle.pc_ground.specs.{GroundTree.{ground_tree}, Numbers.{numbered}, declared.version.Version.TheVariants.{One}}
 use Rattle.cert_check.specs.Certificates.{IsGraphCertificate, IsTreeCertificate}
 use Rattle.command_base.specs.Questions.{question_by}
 use Rattle.verdicts.specs.StepCounts.{splits_of, leaves_of}

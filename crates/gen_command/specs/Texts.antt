@@ -1,9 +1,6 @@
 -- What the two texts that `gen` makes say, and the six lines of its answer.
-use Rattle.std.specs.Prelude.{ℕ, List, ◌++◌, codes}
-use Rattle.std.specs.Fmt.{decimal}
-use Rattle.pc_common.specs.Case.{Case}
-use Rattle.pc_common.specs.Lines.{Verdict, verdict_text}
-use Rattle.pc_common.specs.declared.fault.InputFault.{InputFault}
+use Rattle.std.specs.{Prelude.{ℕ, List, ◌++◌, codes}, Fmt.{decimal}}
+use Rattle.pc_common.specs.{Case.{Case}, Lines.{Verdict, verdict_text}, declared.fault.InputFault.{InputFault}}
 use Rattle.pc_syntax.specs.Written.{WrittenModel}
 use Rattle.litmus_reader.specs.Answer.{CaseOf}
 use Rattle.pc_front.specs.Front.{SaysModel, IsFirstFrontFault as IsFaultOf}

@@ -2,7 +2,7 @@
 ghost use Rattle.std.specs.Prelude.{◌≤◌};
 
 use cert_check::{Checked, check_text};
-use memory_runs::{are_failures_reported, ends_over, written};
+use memory_runs::{are_failures_reported, ends_over, output_of};
 use pc_common::{Memory, Status};
 use pc_ground::Front;
 use pipecheck_run::{front, gen_texts};
@@ -123,7 +123,7 @@ fn is_refuted(
         return Ok(false);
     };
     let contents = &[("model", model), ("test", test)];
-    let written = written(alloc, "check model test", contents)?;
+    let written = output_of(alloc, "check model test", contents)?;
     Ok(is_accepted_of(alloc, texts, &written, expected))
 }
 

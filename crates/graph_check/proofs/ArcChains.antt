@@ -1,19 +1,12 @@
 -- The edges of a graph by the numbers of their ends: one more of them, and their chains.
 use Rattle.std.proofs.Common.{◌≡◌, ℕ, ◌+◌, ◌<◌, ◌⊎◌, inl, inr, List, [], ◌∷◌, ◌++◌, Some, length, map, take, slice_get, sym, ◌∙◌, ap, subst, arith}
-use Rattle.std.specs.Prelude.{Contains, ◌↔◌}
-use Rattle.std.proofs.lemmas.Option.{slice_get_within, slice_get-get_or, get_or_from_slice_get}
-use Rattle.pc_common.specs.World.{Node, Edge}
-use Rattle.pc_common.specs.Chain.{Leads, Chain, Acyclic}
-use Rattle.pc_common.specs.Generated.{IsListed, HasEnds}
-use Rattle.pc_common.proofs.Elements.{in_from_contains}
+use Rattle.std.{proofs.lemmas.Option.{slice_get_within, slice_get-get_or, get_or_from_slice_get}, specs.Prelude.{Contains, ◌↔◌}}
+use Rattle.pc_common.{specs.{World.{Node, Edge}, Chain.{Leads, Chain, Acyclic}, Generated.{IsListed, HasEnds}}, proofs.Elements.{in_from_contains}}
 use Rattle.pc_common.proofs.Places.{at_map, one_item}
-use Rattle.pc_ground.specs.declared.node_key.NodeKey.{NodeKey}
-use Rattle.pc_ground.specs.Numbers.{IsNumberOf, AreDistinct}
+use Rattle.pc_ground.specs.{declared.node_key.NodeKey.{NodeKey}, Numbers.{IsNumberOf, AreDistinct}}
 use Rattle.graph_text.specs.Graphs.{key_edge}
 use Rattle.static_preds.proofs.Walked.{map_take}
-use Rattle.graph_check.specs.Arcs.{Arcs, Joins, AreLinked}
-use Rattle.graph_check.specs.Orders.{AreNotNumbered, AreArcsOf}
-use Rattle.graph_check.proofs.Numbers.{numbered_there, number_of, one_more}
+use Rattle.graph_check.{specs.{Arcs.{Arcs, Joins, AreLinked}, Orders.{AreNotNumbered, AreArcsOf}}, proofs.Numbers.{numbered_there, number_of, one_more}}
 
 -- the edges of es and the one from a to b
 edges_more : (es : List Edge) (a b x y : Node) → IsListed (es ++ (a, b) ∷ []) x y ↔ (IsListed es x y ⊎ ((x ≡ a) × (y ≡ b)))

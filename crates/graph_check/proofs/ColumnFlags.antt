@@ -1,19 +1,9 @@
 -- The flags of what leads to a node, worked out in a topological order, and the columns that are kept.
 use Rattle.std.proofs.Common.{◌≡◌, ℕ, zero, suc, ◌+◌, ◌-◌, ◌<◌, ◌≤◌, ◌⊎◌, inl, inr, Bool, true, false, List, [], ◌∷◌, ◌++◌, Some, length, set, take, get_or, slice_get, refl, sym, ◌∙◌, ap, subst, arith}
-use Rattle.std.specs.Prelude.{◌↔◌, slice_index}
-use Rattle.std.specs.Global.{Vec}
-use Rattle.std.proofs.lemmas.Bool.{cases_eq}
-use Rattle.std.proofs.lemmas.List.{get_or-set_same, get_or-set_other, length-set, take_all}
-use Rattle.std.proofs.lemmas.Option.{slice_get_read, get_or_from_slice_get}
-use Rattle.std.proofs.lemmas.Grind.{get_or_default_zero}
-use Rattle.pc_common.specs.Chain.{Leads, Chain, Acyclic}
-use Rattle.pc_common.proofs.Elements.{In}
-use Rattle.pc_common.proofs.Bools.{not_both}
-use Rattle.pc_common.proofs.Places.{slice_get-more, get_last, one_item}
-use Rattle.graph_check.specs.Arcs.{Arcs, Joins}
-use Rattle.graph_check.specs.Searches.{IsTopological}
-use Rattle.graph_check.specs.Columns.{is_set, IsColumn, AreColumns}
-use Rattle.graph_check.specs.declared.columns.Columns.{Columns}
+use Rattle.std.proofs.lemmas.{Bool.{cases_eq}, List.{get_or-set_same, get_or-set_other, length-set, take_all}, Option.{slice_get_read, get_or_from_slice_get}}
+use Rattle.std.{proofs.lemmas.Grind.{get_or_default_zero}, specs.{Prelude.{◌↔◌, slice_index}, Global.{Vec}}}
+use Rattle.pc_common.{specs.Chain.{Leads, Chain, Acyclic}, proofs.{Elements.{In}, Bools.{not_both}, Places.{slice_get-more, get_last, one_item}}}
+use Rattle.graph_check.specs.{Arcs.{Arcs, Joins}, Searches.{IsTopological}, Columns.{is_set, IsColumn, AreColumns}, declared.columns.Columns.{Columns}}
 
 -- a chain is one edge, or an edge and a chain
 first_step : (v : Arcs) (a b : ℕ) → Chain (Joins v) a b → (c : ℕ) × Joins v a c × ((c ≡ b) ⊎ Chain (Joins v) c b)

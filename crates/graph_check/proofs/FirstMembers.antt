@@ -1,18 +1,11 @@
 -- Lists of which the first k members are judged, and their next member.
 use Rattle.std.proofs.Common.{◌≡◌, ℕ, ◌+◌, ◌<◌, Bool, true, false, ◌&&◌, ◌||◌, List, [], ◌∷◌, ◌++◌, Some, get_or, length, drop, slice_get, refl, sym, ◌∙◌, ap}
-use Rattle.std.specs.List.{list_all, list_any}
-use Rattle.std.proofs.lemmas.Option.{slice_get-get_or}
-use Rattle.pc_common.specs.Case.{Case}
-use Rattle.pc_common.specs.World.{Node, World}
-use Rattle.pc_syntax.specs.declared.term.Sort.{Sort}
-use Rattle.pc_syntax.specs.declared.bound.Bound.{Bound}
-use Rattle.pc_syntax.specs.declared.closed.Closed.{Closed}
+use Rattle.std.{proofs.lemmas.Option.{slice_get-get_or}, specs.List.{list_all, list_any}}
+use Rattle.pc_common.specs.{Case.{Case}, World.{Node, World}}
+use Rattle.pc_syntax.specs.declared.{term.Sort.{Sort}, bound.Bound.{Bound}, closed.Closed.{Closed}}
 use Rattle.pc_syntax.specs.Closed.{PlainClosed, plain_closed, closed_true, closed_satisfies, meaning_of}
 use Rattle.pc_ground.specs.Stages.{plain_axioms}
-use Rattle.static_preds.specs.Slots.{bound_at}
-use Rattle.static_preds.specs.Values.{meanings}
-use Rattle.static_preds.proofs.Walked.{drop_at}
-use Rattle.static_preds.proofs.Ranges.{meanings_inside}
+use Rattle.static_preds.{specs.{Slots.{bound_at}, Values.{meanings}}, proofs.{Walked.{drop_at}, Ranges.{meanings_inside}}}
 
 -- the member that a loop is at
 pub item_at : {A : Type 0} (xs : List A) (k : ℕ) (x : A) → k < length xs → x ≡ get_or xs k x → slice_get xs k ≡ Some x

@@ -1,23 +1,12 @@
 -- The world that a graph generates, by its numbered nodes and its chains.
 use Rattle.std.proofs.Common.{◌≡◌, ℕ, Bool, true, false, List, [], refl, sym, ◌∙◌, subst}
-use Rattle.std.specs.Prelude.{Contains, ◌↔◌, Option, Some, None, MatchOption, Result, Ok, Err, IfOk}
-use Rattle.std.specs.Option.{is_some}
-use Rattle.pc_common.specs.Case.{Case}
-use Rattle.pc_common.specs.Chain.{Chain}
-use Rattle.pc_common.specs.World.{Node, Edge, World, IsWorld, has_node, has_edge, same_node}
-use Rattle.pc_common.specs.Generated.{IsListed, IsGenerated}
-use Rattle.pc_common.proofs.Nodes.{has_node_is, has_edge_is}
-use Rattle.pc_common.proofs.GeneratedWorlds.{generates, node_tells, generated_world}
+use Rattle.std.specs.{Prelude.{Contains, ◌↔◌, Option, Some, None, MatchOption, Result, Ok, Err, IfOk}, Option.{is_some}}
+use Rattle.pc_common.specs.{Case.{Case}, Chain.{Chain}, World.{Node, Edge, World, IsWorld, has_node, has_edge, same_node}, Generated.{IsListed, IsGenerated}}
+use Rattle.pc_common.proofs.{Nodes.{has_node_is, has_edge_is}, GeneratedWorlds.{generates, node_tells, generated_world}}
 use Rattle.pc_syntax.specs.Closed.{PlainClosed, closed_satisfies}
 use Rattle.pc_ground.specs.Numbers.{IsNumberOf}
-use Rattle.graph_text.specs.Graphs.{graph_nodes, graph_edges}
-use Rattle.graph_text.specs.OpenGraphs.{PlainGraph}
-use Rattle.graph_text.specs.GraphReading.{plain_graph}
-use Rattle.graph_text.specs.declared.graph.Graph.{Graph}
-use Rattle.graph_check.specs.Orders.{AreNotNumbered, IsOrdered, AreArcsOf}
-use Rattle.graph_check.specs.Arcs.{Arcs, Joins}
-use Rattle.graph_check.specs.Shown.{IsShownOf}
-use Rattle.graph_check.proofs.ArcChains.{chain_up, chain_down}
+use Rattle.graph_text.specs.{Graphs.{graph_nodes, graph_edges}, OpenGraphs.{PlainGraph}, GraphReading.{plain_graph}, declared.graph.Graph.{Graph}}
+use Rattle.graph_check.{specs.{Orders.{AreNotNumbered, IsOrdered, AreArcsOf}, Arcs.{Arcs, Joins}, Shown.{IsShownOf}}, proofs.ArcChains.{chain_up, chain_down}}
 use Rattle.graph_check.proofs.Numbers.{numbered_there, number_of}
 
 -- what an option says where it has nothing

@@ -1,12 +1,9 @@
 -- Edges that are linked to the one before them from the same node: one more, and a walk over those from one node.
 use Rattle.std.proofs.Common.{◌≡◌, ℕ, zero, suc, ◌+◌, ◌-◌, ◌<◌, ◌≤◌, ◌⊎◌, inl, inr, List, [], ◌∷◌, ◌++◌, Some, length, set, slice_get, refl, sym, ◌∙◌, ap, subst, arith}
+use Rattle.std.proofs.lemmas.{Bool.{cases_lt, cases_eq}, List.{length-append, get_or-set_same, get_or-set_other, length-set}, Option.{slice_get_within}}
 use Rattle.std.specs.Prelude.{◌↔◌, slice_index}
-use Rattle.std.proofs.lemmas.Bool.{cases_lt, cases_eq}
-use Rattle.std.proofs.lemmas.List.{length-append, get_or-set_same, get_or-set_other, length-set}
-use Rattle.std.proofs.lemmas.Option.{slice_get_within}
 use Rattle.pc_common.proofs.Places.{slice_get-more, get_last, one_item}
-use Rattle.graph_check.specs.declared.adjacency.Arc.{Arc}
-use Rattle.graph_check.specs.Arcs.{Arcs, Joins, IsOn, here, earlier, IsWalk, ComesTo, AreLinked}
+use Rattle.graph_check.specs.{declared.adjacency.Arc.{Arc}, Arcs.{Arcs, Joins, IsOn, here, earlier, IsWalk, ComesTo, AreLinked}}
 
 pub at_old : {X : Type 0} (xs : List X) (y : X) (k : ℕ) (x : X) → k < length xs → slice_get (xs ++ y ∷ []) k ≡ Some x → slice_get xs k ≡ Some x
 at_old [] y k x low e = absurd (omega (arith, low))

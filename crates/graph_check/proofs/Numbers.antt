@@ -1,15 +1,9 @@
 -- The numbers of nodes, and lists of nodes with one node more.
 use Rattle.std.proofs.Common.{◌≡◌, ℕ, ◌+◌, ◌⊎◌, inl, inr, List, [], ◌∷◌, ◌++◌, Some, map, take, slice_get, sym, ◌∙◌, ap, subst}
-use Rattle.std.specs.Prelude.{Contains, ◌↔◌}
-use Rattle.std.specs.List.{list_any}
-use Rattle.std.proofs.lemmas.Option.{slice_get_within, slice_get-get_or, get_or_from_slice_get}
-use Rattle.pc_common.specs.World.{Node, same_node}
-use Rattle.pc_common.proofs.Elements.{In, in_from_contains, contains_from_in, in_front, in_back, in_either, any_holds}
-use Rattle.pc_common.proofs.Nodes.{same_node-true}
-use Rattle.pc_common.proofs.Bools.{true_or_false}
-use Rattle.pc_ground.specs.declared.node_key.NodeKey.{NodeKey}
-use Rattle.pc_ground.specs.Keys.{key_node}
-use Rattle.pc_ground.specs.Numbers.{seen, IsNumberOf}
+use Rattle.std.{proofs.lemmas.Option.{slice_get_within, slice_get-get_or, get_or_from_slice_get}, specs.{Prelude.{Contains, ◌↔◌}, List.{list_any}}}
+use Rattle.pc_common.{specs.World.{Node, same_node}, proofs.Elements.{In, in_from_contains, contains_from_in, in_front, in_back, in_either, any_holds}}
+use Rattle.pc_common.proofs.{Nodes.{same_node-true}, Bools.{true_or_false}}
+use Rattle.pc_ground.specs.{declared.node_key.NodeKey.{NodeKey}, Keys.{key_node}, Numbers.{seen, IsNumberOf}}
 use Rattle.static_preds.proofs.Walked.{map_take}
 
 -- what has a number is there

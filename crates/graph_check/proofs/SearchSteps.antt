@@ -2,16 +2,9 @@
 use Rattle.std.proofs.Common.{◌≡◌, ℕ, ◌+◌, ◌<◌, ◌⊎◌, inl, inr, List, [], ◌∷◌, ◌++◌, Some, length, set, take, replicate, get_or, slice_get, refl, sym, ◌∙◌, ap, subst, arith}
 use Rattle.std.proofs.lemmas.Bool.{cases_eq, cases_lt}
 use Rattle.std.proofs.lemmas.List.{map-append, get_or-set_same, get_or-set_other, length-set, length-append, length-replicate, get_or-replicate, get_or_past, take-append-le, take_all}
-use Rattle.std.proofs.lemmas.List.Sums.{sum_by_push, sum_by-set}
-use Rattle.std.proofs.lemmas.Option.{slice_get_within, slice_get_read, get_or_from_slice_get}
-use Rattle.pc_common.specs.Chain.{Chain, Acyclic}
-use Rattle.pc_common.proofs.Elements.{In, in_front, in_back, in_either}
-use Rattle.pc_common.proofs.Chains.{chain_join}
-use Rattle.pc_common.proofs.Places.{get_last, one_item}
-use Rattle.graph_check.specs.declared.search.Mark.{Mark}
-use Rattle.graph_check.specs.declared.search.Mark.TheVariants.{New, Open, Done}
-use Rattle.graph_check.specs.declared.search.Visit.{Visit}
-use Rattle.graph_check.specs.Arcs.{Arcs, Joins, IsWalk, ComesTo}
+use Rattle.std.proofs.lemmas.{List.Sums.{sum_by_push, sum_by-set}, Option.{slice_get_within, slice_get_read, get_or_from_slice_get}}
+use Rattle.pc_common.{specs.Chain.{Chain, Acyclic}, proofs.{Elements.{In, in_front, in_back, in_either}, Chains.{chain_join}, Places.{get_last, one_item}}}
+use Rattle.graph_check.specs.{declared.search.{Mark.{Mark, TheVariants.{New, Open, Done}}, Visit.{Visit}}, Arcs.{Arcs, Joins, IsWalk, ComesTo}}
 use Rattle.graph_check.specs.Searches.{Progress, with_visit, mark_of, nodes_of, IsPath, IsTopological, IsSearching, steps_of, steps_left, IsFurther}
 use Rattle.graph_check.proofs.Links.{at_old, walk_done}
 

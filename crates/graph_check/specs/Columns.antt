@@ -1,9 +1,7 @@
 -- Which nodes lead to a node, for the nodes that were asked for.
-use Rattle.std.specs.Prelude.{ℕ, suc, ◌≡◌, ◌<◌, ◌↔◌, Bool, true, false, List, length, Some, slice_get, slice_index, slice_index_or}
-use Rattle.std.specs.Global.{Vec}
+use Rattle.std.specs.{Prelude.{ℕ, suc, ◌≡◌, ◌<◌, ◌↔◌, Bool, true, false, List, length, Some, slice_get, slice_index, slice_index_or}, Global.{Vec}}
 use Rattle.pc_common.specs.Chain.{Chain}
-use Rattle.graph_check.specs.Arcs.{Arcs, Joins}
-use Rattle.graph_check.specs.declared.columns.Columns.{Columns}
+use Rattle.graph_check.specs.{Arcs.{Arcs, Joins}, declared.columns.Columns.{Columns}}
 
 abbrev pub is_set : List Bool → ℕ → Bool
 is_set column x = slice_index_or column x false

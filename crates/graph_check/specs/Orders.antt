@@ -1,14 +1,9 @@
 -- The order that a graph's edges generate, over its numbered nodes.
 use Rattle.std.specs.Prelude.{◌≡◌, ◌↔◌, ℕ, List, Contains, length}
-use Rattle.pc_common.specs.World.{Node, Edge}
-use Rattle.pc_common.specs.Chain.{Acyclic}
-use Rattle.pc_common.specs.Generated.{IsListed, HasEnds}
+use Rattle.pc_common.specs.{World.{Node, Edge}, Chain.{Acyclic}, Generated.{IsListed, HasEnds}}
 use Rattle.pc_ground.specs.Numbers.{IsNumberOf, AreDistinct}
 use Rattle.graph_text.specs.OpenGraphs.{PlainGraph}
-use Rattle.graph_check.specs.Arcs.{Arcs, Joins, AreLinked}
-use Rattle.graph_check.specs.Searches.{IsTopological}
-use Rattle.graph_check.specs.Columns.{AreColumns}
-use Rattle.graph_check.specs.declared.columns.Columns.{Columns}
+use Rattle.graph_check.specs.{Arcs.{Arcs, Joins, AreLinked}, Searches.{IsTopological}, Columns.{AreColumns}, declared.columns.Columns.{Columns}}
 
 -- one of the two has no number
 abbrev pub AreNotNumbered : List Node → Node → Node → Type 0

@@ -1,13 +1,7 @@
 -- A search along the edges of numbered nodes, depth first, and the order in which it is done with them.
-use Rattle.std.specs.Prelude.{ℕ, ◌≡◌, ◌<◌, ◌⊎◌, ◌+◌, List, [], ◌∷◌, ◌++◌, length, map, take, Some, slice_get, slice_index_or}
-use Rattle.std.specs.List.{sum_by}
-use Rattle.pc_common.specs.Chain.{Chain}
-use Rattle.pc_common.specs.Elements.{In}
-use Rattle.graph_check.specs.Arcs.{Arcs, Joins, IsWalk, ComesTo}
-use Rattle.graph_check.specs.declared.search.Mark.{Mark}
-use Rattle.graph_check.specs.declared.search.Mark.TheVariants.{New, Open, Done}
-use Rattle.graph_check.specs.declared.search.Visit.{Visit}
-use Rattle.graph_check.specs.declared.search.Search.{Search}
+use Rattle.std.specs.{Prelude.{ℕ, ◌≡◌, ◌<◌, ◌⊎◌, ◌+◌, List, [], ◌∷◌, ◌++◌, length, map, take, Some, slice_get, slice_index_or}, List.{sum_by}}
+use Rattle.pc_common.specs.{Chain.{Chain}, Elements.{In}}
+use Rattle.graph_check.specs.{Arcs.{Arcs, Joins, IsWalk, ComesTo}, declared.search.{Mark.{Mark, TheVariants.{New, Open, Done}}, Visit.{Visit}, Search.{Search}}}
 
 pub record Progress : Type 0 where
   pub marks : List Mark

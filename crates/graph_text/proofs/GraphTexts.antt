@@ -1,18 +1,10 @@
 -- What the words of a line are read as.
-use Rattle.std.proofs.Common.{◌≡◌, ℕ, List, ◌∷◌, ◌++◌, Result, Ok, Err, refl, sym, ◌∙◌, ap, subst}
-use Rattle.std.specs.Prelude.{codes}
-use Rattle.pc_common.specs.World.{Node}
-use Rattle.pc_common.specs.Lines.{Names, Line, node as node_line, edge as edge_line, node_text, line_words}
-use Rattle.pc_ground.specs.declared.node_key.NodeKey.{NodeKey}
-use Rattle.pc_ground.specs.declared.line_fault.LineFault.{LineFault}
-use Rattle.pc_ground.specs.declared.line_fault.LineFault.TheVariants.{Malformed, Foreign}
-use Rattle.pc_ground.specs.Keys.{key_node}
-use Rattle.pc_ground.specs.NodeForm.{IsNodeForm, IsNodeIn, ReadsNode, Answers, AreReadable}
-use Rattle.pc_ground.specs.NodeWords.{Lacks, IsCut}
-use Rattle.pc_ground.proofs.Cuts.{cut_is}
+use Rattle.std.{proofs.Common.{◌≡◌, ℕ, List, ◌∷◌, ◌++◌, Result, Ok, Err, refl, sym, ◌∙◌, ap, subst}, specs.Prelude.{codes}}
+use Rattle.pc_common.specs.{World.{Node}, Lines.{Names, Line, node as node_line, edge as edge_line, node_text, line_words}}
+use Rattle.pc_ground.specs.{declared.{node_key.NodeKey.{NodeKey}, line_fault.LineFault.{LineFault, TheVariants.{Malformed, Foreign}}}, Keys.{key_node}}
+use Rattle.pc_ground.{specs.{NodeForm.{IsNodeForm, IsNodeIn, ReadsNode, Answers, AreReadable}, NodeWords.{Lacks, IsCut}}, proofs.Cuts.{cut_is}}
 use Rattle.graph_text.specs.GraphTexts.{space, as_node, as_edge, both_ends, IsGraphLineIn, AreEndsForm, AreEndsIn, ends_words, IsGraphForm, of_node, of_edge, ReadsLine, AnswersLine, ReadsEnds, AnswersEnds}
-use Rattle.graph_text.proofs.LinesOf.{graph_line_cases}
-use Rattle.graph_text.proofs.Spaces.{form_spaceless, words_apart, node_words_are, edge_words_are}
+use Rattle.graph_text.proofs.{LinesOf.{graph_line_cases}, Spaces.{form_spaceless, words_apart, node_words_are, edge_words_are}}
 
 -- each node of these names whose text the word is, is the one that was read
 abbrev pub IsAgain : Names → List ℕ → Result NodeKey LineFault → Type 0

@@ -1,16 +1,11 @@
 -- The nodes and edges that lines are of.
 use Rattle.std.proofs.Common.{◌≡◌, inl, inr, Bool, true, false, List, [], ◌∷◌, ◌++◌, Result, Ok, Err, map, refl, sym, ◌∙◌, ap, subst}
-use Rattle.std.specs.Prelude.{All, Contains, MatchBool, IfOk, OnErr}
-use Rattle.std.proofs.lemmas.List.{append-nil}
-use Rattle.std.proofs.lemmas.List.Elements.{All-push}
-use Rattle.pc_common.specs.World.{Node, Edge}
-use Rattle.pc_common.specs.Generated.{HasEnds}
-use Rattle.pc_common.proofs.Elements.{In, in_from_contains, contains_from_in, in_front, in_either}
+use Rattle.std.{proofs.lemmas.List.{append-nil, Elements.{All-push}}, specs.Prelude.{All, Contains, MatchBool, IfOk, OnErr}}
+use Rattle.pc_common.specs.{World.{Node, Edge}, Generated.{HasEnds}}
 use Rattle.pc_common.specs.Lines.{Names, Line, verdict, second, node as node_line, edge as edge_line, version_two, step, end}
+use Rattle.pc_common.proofs.Elements.{In, in_from_contains, contains_from_in, in_front, in_either}
 use Rattle.pc_ground.specs.NodeForm.{IsNodeIn}
-use Rattle.graph_text.specs.Graphs.{graph_lines}
-use Rattle.graph_text.specs.GraphTexts.{IsGraphLineIn}
-use Rattle.graph_text.specs.OpenGraphs.{PlainGraph, Follows, IsWithLine}
+use Rattle.graph_text.specs.{Graphs.{graph_lines}, GraphTexts.{IsGraphLineIn}, OpenGraphs.{PlainGraph, Follows, IsWithLine}}
 
 -- a graph's line is a node line or an edge line
 pub graph_line_cases : (names : Names) (P : Line → Type 0) → ((a : Node) → IsNodeIn names a → P (node_line a))

@@ -1,25 +1,13 @@
 -- Which nodes are listed, and what a line more makes of a graph.
 use Rattle.std.proofs.Common.{◌≡◌, ◌⊎◌, inl, inr, true, false, is_some, List, [], ◌∷◌, ◌++◌, map, refl, sym, ◌∙◌, ap, subst, append_assoc}
-use Rattle.std.specs.Prelude.{⊤, Contains}
-use Rattle.std.specs.List.{list_any}
-use Rattle.std.specs.Map.{keys_of, lookup}
-use Rattle.std.proofs.lemmas.List.{map_push}
-use Rattle.std.proofs.lemmas.Map.Made.{is_some-lookup}
-use Rattle.std.proofs.lemmas.List.Elements.{Contains-push, Contains-push_cases, Contains-append_left}
+use Rattle.std.proofs.lemmas.{List.{map_push, Elements.{Contains-push, Contains-push_cases, Contains-append_left}}, Map.Made.{is_some-lookup}}
+use Rattle.std.specs.{Prelude.{⊤, Contains}, List.{list_any}, Map.{keys_of, lookup}}
 use Rattle.indexmap.specs.IndexSet.{insert_key}
-use Rattle.pc_common.specs.World.{Node, Edge, same_node}
-use Rattle.pc_common.specs.Lines.{node as node_line, edge as edge_line}
-use Rattle.pc_common.specs.Generated.{IsListed}
-use Rattle.pc_common.proofs.Elements.{any_holds, holds_any, in_from_contains, contains_from_in}
-use Rattle.pc_common.proofs.Bools.{true_or_false, not_both}
+use Rattle.pc_common.specs.{World.{Node, Edge, same_node}, Lines.{node as node_line, edge as edge_line}, Generated.{IsListed}}
+use Rattle.pc_common.proofs.{Elements.{any_holds, holds_any, in_from_contains, contains_from_in}, Bools.{true_or_false, not_both}}
 use Rattle.pc_common.proofs.Nodes.{same_node-true, same_node-self}
-use Rattle.pc_ground.specs.declared.node_key.NodeKey.{NodeKey}
-use Rattle.pc_ground.specs.Keys.{key_node}
-use Rattle.pc_ground.specs.Numbers.{seen}
-use Rattle.pc_ground.proofs.Nodes.{key_eq, any_key}
-use Rattle.pc_ground.proofs.KeyNumbers.{seen_key}
-use Rattle.graph_text.specs.Graphs.{graph_lines}
-use Rattle.graph_text.specs.OpenGraphs.{IsOpen}
+use Rattle.pc_ground.{specs.{declared.node_key.NodeKey.{NodeKey}, Keys.{key_node}, Numbers.{seen}}, proofs.{Nodes.{key_eq, any_key}, KeyNumbers.{seen_key}}}
+use Rattle.graph_text.specs.{Graphs.{graph_lines}, OpenGraphs.{IsOpen}}
 
 among : (a : Node) (ns : List Node) → list_any (same_node a) ns ≡ true → Contains ns a
 among a ns h =

@@ -1,17 +1,9 @@
 -- Words with a space between.
-use Rattle.std.proofs.Common.{◌≡◌, ℕ, ◌==◌, List, [], ◌∷◌, ◌++◌, refl, ap, subst, get_or, arith, eq-eqb}
-use Rattle.std.specs.Prelude.{codes, ◌≢◌}
-use Rattle.std.specs.List.{list_any}
-use Rattle.std.proofs.lemmas.List.Elements.{All-cons}
+use Rattle.std.proofs.{Common.{◌≡◌, ℕ, ◌==◌, List, [], ◌∷◌, ◌++◌, refl, ap, subst, get_or, arith, eq-eqb}, lemmas.List.{Elements.{All-cons}, append-nil}}
+use Rattle.std.{proofs.lemmas.Bool.{or_left}, specs.{Prelude.{codes, ◌≢◌}, List.{list_any}}}
 use Rattle.line_judge.specs.Texts.{IsLine}
-use Rattle.std.proofs.lemmas.List.{append-nil}
-use Rattle.std.proofs.lemmas.Bool.{or_left}
-use Rattle.pc_common.specs.World.{Node}
-use Rattle.pc_common.specs.Lines.{Names, node as node_line, edge as edge_line, node_text, line_words}
-use Rattle.pc_common.proofs.Bools.{or_none, not_both}
-use Rattle.pc_ground.specs.NodeForm.{IsNodeForm}
-use Rattle.pc_ground.specs.NodeWords.{Lacks}
-use Rattle.pc_ground.proofs.Outside.{line_feed, a_space, form_lacks}
+use Rattle.pc_common.{specs.{World.{Node}, Lines.{Names, node as node_line, edge as edge_line, node_text, line_words}}, proofs.Bools.{or_none, not_both}}
+use Rattle.pc_ground.{specs.{NodeForm.{IsNodeForm}, NodeWords.{Lacks}}, proofs.Outside.{line_feed, a_space, form_lacks}}
 use Rattle.graph_text.specs.GraphTexts.{space, ends_words}
 
 pub has_mark : (m : ℕ) (a b : List ℕ) → Lacks m (a ++ m ∷ b) → ⊥

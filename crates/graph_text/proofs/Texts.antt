@@ -1,12 +1,8 @@
 -- The text of a graph's lines, by its nodes and edges.
-use Rattle.std.proofs.Common.{◌≡◌, List, [], ◌∷◌, ◌++◌, map, refl, sym, ◌∙◌, ap}
-use Rattle.std.specs.List.{flat_map}
-use Rattle.std.proofs.lemmas.List.Concat.{flat_map-append}
+use Rattle.std.{proofs.{Common.{◌≡◌, List, [], ◌∷◌, ◌++◌, map, refl, sym, ◌∙◌, ap}, lemmas.List.Concat.{flat_map-append}}, specs.List.{flat_map}}
 use Rattle.pc_common.specs.Lines.{Names, lines_text, line_text, node as node_line, edge as edge_line}
-use Rattle.pc_ground.specs.Keys.{key_node}
-use Rattle.pc_ground.specs.declared.node_key.NodeKey.{NodeKey}
-use Rattle.graph_text.specs.declared.graph.Graph.{Graph}
-use Rattle.graph_text.specs.Graphs.{key_edge, graph_nodes, graph_edges, graph_lines, node_line_text, edge_line_text}
+use Rattle.pc_ground.specs.{Keys.{key_node}, declared.node_key.NodeKey.{NodeKey}}
+use Rattle.graph_text.specs.{declared.graph.Graph.{Graph}, Graphs.{key_edge, graph_nodes, graph_edges, graph_lines, node_line_text, edge_line_text}}
 
 node_lines : (names : Names) (ks : List NodeKey) → flat_map (node_line_text names) ks ≡ flat_map (line_text names) (map node_line (map key_node ks))
 node_lines names [] = refl

@@ -1,23 +1,15 @@
 -- A text is the lines of one graph at most, and which line may go on from a graph's.
 use Rattle.std.proofs.Common.{◌≡◌, ◌⊎◌, ℕ, zero, suc, inl, inr, Bool, true, false, List, [], ◌∷◌, ◌++◌, Result, Ok, Err, length, map, refl, sym, ◌∙◌, ap, subst, arith, append_assoc}
-use Rattle.std.specs.Prelude.{Contains, All, codes, IfOk, MatchBool}
 use Rattle.std.proofs.lemmas.List.{map_push, append-nil}
 use Rattle.std.proofs.lemmas.List.Elements.{All-head, All-tail, All-cons, All-append, All-contains, Contains-push, Contains-push_cases, Contains-append_left}
-use Rattle.line_judge.specs.Texts.{IsLine, text_of_lines, IsMadeOf, IsRefusedAt}
-use Rattle.line_judge.specs.Feeds.{IsRefusedBy}
-use Rattle.line_judge.proofs.Cuts.{same_first}
-use Rattle.pc_common.specs.World.{Node, Edge}
-use Rattle.pc_common.specs.Lines.{Names, Line, node as node_line, edge as edge_line, node_text, line_words, line_text, lines_text}
-use Rattle.pc_common.specs.Generated.{HasEnds}
-use Rattle.pc_common.proofs.Elements.{In, contains_from_in}
-use Rattle.pc_ground.specs.NodeForm.{IsNodeIn, AreReadable}
-use Rattle.pc_ground.proofs.Cuts.{cut_is}
-use Rattle.graph_text.specs.declared.graph.Graph.{Graph}
-use Rattle.graph_text.specs.Graphs.{graph_nodes, graph_edges, graph_lines}
-use Rattle.graph_text.specs.GraphTexts.{space, IsGraphLineIn, AreEndsIn, ends_words}
-use Rattle.graph_text.specs.OpenGraphs.{PlainGraph, Follows, Takes, Refuses}
-use Rattle.graph_text.specs.LawsOfGraphs.{heads, tails, no_lines}
-use Rattle.graph_text.specs.GraphReading.{IsGraphIn, AreLinesOf, AreGraphLines, IsTakenBy, IsTextOf, plain_graph}
+use Rattle.std.specs.Prelude.{Contains, All, codes, IfOk, MatchBool}
+use Rattle.line_judge.{specs.{Texts.{IsLine, text_of_lines, IsMadeOf, IsRefusedAt}, Feeds.{IsRefusedBy}}, proofs.Cuts.{same_first}}
+use Rattle.pc_common.specs.{World.{Node, Edge}, Lines.{Names, Line, node as node_line, edge as edge_line, node_text, line_words, line_text, lines_text}}
+use Rattle.pc_common.{specs.Generated.{HasEnds}, proofs.Elements.{In, contains_from_in}}
+use Rattle.pc_ground.{specs.NodeForm.{IsNodeIn, AreReadable}, proofs.Cuts.{cut_is}}
+use Rattle.graph_text.specs.{declared.graph.Graph.{Graph}, Graphs.{graph_nodes, graph_edges, graph_lines}}
+use Rattle.graph_text.specs.{GraphTexts.{space, IsGraphLineIn, AreEndsIn, ends_words}, OpenGraphs.{PlainGraph, Follows, Takes, Refuses}}
+use Rattle.graph_text.specs.{LawsOfGraphs.{heads, tails, no_lines}, GraphReading.{IsGraphIn, AreLinesOf, AreGraphLines, IsTakenBy, IsTextOf, plain_graph}}
 use Rattle.graph_text.proofs.LinesOf.{graph_line_cases, nodes_in, edges_in, nodes_are, edges_are, nodes_with, edges_with}
 use Rattle.graph_text.proofs.Spaces.{form_spaceless, form_on_one_line, lacking_on_line, words_apart, node_words_are, edge_words_are}
 

@@ -1,14 +1,10 @@
 -- The lines of a whole graph, and what reading them answers.
 use Rattle.std.specs.Prelude.{ℕ, ◌≡◌, List, All, Result, Ok, Err, map, ⊤}
-use Rattle.pc_common.specs.Lines.{Names, line_words, lines_text}
-use Rattle.pc_common.specs.Generated.{HasEnds}
+use Rattle.pc_common.specs.{Lines.{Names, line_words, lines_text}, Generated.{HasEnds}}
 use Rattle.pc_ground.specs.NodeForm.{IsNodeIn, AreReadable}
 use Rattle.line_judge.specs.Texts.{IsRefusedAt}
-use Rattle.graph_text.specs.Graphs.{graph_lines, graph_nodes, graph_edges}
-use Rattle.graph_text.specs.OpenGraphs.{PlainGraph}
-use Rattle.graph_text.specs.declared.graph.Graph.{Graph}
-use Rattle.graph_text.specs.declared.graph_fault.GraphFault.{GraphFault}
-use Rattle.graph_text.specs.declared.graph_fault.GraphFault.TheVariants.{Line as at_line, Memory}
+use Rattle.graph_text.specs.{Graphs.{graph_lines, graph_nodes, graph_edges}, OpenGraphs.{PlainGraph}, declared.graph.Graph.{Graph}}
+use Rattle.graph_text.specs.declared.graph_fault.GraphFault.{GraphFault, TheVariants.{Line as at_line, Memory}}
 
 -- the graph's nodes are of these names, and each of its edges joins two of them
 pub record IsGraphIn (names : Names) (g : PlainGraph) : Type 0 where

@@ -1,14 +1,9 @@
 -- The lines of a graph as they are read: which texts have their form, and what reading one answers.
 use Rattle.std.specs.Prelude.{ℕ, ◌≡◌, ◌++◌, List, ◌∷◌, Result, Ok, Err, codes}
-use Rattle.pc_common.specs.World.{Node}
-use Rattle.pc_common.specs.Lines.{Names, Line, verdict, second, node, edge, version_two, step, end, node_text, line_words}
-use Rattle.pc_ground.specs.Keys.{key_node}
-use Rattle.pc_ground.specs.NodeForm.{IsNodeForm, IsNodeIn}
-use Rattle.pc_ground.specs.declared.node_key.NodeKey.{NodeKey}
-use Rattle.pc_ground.specs.declared.line_fault.LineFault.{LineFault}
+use Rattle.pc_common.specs.{World.{Node}, Lines.{Names, Line, verdict, second, node, edge, version_two, step, end, node_text, line_words}}
+use Rattle.pc_ground.specs.{Keys.{key_node}, NodeForm.{IsNodeForm, IsNodeIn}, declared.{node_key.NodeKey.{NodeKey}, line_fault.LineFault.{LineFault}}}
 use Rattle.pc_ground.specs.declared.line_fault.LineFault.TheVariants.{Malformed, Foreign}
-use Rattle.graph_text.specs.declared.graph_line.GraphLine.{GraphLine}
-use Rattle.graph_text.specs.declared.graph_line.GraphLine.TheVariants.{Node as a_node, Edge as an_edge}
+use Rattle.graph_text.specs.declared.graph_line.GraphLine.{GraphLine, TheVariants.{Node as a_node, Edge as an_edge}}
 
 -- the byte between two words
 abbrev pub space : ℕ

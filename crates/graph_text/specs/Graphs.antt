@@ -1,10 +1,7 @@
 -- A graph over plain nodes, and its lines.
 use Rattle.std.specs.Prelude.{ℕ, List, ◌++◌, map}
-use Rattle.pc_common.specs.World.{Node, Edge}
-use Rattle.pc_common.specs.Lines.{Names, Line, node as node_line, edge as edge_line, line_text, lines_text}
-use Rattle.pc_ground.specs.Keys.{key_node}
-use Rattle.pc_ground.specs.NodeForm.{IsNodeIn}
-use Rattle.pc_ground.specs.declared.node_key.NodeKey.{NodeKey}
+use Rattle.pc_common.specs.{World.{Node, Edge}, Lines.{Names, Line, node as node_line, edge as edge_line, line_text, lines_text}}
+use Rattle.pc_ground.specs.{Keys.{key_node}, NodeForm.{IsNodeIn}, declared.node_key.NodeKey.{NodeKey}}
 use Rattle.graph_text.specs.declared.graph.Graph.{Graph}
 
 abbrev pub key_edge : NodeKey × NodeKey → Edge

@@ -1,14 +1,9 @@
 -- The first lines of a graph are the lines of one.
-use Rattle.std.specs.Prelude.{ℕ, ◌≡◌, ◌⊎◌, List, [], ◌∷◌, ◌++◌, All, Contains, map}
-use Rattle.std.proofs.Common.{inl, inr, refl, ◌∙◌, ap, subst, arith}
-use Rattle.std.proofs.lemmas.List.{append-nil}
-use Rattle.std.proofs.lemmas.List.Elements.{All-cons, All-head, All-tail, Contains-append_left}
-use Rattle.pc_common.specs.World.{Node, Edge}
-use Rattle.pc_common.specs.Lines.{Names, node, edge, line_words}
-use Rattle.pc_common.specs.Generated.{HasEnds}
+use Rattle.std.{specs.Prelude.{ℕ, ◌≡◌, ◌⊎◌, List, [], ◌∷◌, ◌++◌, All, Contains, map}, proofs.Common.{inl, inr, refl, ◌∙◌, ap, subst, arith}}
+use Rattle.std.proofs.lemmas.List.{append-nil, Elements.{All-cons, All-head, All-tail, Contains-append_left}}
+use Rattle.pc_common.specs.{World.{Node, Edge}, Lines.{Names, node, edge, line_words}, Generated.{HasEnds}}
 use Rattle.pc_ground.specs.NodeForm.{IsNodeIn}
-use Rattle.graph_text.specs.Graphs.{graph_lines}
-use Rattle.graph_text.specs.GraphReading.{AreGraphLines}
+use Rattle.graph_text.specs.{Graphs.{graph_lines}, GraphReading.{AreGraphLines}}
 
 All-append_left : {X : Type 0} (P : X → Type 0) (xs ys : List X) → All P (xs ++ ys) → All P xs
 All-append_left P [] ys h = λ k d inside. absurd (omega (arith, inside))

@@ -1,12 +1,8 @@
 -- The lines of a graph one after another: which may stand next, and what a graph is with one line more.
 use Rattle.std.specs.Prelude.{ℕ, ◌≡◌, ◌↔◌, ◌++◌, Bool, List, [], ◌∷◌, map, Contains, MatchBool}
-use Rattle.pc_common.specs.World.{Node, Edge}
-use Rattle.pc_common.specs.Lines.{Names, Line, verdict, second, node, edge, version_two, step, end, line_words}
-use Rattle.pc_common.specs.Generated.{HasEnds}
-use Rattle.pc_ground.specs.Keys.{key_node}
-use Rattle.pc_ground.specs.declared.node_key.NodeKey.{NodeKey}
-use Rattle.graph_text.specs.Graphs.{graph_lines}
-use Rattle.graph_text.specs.GraphTexts.{IsGraphLineIn}
+use Rattle.pc_common.specs.{World.{Node, Edge}, Lines.{Names, Line, verdict, second, node, edge, version_two, step, end, line_words}, Generated.{HasEnds}}
+use Rattle.pc_ground.specs.{Keys.{key_node}, declared.node_key.NodeKey.{NodeKey}}
+use Rattle.graph_text.specs.{Graphs.{graph_lines}, GraphTexts.{IsGraphLineIn}}
 
 -- a graph over plain nodes
 pub record PlainGraph : Type 0 where

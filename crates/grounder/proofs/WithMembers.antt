@@ -1,20 +1,13 @@
 -- Members joined by And or Or: one that decides, one that has no effect, and the unfolded list folded.
-use Rattle.std.proofs.Common.{◌≡◌, List, [], ◌∷◌, ◌++◌, map, refl, sym, ap, ◌∙◌, append_assoc}
-use Rattle.std.proofs.lemmas.List.{map-append}
+use Rattle.std.proofs.{Common.{◌≡◌, List, [], ◌∷◌, ◌++◌, map, refl, sym, ap, ◌∙◌, append_assoc}, lemmas.List.{map-append}}
 use Rattle.pc_common.specs.Case.{Case}
-use Rattle.pc_syntax.specs.declared.closed.Closed.{Closed}
-use Rattle.pc_syntax.specs.Closed.{plain_closed, PlainClosed}
-use Rattle.pc_syntax.specs.declared.bound.Bound.{Bound}
-use Rattle.pc_syntax.specs.Truth.{Meaning}
-use Rattle.pc_ground.specs.GroundTree.{axioms_unfolded}
-use Rattle.pc_ground.specs.declared.ground.Ground.{Ground}
+use Rattle.pc_syntax.specs.{declared.{closed.Closed.{Closed}, bound.Bound.{Bound}}, Closed.{plain_closed, PlainClosed}, Truth.{Meaning}}
+use Rattle.pc_ground.specs.{GroundTree.{axioms_unfolded}, declared.ground.Ground.{Ground}}
 use Rattle.pc_ground.specs.PlainGround.{PlainGround, ground_true, ground_conjoined, plain_ground, simplified, ground_false, ground_literal, ground_not, ground_and, ground_or}
 use Rattle.pc_ground.specs.Unfolded.{closed_unfolded}
 use Rattle.static_preds.specs.Values.{meanings}
-use Rattle.grounder.specs.declared.operator.Operator.{Operator}
-use Rattle.grounder.specs.declared.operator.Operator.TheVariants.{And, Or}
-use Rattle.grounder.specs.Members.{unfolded_all, unit_of, decider_of, with_member, with_members, whole_of}
-use Rattle.grounder.specs.GroundingOf.{grounding_of}
+use Rattle.grounder.specs.declared.operator.Operator.{Operator, TheVariants.{And, Or}}
+use Rattle.grounder.specs.{Members.{unfolded_all, unit_of, decider_of, with_member, with_members, whole_of}, GroundingOf.{grounding_of}}
 
 -- the body of a quantifier, where its variable has this value
 abbrev pub grounding_at : Case → List Bound → PlainClosed → Meaning → PlainGround

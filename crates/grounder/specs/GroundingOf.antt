@@ -1,15 +1,10 @@
 -- What a closed formula says where its slots stand for these micro-ops and cores, with constants folded.
 use Rattle.std.specs.Prelude.{List, [], ◌∷◌, ◌++◌, map}
 use Rattle.pc_common.specs.Case.{Case}
-use Rattle.pc_syntax.specs.declared.term.Sort.{Sort}
-use Rattle.pc_syntax.specs.declared.bound.Bound.{Bound}
-use Rattle.pc_syntax.specs.Truth.{range_of}
-use Rattle.pc_syntax.specs.Closed.{PlainClosed}
-use Rattle.pc_ground.specs.PlainGround.{PlainGround, simplified}
-use Rattle.pc_ground.specs.Unfolded.{closed_unfolded}
+use Rattle.pc_syntax.specs.{declared.{term.Sort.{Sort}, bound.Bound.{Bound}}, Truth.{range_of}, Closed.{PlainClosed}}
+use Rattle.pc_ground.specs.{PlainGround.{PlainGround, simplified}, Unfolded.{closed_unfolded}}
 use Rattle.static_preds.specs.Values.{meanings}
-use Rattle.grounder.specs.declared.operator.Operator.{Operator}
-use Rattle.grounder.specs.Members.{unfolded_all}
+use Rattle.grounder.specs.{declared.operator.Operator.{Operator}, Members.{unfolded_all}}
 
 abbrev pub grounding_of : Case → List Bound → PlainClosed → PlainGround
 grounding_of c slots p = simplified (closed_unfolded c (meanings slots) p)

@@ -1,9 +1,7 @@
 -- And and Or over a list of members, unfolded and with constants folded.
 use Rattle.std.specs.Prelude.{List, [], ◌∷◌}
-use Rattle.pc_ground.specs.PlainGround.{PlainGround, ground_true, ground_false, ground_conjoined, ground_disjoined}
-use Rattle.pc_ground.specs.Unfolded.{all_of, some_of}
-use Rattle.grounder.specs.declared.operator.Operator.{Operator}
-use Rattle.grounder.specs.declared.operator.Operator.TheVariants.{And, Or}
+use Rattle.pc_ground.specs.{PlainGround.{PlainGround, ground_true, ground_false, ground_conjoined, ground_disjoined}, Unfolded.{all_of, some_of}}
+use Rattle.grounder.specs.declared.operator.Operator.{Operator, TheVariants.{And, Or}}
 
 -- what the members say together, nothing folded
 abbrev pub unfolded_all : Operator → List PlainGround → PlainGround

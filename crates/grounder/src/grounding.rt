@@ -1,6 +1,6 @@
-ghost use Rattle.std.specs.Prelude.{◌≡◌, map, IfOk};
-ghost use Rattle.pc_syntax.specs.Closed.{plain_closed};
+ghost use Rattle.std.specs.Prelude.{◌≡◌, IfOk};
 ghost use Rattle.pc_ground.specs.PlainGround.{plain_ground, simplified, normal};
+ghost use Rattle.pc_ground.specs.Stages.{plain_axioms};
 ghost use Rattle.pc_ground.specs.GroundTree.{axioms_unfolded, closed_ground_tree};
 
 use super::formula::ground_formula;
@@ -20,9 +20,9 @@ use std::alloc::Global;
 /// axioms. The one error is that memory was refused.
 pub fn ground(alloc: Global, case: &Case, axioms: &[Closed]) -> Result<Ground, Memory>
     ensures unfolded { IfOk result (λ g. plain_ground g
-        ≡ simplified (axioms_unfolded case.now (map (λ a. plain_closed a.body) axioms.now))) }
+        ≡ simplified (axioms_unfolded case.now (plain_axioms axioms.now))) }
     ensures tree { IfOk result (λ g. normal (plain_ground g)
-        ≡ closed_ground_tree case.now (map (λ a. plain_closed a.body) axioms.now)) }
+        ≡ closed_ground_tree case.now (plain_axioms axioms.now)) }
 {
     let env = Env::new();
     let mut kept = Vec::new(alloc);

@@ -1,6 +1,6 @@
 //! Certificates that are made to break the judge: each beginning of one, a million splits, and one byte too many.
 use example_texts::{EITHER_ORDER, TWO_FORBIDDEN};
-use memory_runs::{ends_in, ends_over, held, words, written};
+use memory_runs::{ends_in, ends_over, hold_files, output_of, words};
 use pc_common::{Bytes, Calls, Held, HeldFile, MemFiles, Memory, Status};
 use std::alloc::Global;
 use std::test::Fail;
@@ -45,7 +45,7 @@ fn are_beginnings_refused(alloc: Global, text: &[u8]) -> Result<bool, Memory> {
 #[test]
 fn a_beginning_is_refused_at_its_last_line(rt: HostRuntime) -> Result<(), Fail> {
     let contents = &[("model", EITHER_ORDER), ("test", TWO_FORBIDDEN)];
-    let text = written(rt.alloc(), "check model test", contents)?;
+    let text = output_of(rt.alloc(), "check model test", contents)?;
     assert!(rt; text.starts_with(b"unobservable\n"));
     assert!(rt; are_beginnings_refused(rt.alloc(), &text)?);
     Ok(())
@@ -76,7 +76,7 @@ fn a_million_splits_leave_branches_open_at_the_end(rt: HostRuntime) -> Result<()
 
 /// The two files, and a certificate of so many spaces.
 fn spaces(alloc: Global, count: usize) -> Result<Held, Memory> {
-    let mut held = held(alloc, &[("model", EITHER_ORDER), ("test", TWO_FORBIDDEN)])?;
+    let mut held = hold_files(alloc, &[("model", EITHER_ORDER), ("test", TWO_FORBIDDEN)])?;
     let name = Bytes::from_vec(b"certificate".to_vec(alloc)?);
     let bytes = Bytes::from_vec(vec![in alloc; b' '; count]?);
     held.push(HeldFile { name, bytes })?;

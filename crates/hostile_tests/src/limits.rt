@@ -1,6 +1,6 @@
 //! Models that `check` refuses, and models at a limit, by the written line.
 use example_texts::EMPTY;
-use memory_runs::{End, ends_over, joined};
+use memory_runs::{End, ends_over, join_pieces};
 use pc_common::{Memory, Status};
 use std::alloc::Global;
 use std::test::Fail;
@@ -79,7 +79,7 @@ fn ends_with_the_empty_test(
     pieces: &[(&'static str, usize)],
     end: End<'_>,
 ) -> Result<bool, Memory> {
-    let model = joined(alloc, pieces)?;
+    let model = join_pieces(alloc, pieces)?;
     let contents = &[("model", model.as_str()), ("test", EMPTY)];
     ends_over(alloc, "check model test", contents, (&[], &[]), end)
 }

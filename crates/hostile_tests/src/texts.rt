@@ -1,7 +1,7 @@
 //! Models and tests that are made to break their readers: long chains of macros, 200 names with a long one, 40,000
 //! edges of one axiom, and one micro-op too many.
 use example_texts::{EMPTY, ONE};
-use memory_runs::{End, ends_over, joined};
+use memory_runs::{End, ends_over, join_pieces};
 use pc_common::{Memory, Status};
 use std::alloc::Global;
 use std::test::Fail;
@@ -125,7 +125,7 @@ const ONE_EDGE_SHOWN: &str =
 
 #[test]
 fn a_list_of_40000_edges_is_walked(rt: HostRuntime) -> Result<(), Fail> {
-    let model = joined(rt.alloc(), ONE_EDGE)?;
+    let model = join_pieces(rt.alloc(), ONE_EDGE)?;
     let end = (Status::Observable, ONE_EDGE_SHOWN);
     assert!(rt; is_end(rt.alloc(), &model, ONE, end)?);
     Ok(())

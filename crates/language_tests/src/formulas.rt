@@ -1,5 +1,5 @@
 //! Tokens to trees, and copies of trees. Tokens are numbered from 0.
-use formula_texts::{Pieces, joined, put, put_number, show};
+use formula_texts::{Pieces, join_pieces, put, put_number, show};
 use pc_common::{Listed, Memory, Place, Shared};
 use pc_syntax::{Arg, Args, Formula, Item, ModelFile, Name, Names, Pred, StageItem, Takes, Word};
 use std::alloc::Global;
@@ -145,7 +145,7 @@ fn is_shown(
     formula: &Formula,
     want: &[(&'static str, usize)],
 ) -> Result<bool, Memory> {
-    let want = joined(alloc, want)?;
+    let want = join_pieces(alloc, want)?;
     is_shown_as(alloc, formula, &want)
 }
 
@@ -175,7 +175,7 @@ fn has_answer(alloc: Global, text: &[u8], answer: &Answer) -> Result<bool, Memor
 #[test]
 fn a_formula_has_the_tree_or_the_fault_of_the_grammar(rt: HostRuntime) -> Result<(), Fail> {
     for (pieces, answer) in FORMULAS {
-        let text = joined(rt.alloc(), pieces)?;
+        let text = join_pieces(rt.alloc(), pieces)?;
         assert!(rt; has_answer(rt.alloc(), &text, answer)?, "{pieces:?}");
     }
     Ok(())
@@ -192,7 +192,7 @@ const ALL_SHOWN: &str =
 const AT: Place = Place { offset: 7 };
 
 fn name(alloc: Global, text: &[u8]) -> Result<Name, Memory> {
-    Shared::of(Listed::from_vec(text.to_vec(alloc)?))
+    Shared::from_listed(Listed::from_vec(text.to_vec(alloc)?))
 }
 
 /// `a` and `b`.
@@ -201,7 +201,7 @@ fn names(alloc: Global) -> Result<Names, Memory> {
     for text in ["a", "b"] {
         names.push(name(alloc, text.as_bytes())?)?;
     }
-    Shared::of(names)
+    Shared::from_listed(names)
 }
 
 /// `c` and 4.
@@ -211,7 +211,7 @@ fn args(alloc: Global) -> Result<Args, Memory> {
         at: AT,
     });
     let args = vec![in alloc; core, Arg::Number(4, AT)]?;
-    Shared::of(Listed::from_vec(args))
+    Shared::from_listed(Listed::from_vec(args))
 }
 
 fn all_forms(alloc: Global) -> Result<Formula, ParseFault> {
@@ -226,7 +226,7 @@ fn all_forms(alloc: Global) -> Result<Formula, ParseFault> {
 }
 
 /// That formula with `a` bound to `c`, and `b` to 4.
-fn bound(alloc: Global) -> Result<Formula, ParseFault> {
+fn bind_formula(alloc: Global) -> Result<Formula, ParseFault> {
     let names = names(alloc)?;
     let args = args(alloc)?;
     let body = all_forms(alloc)?;
@@ -249,7 +249,7 @@ fn are_shown(alloc: Global, formula: &Formula, want: &[u8]) -> Result<bool, Memo
 
 #[test]
 fn a_copy_is_the_same_formula(rt: HostRuntime) -> Result<(), Fail> {
-    let formula = bound(rt.alloc())?;
+    let formula = bind_formula(rt.alloc())?;
     assert!(rt; are_shown(rt.alloc(), &formula, ALL_SHOWN.as_bytes())?);
     Ok(())
 }
@@ -462,6 +462,22 @@ fn is_named(name: &[u8], pred: Pred, takes: &[Takes]) -> bool {
         }
     }
     pred.arity() == takes.len() && pred.name() == name && Pred::of_name(name) == Some(pred)
+}
+
+/// Whether the table has this predicate at this place, or ends there as the predicates do.
+fn is_at(k: usize, pred: Option<&Pred>) -> bool {
+    match (PREDICATES.get(k), pred) {
+        (Some((_, row, _)), Some(pred)) => row == pred,
+        (None, None) => true,
+        _ => false,
+    }
+}
+
+#[test]
+fn the_table_has_all_predicates_in_their_order(rt: HostRuntime) {
+    for k in 0..PREDICATES.len() + 1 {
+        assert!(rt; is_at(k, Pred::ALL.get(k)), "{k}");
+    }
 }
 
 #[test]

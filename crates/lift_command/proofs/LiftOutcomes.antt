@@ -1,35 +1,17 @@
 -- The outcome of `lift`: what its answer says, and that it is due.
-use Rattle.std.proofs.Common.{◌≡◌, ℕ, List, Some, ◌∙◌, ap, subst}
-use Rattle.std.specs.Prelude.{IsTrue}
-use Rattle.pc_common.specs.Outside.{FilesView}
-use Rattle.pc_common.specs.Case.{Case}
-use Rattle.pc_common.specs.Reads.{Reads}
-use Rattle.pc_common.specs.declared.fault.InputFault.{InputFault}
-use Rattle.pc_common.specs.declared.status.Status.{Status}
+use Rattle.std.{proofs.Common.{◌≡◌, ℕ, List, Some, ◌∙◌, ap, subst}, specs.Prelude.{IsTrue}}
+use Rattle.pc_common.specs.{Outside.{FilesView}, Case.{Case}, Reads.{Reads}, declared.{fault.InputFault.{InputFault}, status.Status.{Status}}}
 use Rattle.pc_common.specs.declared.status.Status.TheVariants.{Usage, ReadFault}
-use Rattle.pc_syntax.specs.Closed.{PlainClosed}
-use Rattle.pc_syntax.specs.Written.{WrittenModel}
+use Rattle.pc_syntax.specs.{Closed.{PlainClosed}, Written.{WrittenModel}}
 use Rattle.pc_ground.specs.declared.front.Front.{Front}
 use Rattle.pc_front.specs.Front.{IsFrontOf}
-use Rattle.cert_check.specs.Certificates.{Question}
-use Rattle.cert_check.specs.Questions.{question_of}
-use Rattle.cert_check.proofs.Alike.{one_question}
+use Rattle.cert_check.{specs.{Certificates.{Question}, Questions.{question_of}}, proofs.Alike.{one_question}}
 use Rattle.lifted_check.specs.LiftedTexts.{Question as LiftedQuestion, asked}
-use Rattle.command_base.specs.Inputs.{Inputs, Contents, Says}
-use Rattle.command_base.specs.SecondFiles.{IsForm}
-use Rattle.command_base.specs.Questions.{question_by}
-use Rattle.command_base.specs.VerdictStatus.{IsTrueStatus}
-use Rattle.command_base.specs.Outcomes.{HasFront, IsThirdOutcome}
-use Rattle.command_base.proofs.OneCase.{one_held}
-use Rattle.command_base.proofs.AskedAlike.{asks_alike}
-use Rattle.command_base.proofs.AnsweredFiles.{found_of, due_of_files}
-use Rattle.command_base.proofs.ThirdFile.{third_found}
-use Rattle.command_base.specs.LiftedQuestions.{lifted_question}
-use Rattle.lift_command.specs.declared.lifting.FoundLift.{FoundLift}
-use Rattle.lift_command.specs.declared.lifting.FoundLift.TheVariants.{Observable, Text, Refused}
-use Rattle.lift_command.specs.Lifts.{IsLiftOf}
-use Rattle.lift_command.specs.LiftTexts.{lift_status, lift_text}
-use Rattle.lift_command.specs.LiftAnswers.{AnswersLift, IsLiftDue, IsLifted, lifted, IsDueLift}
+use Rattle.command_base.specs.{Inputs.{Inputs, Contents, Says}, SecondFiles.{IsForm}, Questions.{question_by}, VerdictStatus.{IsTrueStatus}}
+use Rattle.command_base.{specs.{Outcomes.{HasFront, IsThirdOutcome}, LiftedQuestions.{lifted_question}}, proofs.{OneCase.{one_held}, AskedAlike.{asks_alike}}}
+use Rattle.command_base.proofs.{AnsweredFiles.{found_of, due_of_files}, ThirdFile.{third_found}}
+use Rattle.lift_command.specs.{declared.lifting.FoundLift.{FoundLift, TheVariants.{Observable, Text, Refused}}, Lifts.{IsLiftOf}}
+use Rattle.lift_command.specs.{LiftTexts.{lift_status, lift_text}, LiftAnswers.{AnswersLift, IsLiftDue, IsLifted, lifted, IsDueLift}}
 use Rattle.lift_command.proofs.OneStatus.{status_of, lift_true_status}
 
 no_read_fault : (found : FoundLift) → lift_status found ≡ ReadFault → ⊥

@@ -1,21 +1,12 @@
 -- All that a text is by the rules of version 1 has one status.
 use Rattle.std.proofs.Common.{◌≡◌, ℕ, List, refl, sym, ap}
-use Rattle.pc_common.specs.Case.{Case}
-use Rattle.pc_common.specs.declared.status.Status.TheVariants.{Observable as is_observable, Unobservable as is_unobservable, Done, CertRefused}
+use Rattle.pc_common.specs.{Case.{Case}, declared.status.Status.TheVariants.{Observable as is_observable, Unobservable as is_unobservable, Done, CertRefused}}
 use Rattle.pc_syntax.specs.Written.{WrittenModel}
-use Rattle.cert_check.specs.Certificates.{Question}
-use Rattle.cert_check.specs.Ones.{IsOne, shown}
-use Rattle.cert_check.specs.declared.one.One.{One}
-use Rattle.cert_check.specs.declared.one.One.TheVariants.{Graph, Tree, Refused as refused_at}
+use Rattle.cert_check.specs.{Certificates.{Question}, Ones.{IsOne, shown}, declared.one.One.{One, TheVariants.{Graph, Tree, Refused as refused_at}}}
 use Rattle.cert_check.proofs.OneTexts.{only_one}
-use Rattle.command_base.specs.Questions.{question_by}
-use Rattle.command_base.specs.VerdictStatus.{IsTrueStatus}
-use Rattle.command_base.proofs.CertificateTruth.{graph_observable}
+use Rattle.command_base.{specs.{Questions.{question_by}, VerdictStatus.{IsTrueStatus}}, proofs.CertificateTruth.{graph_observable}}
 use Rattle.lifted_check.specs.LiftedTexts.{Question as LiftedQuestion}
-use Rattle.lift_command.specs.declared.lifting.FoundLift.{FoundLift}
-use Rattle.lift_command.specs.declared.lifting.FoundLift.TheVariants.{Observable, Text, Refused}
-use Rattle.lift_command.specs.Lifts.{IsLiftOf}
-use Rattle.lift_command.specs.LiftTexts.{lift_status}
+use Rattle.lift_command.specs.{declared.lifting.FoundLift.{FoundLift, TheVariants.{Observable, Text, Refused}}, Lifts.{IsLiftOf}, LiftTexts.{lift_status}}
 use Rattle.lift_command.specs.LiftAnswers.{one_status, IsStatusOf}
 
 pub same_status : (q : Question) (text : List ℕ) (a b : One) → IsOne q text a → IsOne q text b → one_status b ≡ one_status a

@@ -1,21 +1,13 @@
 -- Bytes that are put after a text, one part after another, and the lines that they make.
-use Rattle.std.proofs.Common.{◌≡◌, ℕ, ◌+◌, List, [], ◌∷◌, ◌++◌, Some, map, take, refl, sym, ◌∙◌, ap, subst, append_assoc}
-use Rattle.std.specs.Prelude.{Result, OnOk, All, codes, slice_get}
-use Rattle.std.specs.List.{flat_map}
+use Rattle.std.proofs.{Common.{◌≡◌, ℕ, ◌+◌, List, [], ◌∷◌, ◌++◌, Some, map, take, refl, sym, ◌∙◌, ap, subst, append_assoc}, lemmas.Result.{on_ok_weaker}}
+use Rattle.std.proofs.lemmas.{Grind.{flat_map-append}, List.{append-nil, map-append, Elements.{All-get_or, All-push}}}
+use Rattle.std.{proofs.lemmas.Option.{slice_get_within, get_or_from_slice_get}, specs.{Prelude.{Result, OnOk, All, codes, slice_get}, List.{flat_map}}}
 use Rattle.std.specs.Fmt.{decimal}
-use Rattle.std.proofs.lemmas.Result.{on_ok_weaker}
-use Rattle.std.proofs.lemmas.Grind.{flat_map-append}
-use Rattle.std.proofs.lemmas.List.{append-nil, map-append}
-use Rattle.std.proofs.lemmas.List.Elements.{All-get_or, All-push}
-use Rattle.std.proofs.lemmas.Option.{slice_get_within, get_or_from_slice_get}
-use Rattle.pc_common.specs.Case.{MicroOp}
-use Rattle.pc_common.specs.Lines.{op_text}
+use Rattle.pc_common.specs.{Case.{MicroOp}, Lines.{op_text}}
 use Rattle.static_preds.proofs.Walked.{map_take}
-use Rattle.lifted_facts.specs.declared.way.Instance.TheVariants.{Op as OpInstance}
-use Rattle.lifted_facts.specs.Lifted.{LiftedStep, close, cycle, path}
+use Rattle.lifted_facts.specs.{declared.way.Instance.TheVariants.{Op as OpInstance}, Lifted.{LiftedStep, close, cycle, path}}
 use Rattle.lifted_check.specs.StepLines.{value_text}
-use Rattle.lift_command.specs.WrittenLines.{line_of, line_text, spaced_words}
-use Rattle.lift_command.proofs.SpacedLines.{line_is, spaced_more}
+use Rattle.lift_command.{specs.WrittenLines.{line_of, line_text, spaced_words}, proofs.SpacedLines.{line_is, spaced_more}}
 
 -- first these bytes, and then those
 pub put_then : {T E : Type 0} (r : Result T E) (old mid new xs ys : List ℕ) → mid ≡ old ++ xs → OnOk r (new ≡ mid ++ ys) → OnOk r (new ≡ old ++ (xs ++ ys))

@@ -1,17 +1,11 @@
 -- Lines as words with a space between two, and that no LF stands in them.
 use Rattle.std.proofs.Common.{◌≡◌, ◌≢◌, ℕ, Bool, true, false, ◌||◌, ◌==◌, List, [], ◌∷◌, ◌++◌, map, refl, sym, ◌∙◌, ap, subst, append_assoc, eq-eqb}
-use Rattle.std.specs.Prelude.{All, codes}
-use Rattle.std.specs.List.{list_any, join_with_byte}
-use Rattle.std.specs.Fmt.{decimal}
-use Rattle.std.proofs.lemmas.List.{append-nil}
-use Rattle.std.proofs.lemmas.List.Elements.{All-nil, All-cons, All-head, All-tail}
-use Rattle.pc_common.specs.Case.{MicroOp}
-use Rattle.pc_common.specs.Lines.{op_text}
-use Rattle.pc_ground.specs.NodeWords.{Lacks}
-use Rattle.pc_ground.proofs.Cuts.{decimal_lacks}
+use Rattle.std.{proofs.lemmas.List.{append-nil, Elements.{All-nil, All-cons, All-head, All-tail}}, specs.Prelude.{All, codes}}
+use Rattle.std.specs.{List.{list_any, join_with_byte}, Fmt.{decimal}}
+use Rattle.pc_common.specs.{Case.{MicroOp}, Lines.{op_text}}
+use Rattle.pc_ground.{specs.NodeWords.{Lacks}, proofs.Cuts.{decimal_lacks}}
 use Rattle.line_judge.specs.Texts.{IsLine}
-use Rattle.lifted_facts.specs.declared.way.Instance.{Instance}
-use Rattle.lifted_facts.specs.declared.way.Instance.TheVariants.{Op as OpInstance, Core as CoreInstance}
+use Rattle.lifted_facts.specs.declared.way.Instance.{Instance, TheVariants.{Op as OpInstance, Core as CoreInstance}}
 use Rattle.lifted_facts.specs.declared.way.Way.TheVariants.{Left as LeftWay, Right as RightWay, Not as NotWay, Bind as BindWay, Inst as InstWay, Member as MemberWay}
 use Rattle.lifted_facts.specs.Lifted.{LiftedStep, derive, split, close, falsity, cycle, path, absent}
 use Rattle.lifted_check.specs.StepLines.{keyword_text, keyword_of, numbers_of, value_text, value_words, IsSmall, IsValue, HasValue}

@@ -1,22 +1,15 @@
 -- The lines of steps that lead somewhere lead there too.
 use Rattle.std.proofs.Common.{◌≡◌, ℕ, zero, suc, ◌<◌, true, false, List, [], ◌∷◌, Option, Some, None, length, refl, ◌∙◌, arith}
-use Rattle.std.specs.Prelude.{All, slice_get}
+use Rattle.std.{proofs.lemmas.{Option.{slice_get_within}, List.Elements.{All-nil, All-cons, All-head, All-tail}}, specs.Prelude.{All, slice_get}}
 use Rattle.std.specs.Option.{option_map, option_and_then}
-use Rattle.std.proofs.lemmas.Option.{slice_get_within}
-use Rattle.std.proofs.lemmas.List.Elements.{All-nil, All-cons, All-head, All-tail}
 use Rattle.pc_common.specs.Case.{Case}
-use Rattle.pc_syntax.specs.declared.term.Sort.TheVariants.{Microop}
-use Rattle.pc_syntax.specs.Truth.{range_of}
-use Rattle.pc_syntax.specs.Closed.{closed_forall, closed_exists}
+use Rattle.pc_syntax.specs.{declared.term.Sort.TheVariants.{Microop}, Truth.{range_of}, Closed.{closed_forall, closed_exists}}
 use Rattle.pc_ground.specs.NodeWords.{AreSmall}
 use Rattle.static_preds.proofs.Ranges.{op_count}
 use Rattle.lifted_facts.specs.declared.way.Instance.TheVariants.{Op as OpInstance, Core as CoreInstance}
-use Rattle.lifted_facts.specs.declared.way.Way.TheVariants.{Left, Right, Not, Bind, Inst, Member}
-use Rattle.lifted_facts.specs.PlainFacts.{PlainFact, said, Branch}
-use Rattle.lifted_facts.specs.Parts.{said_inside, part_of}
-use Rattle.lifted_facts.specs.Lifted.{LiftedStep, derive, split, close, Advances, Runs}
-use Rattle.lifted_check.specs.StepLines.{numbers_of, IsSmall, HasValue, IsStepLine}
-use Rattle.lifted_check.specs.LiftedTexts.{LinesRun}
+use Rattle.lifted_facts.specs.{declared.way.Way.TheVariants.{Left, Right, Not, Bind, Inst, Member}, PlainFacts.{PlainFact, said, Branch}}
+use Rattle.lifted_facts.specs.{Parts.{said_inside, part_of}, Lifted.{LiftedStep, derive, split, close, Advances, Runs}}
+use Rattle.lifted_check.specs.{StepLines.{numbers_of, IsSmall, HasValue, IsStepLine}, LiftedTexts.{LinesRun}}
 use Rattle.lift_command.specs.WrittenLines.{line_of, lines_of, HasSmallCore}
 
 found : {X Y : Type 0} (f : X → Y) (o : Option X) (y : Y) → option_map f o ≡ Some y → (x : X) × (o ≡ Some x)

@@ -1,20 +1,12 @@
 -- What a refutation is lifted from, and that its lifted text is taken.
 use Rattle.std.proofs.Common.{◌≡◌, ◌<◌, List, ℕ, Option, Some, length}
-use Rattle.pc_common.specs.World.{Node}
-use Rattle.pc_common.specs.Steps.{Step}
-use Rattle.pc_common.specs.declared.limits.TheConstants.{MAX_CERTIFICATE}
-use Rattle.pc_ground.specs.declared.front.Front.{Front}
-use Rattle.pc_ground.specs.declared.version.Version.TheVariants.{One as version_one}
-use Rattle.pc_ground.specs.GroundTree.{closed_ground_tree}
-use Rattle.pc_ground.specs.Refutes.{IsRefutation}
-use Rattle.pc_ground.specs.Stages.{plain_axioms}
+use Rattle.pc_common.specs.{World.{Node}, Steps.{Step}, declared.limits.TheConstants.{MAX_CERTIFICATE}}
+use Rattle.pc_ground.specs.{declared.{front.Front.{Front}, version.Version.TheVariants.{One as version_one}}, GroundTree.{closed_ground_tree}}
+use Rattle.pc_ground.specs.{Refutes.{IsRefutation}, Stages.{plain_axioms}}
 use Rattle.line_judge.specs.Texts.{IsMadeOf}
-use Rattle.cert_check.specs.Certificates.{Question}
-use Rattle.cert_check.specs.Questions.{question_of}
-use Rattle.cert_check.specs.Ones.{IsOne, refuted, one_too_long}
+use Rattle.cert_check.specs.{Certificates.{Question}, Questions.{question_of}, Ones.{IsOne, refuted, one_too_long}}
 use Rattle.cert_check.specs.declared.one.One.TheVariants.{Tree, Refused as refused_at}
-use Rattle.lifted_check.specs.LiftedTexts.{Question as LiftedQuestion, IsLiftedText}
-use Rattle.lifted_check.specs.Fed.{unseen}
+use Rattle.lifted_check.specs.{LiftedTexts.{Question as LiftedQuestion, IsLiftedText}, Fed.{unseen}}
 use Rattle.lift_command.specs.Lifts.{IsTaken}
 
 pub tree_refutes : (front : Front) (text : List ℕ) (steps : List (Step Node)) → IsOne (question_of front) text (Tree steps)

@@ -1,18 +1,12 @@
 -- The lines of a lifted refutation are a text of one.
-use Rattle.std.proofs.Common.{◌≡◌, ℕ, List, [], ◌∷◌, ◌++◌, refl, sym, ◌∙◌, ap, append_assoc}
-use Rattle.std.specs.Prelude.{All, codes}
-use Rattle.std.specs.List.{flat_map}
-use Rattle.std.proofs.lemmas.List.Elements.{All-nil, All-cons, All-head, All-tail}
-use Rattle.pc_common.specs.Case.{Expectation, permitted, forbidden, unstated}
-use Rattle.pc_common.specs.Lines.{unobservable, second_text}
+use Rattle.std.proofs.{Common.{◌≡◌, ℕ, List, [], ◌∷◌, ◌++◌, refl, sym, ◌∙◌, ap, append_assoc}, lemmas.List.Elements.{All-nil, All-cons, All-head, All-tail}}
+use Rattle.std.specs.{Prelude.{All, codes}, List.{flat_map}}
+use Rattle.pc_common.specs.{Case.{Expectation, permitted, forbidden, unstated}, Lines.{unobservable, second_text}}
 use Rattle.pc_ground.specs.NodeWords.{AreSmall}
 use Rattle.line_judge.specs.Texts.{IsLine, text_of_lines, IsMadeOf}
-use Rattle.lifted_facts.specs.PlainFacts.{root}
-use Rattle.lifted_facts.specs.Lifted.{LiftedStep, IsLiftedRefutation}
-use Rattle.lifted_check.specs.StepLines.{numbers_of, IsSmall, HasValue}
-use Rattle.lifted_check.specs.LiftedTexts.{Question, second_line, header, IsLiftedText}
-use Rattle.lift_command.specs.WrittenLines.{line_of, lines_of, line_text, all_lines, HasSmallCore}
-use Rattle.lift_command.proofs.StepRuns.{values_fit, lines_run}
+use Rattle.lifted_facts.specs.{PlainFacts.{root}, Lifted.{LiftedStep, IsLiftedRefutation}}
+use Rattle.lifted_check.specs.{StepLines.{numbers_of, IsSmall, HasValue}, LiftedTexts.{Question, second_line, header, IsLiftedText}}
+use Rattle.lift_command.{specs.WrittenLines.{line_of, lines_of, line_text, all_lines, HasSmallCore}, proofs.StepRuns.{values_fit, lines_run}}
 use Rattle.lift_command.proofs.SpacedLines.{line_fits, lacks_line}
 
 abbrev AreSmallNumbers : LiftedStep → Type 0

@@ -1,26 +1,13 @@
 -- The answer of `lift` to three files, and the status that is due.
 use Rattle.std.specs.Prelude.{◌≡◌, ℕ, List, Some, Result}
-use Rattle.pc_common.specs.Outside.{FilesView}
-use Rattle.pc_common.specs.Case.{Case}
-use Rattle.pc_common.specs.declared.fault.InputFault.{InputFault}
-use Rattle.pc_common.specs.declared.status.Status.{Status}
+use Rattle.pc_common.specs.{Outside.{FilesView}, Case.{Case}, declared.{fault.InputFault.{InputFault}, status.Status.{Status}}}
 use Rattle.pc_common.specs.declared.status.Status.TheVariants.{Observable as is_observable, Done, CertRefused}
 use Rattle.pc_syntax.specs.Written.{WrittenModel}
-use Rattle.cert_check.specs.Certificates.{Question}
-use Rattle.cert_check.specs.Ones.{IsOne}
-use Rattle.cert_check.specs.declared.one.One.{One}
-use Rattle.cert_check.specs.declared.one.One.TheVariants.{Graph, Tree, Refused}
-use Rattle.command_base.specs.declared.inputs.Inputs.{Inputs as CodeInputs}
-use Rattle.command_base.specs.declared.ending.Ending.{Ending}
-use Rattle.command_base.specs.Inputs.{Inputs, Contents, plain_inputs}
-use Rattle.command_base.specs.Endings.{HasOutcome}
-use Rattle.command_base.specs.Outcomes.{IsThirdOutcome}
-use Rattle.command_base.specs.Questions.{question_by}
-use Rattle.command_base.specs.FileAnswers.{AnswersFiles, IsDueOfFiles}
+use Rattle.cert_check.specs.{Certificates.{Question}, Ones.{IsOne}, declared.one.One.{One, TheVariants.{Graph, Tree, Refused}}}
+use Rattle.command_base.specs.{declared.{inputs.Inputs.{Inputs as CodeInputs}, ending.Ending.{Ending}}, Inputs.{Inputs, Contents, plain_inputs}}
+use Rattle.command_base.specs.{Endings.{HasOutcome}, Outcomes.{IsThirdOutcome}, Questions.{question_by}, FileAnswers.{AnswersFiles, IsDueOfFiles}}
 use Rattle.command_base.specs.LiftedQuestions.{lifted_question}
-use Rattle.lift_command.specs.declared.lifting.FoundLift.{FoundLift}
-use Rattle.lift_command.specs.Lifts.{IsLiftOf}
-use Rattle.lift_command.specs.LiftTexts.{lift_status, lift_text}
+use Rattle.lift_command.specs.{declared.lifting.FoundLift.{FoundLift}, Lifts.{IsLiftOf}, LiftTexts.{lift_status, lift_text}}
 
 -- what the third file is made into, for the model and the case
 pub data IsLifted (holds : Contents) (certificate : List ℕ) (m : WrittenModel) (c : Case) : Status → List ℕ → Type 0 where

@@ -1,17 +1,10 @@
 -- What a certificate is made into.
 use Rattle.std.specs.Prelude.{◌≤◌, ℕ, List, length}
-use Rattle.pc_common.specs.World.{Node}
-use Rattle.pc_common.specs.Steps.{Step}
-use Rattle.pc_common.specs.declared.limits.TheConstants.{MAX_CERTIFICATE}
+use Rattle.pc_common.specs.{World.{Node}, Steps.{Step}, declared.limits.TheConstants.{MAX_CERTIFICATE}}
 use Rattle.line_judge.specs.Texts.{IsMadeOf}
-use Rattle.cert_check.specs.Certificates.{Question}
-use Rattle.cert_check.specs.Ones.{IsOne}
-use Rattle.cert_check.specs.declared.one.One.TheVariants.{Graph, Tree, Refused as refused_at}
-use Rattle.lifted_check.specs.LiftedTexts.{Question as LiftedQuestion, IsLiftedText}
-use Rattle.lifted_check.specs.Fed.{IsFound}
-use Rattle.lifted_check.specs.declared.lifted.Lifted.TheVariants.{Unobservable}
-use Rattle.lift_command.specs.declared.lifting.FoundLift.{FoundLift}
-use Rattle.lift_command.specs.declared.lifting.FoundLift.TheVariants.{Observable, Text, Refused}
+use Rattle.cert_check.specs.{Certificates.{Question}, Ones.{IsOne}, declared.one.One.TheVariants.{Graph, Tree, Refused as refused_at}}
+use Rattle.lifted_check.specs.{LiftedTexts.{Question as LiftedQuestion, IsLiftedText}, Fed.{IsFound}, declared.lifted.Lifted.TheVariants.{Unobservable}}
+use Rattle.lift_command.specs.declared.lifting.FoundLift.{FoundLift, TheVariants.{Observable, Text, Refused}}
 
 -- the text of a lifted refutation, which its checker takes where it is within the limit
 pub record IsTaken (l : LiftedQuestion) (text : List ℕ) : Type 0 where

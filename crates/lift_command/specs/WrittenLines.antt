@@ -1,12 +1,8 @@
 -- The lines of a lifted refutation.
-use Rattle.std.specs.Prelude.{ℕ, List, [], ◌∷◌, ◌++◌, map, codes}
-use Rattle.std.specs.List.{flat_map, join_with_byte}
+use Rattle.std.specs.{Prelude.{ℕ, List, [], ◌∷◌, ◌++◌, map, codes}, List.{flat_map, join_with_byte}}
 use Rattle.pc_common.specs.Case.{MicroOp}
-use Rattle.lifted_facts.specs.declared.way.Instance.TheVariants.{Core as CoreInstance}
-use Rattle.lifted_facts.specs.declared.way.Way.TheVariants.{Inst}
-use Rattle.lifted_facts.specs.Lifted.{LiftedStep, derive}
-use Rattle.lifted_check.specs.StepLines.{step_words, IsSmall}
-use Rattle.lifted_check.specs.LiftedTexts.{Question, header}
+use Rattle.lifted_facts.specs.{declared.way.{Instance.TheVariants.{Core as CoreInstance}, Way.TheVariants.{Inst}}, Lifted.{LiftedStep, derive}}
+use Rattle.lifted_check.specs.{StepLines.{step_words, IsSmall}, LiftedTexts.{Question, header}}
 
 -- the line of a step, without its LF
 abbrev pub line_of : List MicroOp → LiftedStep → List ℕ

@@ -1,14 +1,11 @@
 -- A step without a value is that of its keyword and its numbers.
-use Rattle.std.proofs.Common.{◌≡◌, ◌⊎◌, inl, inr, ℕ, List, [], ◌∷◌, ◌++◌, Option, Some, None, refl, sym, ◌∙◌, ap, subst}
-use Rattle.std.specs.Option.{option_map}
+use Rattle.std.{proofs.Common.{◌≡◌, ◌⊎◌, inl, inr, ℕ, List, [], ◌∷◌, ◌++◌, Option, Some, None, refl, sym, ◌∙◌, ap, subst}, specs.Option.{option_map}}
 use Rattle.pc_common.specs.Case.{MicroOp}
 use Rattle.lifted_facts.specs.declared.way.Instance.{Instance}
 use Rattle.lifted_facts.specs.declared.way.Way.TheVariants.{Left as LeftWay, Right as RightWay, Not as NotWay, Bind as BindWay, Inst as InstWay, Member as MemberWay}
-use Rattle.lifted_facts.specs.Lifted.{LiftedStep, derive, split, close, falsity, cycle, path, absent}
-use Rattle.lifted_facts.proofs.PartTruth.{mapped}
+use Rattle.lifted_facts.{specs.Lifted.{LiftedStep, derive, split, close, falsity, cycle, path, absent}, proofs.PartTruth.{mapped}}
 use Rattle.lifted_check.specs.StepLines.{keyword_of, numbers_of, value_words, HasValue}
-use Rattle.lifted_check.specs.Decoding.{only_number, two_numbers, onto_front, front_and_last, decoded}
-use Rattle.lifted_check.specs.declared.keyword.Keyword.{Keyword}
+use Rattle.lifted_check.specs.{Decoding.{only_number, two_numbers, onto_front, front_and_last, decoded}, declared.keyword.Keyword.{Keyword}}
 use Rattle.lifted_check.specs.declared.keyword.Keyword.TheVariants.{Left, Right, Not, Bind, Member, Split, False, Cycle, Path, Absent, Inst}
 
 pub front_last : (ks : List ℕ) (d : ℕ) → front_and_last (ks ++ d ∷ []) ≡ Some (ks, d)

@@ -1,12 +1,8 @@
 -- Runs of step lines: one after another, cut in two, and that they lead to one list of branches.
 use Rattle.std.proofs.Common.{◌≡◌, ℕ, List, [], ◌∷◌, ◌++◌, refl, sym, ◌∙◌, subst}
 use Rattle.pc_common.specs.Case.{Case}
-use Rattle.lifted_facts.specs.PlainFacts.{Branch}
-use Rattle.lifted_facts.specs.Lifted.{LiftedStep, Advances, Runs}
-use Rattle.lifted_facts.proofs.RunLaws.{advances_one}
-use Rattle.lifted_check.specs.LiftedTexts.{LineAdvances, LinesRun}
-use Rattle.lifted_check.specs.Stages.{IsCase}
-use Rattle.lifted_check.proofs.OneStep.{one_step}
+use Rattle.lifted_facts.{specs.{PlainFacts.{Branch}, Lifted.{LiftedStep, Advances, Runs}}, proofs.RunLaws.{advances_one}}
+use Rattle.lifted_check.{specs.{LiftedTexts.{LineAdvances, LinesRun}, Stages.{IsCase}}, proofs.OneStep.{one_step}}
 
 pub lines_then : (c : Case) (xs ys : List (List ℕ)) (opens mid rest : List Branch) → LinesRun c xs opens mid
     → LinesRun c ys mid rest → LinesRun c (xs ++ ys) opens rest

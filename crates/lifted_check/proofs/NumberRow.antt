@@ -1,8 +1,6 @@
 -- The words that were read as numbers so far.
-use Rattle.std.proofs.Common.{◌≡◌, ℕ, List, ◌∷◌, ◌++◌, inl, map, refl, sym, ◌∙◌, subst}
-use Rattle.std.specs.Prelude.{All}
+use Rattle.std.{proofs.{Common.{◌≡◌, ℕ, List, ◌∷◌, ◌++◌, inl, map, refl, sym, ◌∙◌, subst}, lemmas.List.Elements.{All-contains}}, specs.Prelude.{All}}
 use Rattle.std.specs.Fmt.{decimal}
-use Rattle.std.proofs.lemmas.List.Elements.{All-contains}
 use Rattle.pc_common.proofs.Elements.{In, in_back, from_map, contains_from_in}
 use Rattle.pc_ground.specs.Decimals.{IsDecimal}
 use Rattle.lifted_check.specs.StepLines.{IsSmall}

@@ -1,28 +1,18 @@
 -- A line is that of one step, and what its words are.
 use Rattle.std.proofs.Common.{◌≡◌, ◌≢◌, ◌⊎◌, inl, inr, ℕ, ◌==◌, List, [], ◌∷◌, ◌++◌, Some, get_or, map, refl, sym, ◌∙◌, ap, subst, append_assoc}
-use Rattle.std.specs.Prelude.{All, codes, slice_get, if◌then◌else◌}
+use Rattle.std.{proofs.lemmas.List.{append-nil, Elements.{All-nil, All-cons, All-head, All-tail}}, specs.Prelude.{All, codes, slice_get, if◌then◌else◌}}
 use Rattle.std.specs.Fmt.{decimal}
-use Rattle.std.proofs.lemmas.List.{append-nil}
-use Rattle.std.proofs.lemmas.List.Elements.{All-nil, All-cons, All-head, All-tail}
-use Rattle.pc_common.specs.Case.{MicroOp}
-use Rattle.pc_common.specs.Lines.{op_text}
+use Rattle.pc_common.specs.{Case.{MicroOp}, Lines.{op_text}}
 use Rattle.pc_case.specs.MicroOps.{AreMicroOps}
-use Rattle.pc_ground.specs.Decimals.{read_on}
-use Rattle.pc_ground.specs.NodeWords.{Lacks}
-use Rattle.pc_ground.proofs.Decimals.{decimal_read}
-use Rattle.pc_ground.proofs.Cuts.{one_cut, cut_has, decimal_lacks}
+use Rattle.pc_ground.{specs.{Decimals.{read_on}, NodeWords.{Lacks}, Words.{words}}, proofs.{Decimals.{decimal_read}, Cuts.{one_cut, cut_has, decimal_lacks}}}
 use Rattle.pc_ground.proofs.Outside.{lacks_append}
-use Rattle.pc_ground.specs.Words.{words}
-use Rattle.lifted_facts.specs.declared.way.Instance.{Instance}
-use Rattle.lifted_facts.specs.declared.way.Instance.TheVariants.{Op as OpInstance, Core as CoreInstance}
+use Rattle.lifted_facts.specs.declared.way.Instance.{Instance, TheVariants.{Op as OpInstance, Core as CoreInstance}}
 use Rattle.lifted_facts.specs.declared.way.Way.TheVariants.{Left as LeftWay, Right as RightWay, Not as NotWay, Bind as BindWay, Inst as InstWay, Member as MemberWay}
 use Rattle.lifted_facts.specs.Lifted.{LiftedStep, derive, split, close, falsity, cycle, path, absent}
 use Rattle.lifted_check.specs.StepLines.{keyword_text, keyword_of, numbers_of, value_text, value_words, step_words, IsSmall, IsValue, HasValue, IsStepLine}
-use Rattle.lifted_check.specs.Decoding.{decoded}
-use Rattle.lifted_check.specs.declared.keyword.Keyword.{Keyword}
+use Rattle.lifted_check.specs.{Decoding.{decoded}, declared.keyword.Keyword.{Keyword}}
 use Rattle.lifted_check.specs.declared.keyword.Keyword.TheVariants.{Left, Right, Not, Bind, Inst, Member, Split, False, Cycle, Path, Absent}
-use Rattle.lifted_check.proofs.SpacedWords.{words_joined, line_of_words}
-use Rattle.lifted_check.proofs.DecodedSteps.{IsPlain, IsInstance, kind_of, decoded_is}
+use Rattle.lifted_check.proofs.{SpacedWords.{words_joined, line_of_words}, DecodedSteps.{IsPlain, IsInstance, kind_of, decoded_is}}
 
 -- a keyword by its first byte
 abbrev by_byte : ℕ → Keyword

@@ -1,21 +1,13 @@
 -- What the answer to a text says: which text it is, and that a lifted refutation leaves no world.
-use Rattle.std.proofs.Common.{◌≡◌, ℕ, ◌≤◌, List, [], ◌∷◌, zero, suc, refl, subst, arith, length}
-use Rattle.std.specs.Prelude.{IsTrue}
-use Rattle.pc_common.specs.World.{Node, World, IsWorld}
-use Rattle.pc_common.specs.declared.limits.TheConstants.{MAX_CERTIFICATE}
+use Rattle.std.{proofs.Common.{◌≡◌, ℕ, ◌≤◌, List, [], ◌∷◌, zero, suc, refl, subst, arith, length}, specs.Prelude.{IsTrue}}
+use Rattle.pc_common.specs.{World.{Node, World, IsWorld}, declared.limits.TheConstants.{MAX_CERTIFICATE}}
 use Rattle.pc_syntax.specs.Closed.{closed_satisfies}
-use Rattle.lifted_facts.specs.PlainFacts.{root}
-use Rattle.lifted_facts.proofs.Sound.{no_world}
-use Rattle.line_judge.specs.Texts.{IsMadeOf}
-use Rattle.line_judge.specs.JudgedLines.{IsWhole}
-use Rattle.line_judge.specs.declared.feed.Finished.{Finished}
-use Rattle.line_judge.specs.declared.feed.Finished.TheVariants.{Whole as a_whole_text, Refused as refused_at}
-use Rattle.line_judge.specs.Feeds.{IsRefusedBy, IsAnswer}
+use Rattle.lifted_facts.{specs.PlainFacts.{root}, proofs.Sound.{no_world}}
+use Rattle.line_judge.specs.{Texts.{IsMadeOf}, JudgedLines.{IsWhole}, declared.feed.Finished.{Finished}}
+use Rattle.line_judge.specs.{declared.feed.Finished.TheVariants.{Whole as a_whole_text, Refused as refused_at}, Feeds.{IsRefusedBy, IsAnswer}}
 use Rattle.lifted_check.specs.LiftedTexts.{Question, IsLiftedText, BeginsLifted}
 use Rattle.lifted_check.specs.Fed.{IsFound, unseen, too_long, refused, SaysOutcome, lifted_of, judge_question, judge_view}
-use Rattle.lifted_check.specs.declared.judge.LiftedJudge.{LiftedJudge}
-use Rattle.lifted_check.specs.declared.lifted.Lifted.{Lifted}
-use Rattle.lifted_check.specs.declared.lifted.Lifted.TheVariants.{Unobservable, Refused}
+use Rattle.lifted_check.specs.declared.{judge.LiftedJudge.{LiftedJudge}, lifted.Lifted.{Lifted, TheVariants.{Unobservable, Refused}}}
 use Rattle.lifted_check.proofs.LineRuns.{steps_of}
 
 pub text_forbids : (q : Question) (text : List ℕ) → IsMadeOf (IsLiftedText q) text → (w : World Node) → IsWorld w

@@ -1,12 +1,7 @@
 -- Lines that are cut at their spaces.
-use Rattle.std.proofs.Common.{◌≡◌, ℕ, List, [], ◌∷◌, sym, ◌∙◌, ap}
-use Rattle.std.specs.Prelude.{All}
-use Rattle.std.specs.List.{join_with_byte}
-use Rattle.std.proofs.lemmas.List.Elements.{All-head, All-tail}
-use Rattle.std.proofs.lemmas.List.Splits.{join_with_byte-slice_split}
-use Rattle.pc_ground.specs.NodeWords.{Lacks, IsCut}
-use Rattle.pc_ground.proofs.Cuts.{words_last, words_more}
-use Rattle.pc_ground.specs.Words.{words}
+use Rattle.std.proofs.{Common.{◌≡◌, ℕ, List, [], ◌∷◌, sym, ◌∙◌, ap}, lemmas.List.{Elements.{All-head, All-tail}, Splits.{join_with_byte-slice_split}}}
+use Rattle.std.specs.{Prelude.{All}, List.{join_with_byte}}
+use Rattle.pc_ground.{specs.{NodeWords.{Lacks, IsCut}, Words.{words}}, proofs.Cuts.{words_last, words_more}}
 
 pub words_cut : (line word rest : List ℕ) → IsCut 32 line word rest → words line ≡ word ∷ words rest
 words_cut line word rest h = ap words h.1 ∙ words_more word rest h.0

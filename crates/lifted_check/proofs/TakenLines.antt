@@ -1,18 +1,11 @@
 -- What a step line makes of the open branches.
-use Rattle.std.proofs.Common.{◌≡◌, ◌≢◌, ℕ, Bool, true, false, List, [], ◌∷◌, Some, None, map, sym, ◌∙◌, ap, subst}
-use Rattle.std.specs.Prelude.{All}
-use Rattle.std.specs.Fmt.{decimal}
+use Rattle.std.{proofs.Common.{◌≡◌, ◌≢◌, ℕ, Bool, true, false, List, [], ◌∷◌, Some, None, map, sym, ◌∙◌, ap, subst}, specs.{Prelude.{All}, Fmt.{decimal}}}
 use Rattle.pc_common.specs.Case.{Case, MicroOp}
 use Rattle.pc_ground.specs.Words.{words}
-use Rattle.lifted_facts.specs.declared.way.Instance.{Instance}
-use Rattle.lifted_facts.specs.declared.way.Way.TheVariants.{Inst as InstWay}
-use Rattle.lifted_facts.specs.PlainFacts.{Branch}
+use Rattle.lifted_facts.specs.{declared.way.{Instance.{Instance}, Way.TheVariants.{Inst as InstWay}}, PlainFacts.{Branch}}
 use Rattle.lifted_facts.specs.Lifted.{LiftedStep, derive, Advances, HasAdvanced}
-use Rattle.lifted_check.specs.StepLines.{keyword_text, numbers_of, value_text, IsSmall, IsValue, IsStepLine}
-use Rattle.lifted_check.specs.Decoding.{decoded}
-use Rattle.lifted_check.specs.Stages.{IsCase, HasSteppedOn}
-use Rattle.lifted_check.specs.declared.keyword.Keyword.{Keyword}
-use Rattle.lifted_check.specs.declared.keyword.Keyword.TheVariants.{Inst}
+use Rattle.lifted_check.specs.{StepLines.{keyword_text, numbers_of, value_text, IsSmall, IsValue, IsStepLine}, Decoding.{decoded}}
+use Rattle.lifted_check.specs.{Stages.{IsCase, HasSteppedOn}, declared.keyword.Keyword.{Keyword, TheVariants.{Inst}}}
 use Rattle.lifted_check.proofs.OneStep.{one_step, one_row, numbers_line, instance_line, plain_line, value_line}
 
 -- a step whose line was read

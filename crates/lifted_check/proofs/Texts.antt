@@ -1,14 +1,9 @@
 -- What may stand next in a lifted text.
-use Rattle.std.proofs.Common.{◌≡◌, ◌⊎◌, inl, inr, ℕ, Bool, true, false, List, [], ◌∷◌, ◌++◌, refl, sym, ◌∙◌, ap, subst, append_assoc}
-use Rattle.std.specs.Prelude.{codes}
-use Rattle.lifted_facts.specs.PlainFacts.{Branch, root}
-use Rattle.lifted_facts.specs.declared.open_branches.Branches.{Branches}
-use Rattle.lifted_facts.specs.Opens.{opens_at}
+use Rattle.std.{proofs.Common.{◌≡◌, ◌⊎◌, inl, inr, ℕ, Bool, true, false, List, [], ◌∷◌, ◌++◌, refl, sym, ◌∙◌, ap, subst, append_assoc}, specs.Prelude.{codes}}
+use Rattle.lifted_facts.specs.{PlainFacts.{Branch, root}, declared.open_branches.Branches.{Branches}, Opens.{opens_at}}
 use Rattle.lifted_check.specs.LiftedTexts.{Question, header, second_line, LineAdvances, LinesRun, IsPartialText, IsLiftedText, BeginsLifted}
-use Rattle.lifted_check.specs.Stages.{IsAsked, StandsAt, AreStepsSoFar, HasGone, HasSteppedOn, is_end}
-use Rattle.lifted_check.specs.declared.stage.Stage.{Stage}
-use Rattle.lifted_check.specs.declared.stage.Stage.TheVariants.{Start, First, Second, Steps, Ended}
-use Rattle.lifted_check.proofs.OneStep.{no_end_step}
+use Rattle.lifted_check.specs.{Stages.{IsAsked, StandsAt, AreStepsSoFar, HasGone, HasSteppedOn, is_end}, declared.stage.Stage.{Stage}}
+use Rattle.lifted_check.{specs.declared.stage.Stage.TheVariants.{Start, First, Second, Steps, Ended}, proofs.OneStep.{no_end_step}}
 use Rattle.lifted_check.proofs.LineRuns.{lines_then, lines_cut, lines_one}
 
 -- what stands after a header in lines that begin well: step lines, or these and the last line

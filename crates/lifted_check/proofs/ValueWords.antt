@@ -1,17 +1,10 @@
 -- Which words name a value.
-use Rattle.std.proofs.Common.{◌≡◌, ℕ, List, [], ◌∷◌, ◌++◌, Some, sym, ◌∙◌, ap}
-use Rattle.std.specs.Prelude.{codes, slice_get}
-use Rattle.std.specs.Fmt.{decimal}
+use Rattle.std.{proofs.Common.{◌≡◌, ℕ, List, [], ◌∷◌, ◌++◌, Some, sym, ◌∙◌, ap}, specs.{Prelude.{codes, slice_get}, Fmt.{decimal}}}
 use Rattle.pc_common.specs.Case.{MicroOp}
 use Rattle.pc_case.specs.MicroOps.{IsNamed}
-use Rattle.pc_ground.specs.Decimals.{IsDecimal}
-use Rattle.pc_ground.specs.NodeWords.{Lacks, IsCut}
-use Rattle.pc_ground.proofs.Cuts.{cut_is, cut_has, words_last}
-use Rattle.pc_ground.specs.Words.{words}
-use Rattle.lifted_facts.specs.declared.way.Instance.{Instance}
-use Rattle.lifted_facts.specs.declared.way.Instance.TheVariants.{Op as OpInstance, Core as CoreInstance}
-use Rattle.lifted_check.specs.StepLines.{IsSmall, IsValue, value_text}
-use Rattle.lifted_check.proofs.SpacedWords.{words_cut, line_of_words}
+use Rattle.pc_ground.{specs.{Decimals.{IsDecimal}, NodeWords.{Lacks, IsCut}, Words.{words}}, proofs.Cuts.{cut_is, cut_has, words_last}}
+use Rattle.lifted_facts.specs.declared.way.Instance.{Instance, TheVariants.{Op as OpInstance, Core as CoreInstance}}
+use Rattle.lifted_check.{specs.StepLines.{IsSmall, IsValue, value_text}, proofs.SpacedWords.{words_cut, line_of_words}}
 use Rattle.lifted_check.proofs.OneStep.{dotted, dot_lacks, op_is, value_lacks, one_number}
 
 -- a word g.n, by the numbers of a micro-op

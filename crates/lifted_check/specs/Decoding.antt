@@ -1,10 +1,8 @@
 -- The step of a keyword and numbers, which reading a line makes.
-use Rattle.std.specs.Prelude.{ℕ, List, [], ◌∷◌, Option, Some, None}
-use Rattle.std.specs.Option.{option_map}
+use Rattle.std.specs.{Prelude.{ℕ, List, [], ◌∷◌, Option, Some, None}, Option.{option_map}}
 use Rattle.lifted_facts.specs.declared.way.Way.TheVariants.{Left as LeftWay, Right as RightWay, Not as NotWay, Bind as BindWay, Member as MemberWay}
 use Rattle.lifted_facts.specs.Lifted.{LiftedStep, derive, split, close, falsity, cycle, path, absent}
-use Rattle.lifted_check.specs.declared.keyword.Keyword.{Keyword}
-use Rattle.lifted_check.specs.declared.keyword.Keyword.TheVariants.{Left, Right, Not, Bind, Inst, Member, Split, False, Cycle, Path, Absent}
+use Rattle.lifted_check.specs.declared.keyword.Keyword.{Keyword, TheVariants.{Left, Right, Not, Bind, Inst, Member, Split, False, Cycle, Path, Absent}}
 
 -- its step adds a part of a fact
 abbrev pub IsPartKeyword : Keyword → Type 0

@@ -1,19 +1,11 @@
 -- What a checker is after a text, and what its answer says.
 use Rattle.std.specs.Prelude.{◌≡◌, ℕ, ◌<◌, ◌≤◌, List, length, IsTrue, ⊤}
-use Rattle.pc_common.specs.World.{Node, World, IsWorld}
-use Rattle.pc_common.specs.declared.limits.TheConstants.{MAX_CERTIFICATE}
+use Rattle.pc_common.specs.{World.{Node, World, IsWorld}, declared.limits.TheConstants.{MAX_CERTIFICATE}}
 use Rattle.pc_syntax.specs.Closed.{closed_satisfies}
-use Rattle.line_judge.specs.Texts.{IsMadeOf, IsRefusedAt}
-use Rattle.line_judge.specs.Judges.{JudgeView}
-use Rattle.line_judge.specs.declared.feed.Finished.{Finished}
-use Rattle.line_judge.specs.declared.feed.Finished.TheVariants.{Whole as a_whole_text, Refused as refused_at}
-use Rattle.line_judge.specs.Feeds.{HasTaken}
-use Rattle.lifted_check.specs.LiftedTexts.{Question, asked, IsLiftedText, BeginsLifted}
-use Rattle.lifted_check.specs.Stages.{Stands}
-use Rattle.lifted_check.specs.declared.judge.LiftedJudge.{LiftedJudge}
-use Rattle.lifted_check.specs.declared.checker.LiftedChecker.{LiftedChecker}
-use Rattle.lifted_check.specs.declared.lifted.Lifted.{Lifted}
-use Rattle.lifted_check.specs.declared.lifted.Lifted.TheVariants.{Unobservable, Refused}
+use Rattle.line_judge.specs.{Texts.{IsMadeOf, IsRefusedAt}, Judges.{JudgeView}, declared.feed.Finished.{Finished}}
+use Rattle.line_judge.specs.{declared.feed.Finished.TheVariants.{Whole as a_whole_text, Refused as refused_at}, Feeds.{HasTaken}}
+use Rattle.lifted_check.specs.{LiftedTexts.{Question, asked, IsLiftedText, BeginsLifted}, Stages.{Stands}, declared.judge.LiftedJudge.{LiftedJudge}}
+use Rattle.lifted_check.specs.declared.{checker.LiftedChecker.{LiftedChecker}, lifted.Lifted.{Lifted, TheVariants.{Unobservable, Refused}}}
 
 -- the text is that of a lifted refutation; or, where it is none's, the first line with which it doesn't begin well any
 -- more; or 0 where it is longer than the limit

@@ -1,13 +1,9 @@
 -- Laws of the judge of lifted texts: what it took, a first part of what begins well, and a whole text begin well.
-use Rattle.std.specs.Prelude.{ℕ, ◌≡◌, ◌⊎◌, List, [], ◌∷◌, ◌++◌, codes}
-use Rattle.std.proofs.Common.{inl, inr, refl, sym, ◌∙◌, ap, subst}
+use Rattle.std.{specs.Prelude.{ℕ, ◌≡◌, ◌⊎◌, List, [], ◌∷◌, ◌++◌, codes}, proofs.Common.{inl, inr, refl, sym, ◌∙◌, ap, subst}}
 use Rattle.std.proofs.lemmas.List.{append-nil, append_assoc}
-use Rattle.lifted_facts.specs.PlainFacts.{root}
-use Rattle.lifted_facts.specs.Opens.{opens_at}
-use Rattle.lifted_check.specs.LiftedTexts.{Question, header, second_line, IsPartialText, IsLiftedText, BeginsLifted}
-use Rattle.lifted_check.specs.Stages.{StandsAt}
-use Rattle.lifted_check.specs.declared.stage.Stage.{Stage}
-use Rattle.lifted_check.specs.declared.stage.Stage.TheVariants.{Start, First, Second, Steps, Ended}
+use Rattle.lifted_facts.specs.{PlainFacts.{root}, Opens.{opens_at}}
+use Rattle.lifted_check.specs.{LiftedTexts.{Question, header, second_line, IsPartialText, IsLiftedText, BeginsLifted}, Stages.{StandsAt}}
+use Rattle.lifted_check.specs.declared.stage.Stage.{Stage, TheVariants.{Start, First, Second, Steps, Ended}}
 
 pub first_begins : (q : Question) (lines more : List (List ℕ)) → BeginsLifted q (lines ++ more) → BeginsLifted q lines
 first_begins q lines more b = record {

@@ -1,12 +1,9 @@
 -- The text of a lifted refutation, and what begins one.
 use Rattle.std.specs.Prelude.{ℕ, ◌≡◌, ◌⊎◌, List, [], ◌∷◌, ◌++◌, codes}
-use Rattle.pc_common.specs.Case.{Case}
-use Rattle.pc_common.specs.Lines.{unobservable, second_text}
-use Rattle.pc_syntax.specs.declared.closed.Closed.{Closed}
-use Rattle.pc_syntax.specs.Closed.{PlainClosed}
+use Rattle.pc_common.specs.{Case.{Case}, Lines.{unobservable, second_text}}
+use Rattle.pc_syntax.specs.{declared.closed.Closed.{Closed}, Closed.{PlainClosed}}
 use Rattle.pc_ground.specs.Stages.{plain_axioms}
-use Rattle.lifted_facts.specs.PlainFacts.{Branch, root}
-use Rattle.lifted_facts.specs.Lifted.{LiftedStep, Advances}
+use Rattle.lifted_facts.specs.{PlainFacts.{Branch, root}, Lifted.{LiftedStep, Advances}}
 use Rattle.lifted_check.specs.StepLines.{IsStepLine}
 
 -- what is asked: a test and closed axioms

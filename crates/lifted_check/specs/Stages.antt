@@ -2,11 +2,8 @@
 use Rattle.std.specs.Prelude.{◌≡◌, ℕ, List, [], ◌∷◌, ◌++◌, Bool, true, false, Option, Some, None, codes}
 use Rattle.pc_common.specs.Case.{Case}
 use Rattle.pc_case.specs.MicroOps.{AreMicroOps}
-use Rattle.lifted_facts.specs.PlainFacts.{Branch, root}
-use Rattle.lifted_facts.specs.declared.open_branches.Branches.{Branches}
-use Rattle.lifted_facts.specs.Opens.{opens_at}
-use Rattle.lifted_check.specs.LiftedTexts.{Question, header, second_line, LineAdvances, LinesRun, IsLiftedText, BeginsLifted}
-use Rattle.lifted_check.specs.declared.stage.Stage.{Stage}
+use Rattle.lifted_facts.specs.{PlainFacts.{Branch, root}, declared.open_branches.Branches.{Branches}, Opens.{opens_at}}
+use Rattle.lifted_check.specs.{LiftedTexts.{Question, header, second_line, LineAdvances, LinesRun, IsLiftedText, BeginsLifted}, declared.stage.Stage.{Stage}}
 use Rattle.lifted_check.specs.declared.stage.Stage.TheVariants.{Start, First, Second, Steps, Ended}
 
 -- step lines after a header, which leave these branches open

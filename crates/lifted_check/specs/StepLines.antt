@@ -1,15 +1,10 @@
 -- The lines of the steps of a lifted refutation.
-use Rattle.std.specs.Prelude.{ℕ, ◌≡◌, ◌≤◌, List, [], ◌∷◌, ◌++◌, Some, All, map, slice_get, codes}
-use Rattle.std.specs.List.{join_with_byte}
-use Rattle.std.specs.Fmt.{decimal}
-use Rattle.pc_common.specs.Case.{MicroOp}
-use Rattle.pc_common.specs.Lines.{op_text}
-use Rattle.lifted_facts.specs.declared.way.Instance.{Instance}
-use Rattle.lifted_facts.specs.declared.way.Instance.TheVariants.{Op as OpInstance, Core as CoreInstance}
+use Rattle.std.specs.{Prelude.{ℕ, ◌≡◌, ◌≤◌, List, [], ◌∷◌, ◌++◌, Some, All, map, slice_get, codes}, List.{join_with_byte}, Fmt.{decimal}}
+use Rattle.pc_common.specs.{Case.{MicroOp}, Lines.{op_text}}
+use Rattle.lifted_facts.specs.declared.way.Instance.{Instance, TheVariants.{Op as OpInstance, Core as CoreInstance}}
 use Rattle.lifted_facts.specs.declared.way.Way.TheVariants.{Left as LeftWay, Right as RightWay, Not as NotWay, Bind as BindWay, Inst as InstWay, Member as MemberWay}
 use Rattle.lifted_facts.specs.Lifted.{LiftedStep, derive, split, close, falsity, cycle, path, absent}
-use Rattle.lifted_check.specs.declared.keyword.Keyword.{Keyword}
-use Rattle.lifted_check.specs.declared.keyword.Keyword.TheVariants.{Left, Right, Not, Bind, Inst, Member, Split, False, Cycle, Path, Absent}
+use Rattle.lifted_check.specs.declared.keyword.Keyword.{Keyword, TheVariants.{Left, Right, Not, Bind, Inst, Member, Split, False, Cycle, Path, Absent}}
 
 abbrev pub keyword_text : Keyword → List ℕ
 keyword_text Left = codes "left"

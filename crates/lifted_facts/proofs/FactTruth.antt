@@ -1,9 +1,6 @@
 -- What a fact says of a world.
-use Rattle.std.proofs.Common.{◌≡◌, ◌⊎◌, inl, inr, Bool, true, false, not, ◌&&◌, ◌||◌, List, [], ◌∷◌, ◌++◌, drop, refl, subst}
-use Rattle.std.specs.List.{list_any, list_all}
-use Rattle.pc_common.specs.Case.{Case}
-use Rattle.pc_common.specs.World.{Node, World}
-use Rattle.pc_common.proofs.Elements.{In}
+use Rattle.std.{proofs.Common.{◌≡◌, ◌⊎◌, inl, inr, Bool, true, false, not, ◌&&◌, ◌||◌, List, [], ◌∷◌, ◌++◌, drop, refl, subst}, specs.List.{list_any, list_all}}
+use Rattle.pc_common.{specs.{Case.{Case}, World.{Node, World}}, proofs.Elements.{In}}
 use Rattle.pc_syntax.specs.Truth.{Meaning, node_holds, edge_holds, range_of}
 use Rattle.pc_syntax.specs.Closed.{PlainClosed, closed_forall, closed_exists, closed_nodes, closed_edges, closed_node, closed_true}
 use Rattle.lifted_facts.specs.PlainFacts.{PlainFact, said, one_node, one_edge}

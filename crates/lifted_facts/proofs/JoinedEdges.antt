@@ -1,9 +1,7 @@
 -- Edges that are joined begin and end at one pair of nodes.
-use Rattle.std.proofs.Common.{◌≡◌, ℕ, Bool, true, false, List, [], ◌∷◌, sym, ◌∙◌, subst}
-use Rattle.std.specs.Prelude.{◌↔◌, IsTrue}
+use Rattle.std.{proofs.Common.{◌≡◌, ℕ, Bool, true, false, List, [], ◌∷◌, sym, ◌∙◌, subst}, specs.Prelude.{◌↔◌, IsTrue}}
 use Rattle.pc_common.specs.World.{Node}
-use Rattle.lifted_facts.specs.PlainFacts.{Branch}
-use Rattle.lifted_facts.specs.Lifted.{IsEdge, Follows, IsCycle, IsPath}
+use Rattle.lifted_facts.specs.{PlainFacts.{Branch}, Lifted.{IsEdge, Follows, IsCycle, IsPath}}
 
 edge_one : (b : Branch) (plus : Bool) (k : ℕ) (x y u v : Node) → IsEdge b plus k x y → IsEdge b plus k u v → (x ≡ u) × (y ≡ v)
 edge_one b plus k x y u v e f = (cc, cc)

@@ -1,14 +1,10 @@
 -- What open branches keep: their facts are of the case, and waiting branches keep facts that are there.
 use Rattle.std.proofs.Common.{◌≡◌, ℕ, ◌≤◌, Bool, true, false, List, [], ◌∷◌, ◌++◌, length, take, reverse, sym, ◌∙◌, ap, subst, arith, length-append}
+use Rattle.std.proofs.lemmas.List.{reverse-append, length-take-le, Elements.{All-nil, All-push, All-take, All-head, All-tail, All-cons}}
 use Rattle.std.specs.Prelude.{All, if◌then◌else◌}
-use Rattle.std.proofs.lemmas.List.{reverse-append, length-take-le}
-use Rattle.std.proofs.lemmas.List.Elements.{All-nil, All-push, All-take, All-head, All-tail, All-cons}
 use Rattle.pc_common.specs.Case.{Case}
-use Rattle.lifted_facts.specs.declared.fact.Fact.{Fact}
-use Rattle.lifted_facts.specs.declared.waiting.Waiting.{Waiting}
-use Rattle.lifted_facts.specs.PlainFacts.{Branch, IsProper}
-use Rattle.lifted_facts.specs.OpenBranches.{opens_of, AreWithin, AreKept}
-use Rattle.lifted_facts.proofs.OpenFacts.{within_more, opened_next}
+use Rattle.lifted_facts.specs.{declared.{fact.Fact.{Fact}, waiting.Waiting.{Waiting}}, PlainFacts.{Branch, IsProper}}
+use Rattle.lifted_facts.{specs.OpenBranches.{opens_of, AreWithin, AreKept}, proofs.OpenFacts.{within_more, opened_next}}
 
 pub kept_new : (c : Case) (facts : List Fact) (later : List Waiting) → All (IsProper c) facts → later ≡ [] → AreKept c facts later
 kept_new c facts later proper none = (let P : List Waiting → Type 0 = λ ls. AreKept c facts ls in

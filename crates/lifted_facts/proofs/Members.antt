@@ -1,20 +1,10 @@
 -- Facts in lists: one more axiom as a fact, the fact of a number, nodes and edges that are lists' members.
-use Rattle.std.proofs.Common.{◌≡◌, ℕ, ◌+◌, List, [], ◌∷◌, ◌++◌, Some, take, sym, ◌∙◌, ap, subst}
-use Rattle.std.specs.Prelude.{slice_get}
-use Rattle.std.proofs.lemmas.List.{map-append}
-use Rattle.pc_syntax.specs.declared.closed.Closed.{Closed}
-use Rattle.pc_syntax.specs.Closed.{plain_closed}
+use Rattle.std.{proofs.{Common.{◌≡◌, ℕ, ◌+◌, List, [], ◌∷◌, ◌++◌, Some, take, sym, ◌∙◌, ap, subst, true}, lemmas.List.{map-append}}, specs.Prelude.{slice_get}}
+use Rattle.pc_syntax.specs.{declared.{closed.Closed.{Closed}, bound.Bound.{Bound}}, Closed.{plain_closed}, IsClosed.{IsClosed}}
 use Rattle.pc_ground.specs.Stages.{plain_axioms}
-use Rattle.static_preds.proofs.Walked.{map_take}
+use Rattle.static_preds.{proofs.{Walked.{map_take}, SlotLaws.{no_slots}}, specs.{Slots.{AreInRange}, Values.{scope_of}}}
 use Rattle.pc_common.specs.Case.{Case}
-use Rattle.pc_syntax.specs.declared.bound.Bound.{Bound}
-use Rattle.pc_syntax.specs.IsClosed.{IsClosed}
-use Rattle.static_preds.specs.Slots.{AreInRange}
-use Rattle.static_preds.specs.Values.{scope_of}
-use Rattle.static_preds.proofs.SlotLaws.{no_slots}
-use Rattle.lifted_facts.specs.declared.fact.Fact.{Fact}
-use Rattle.lifted_facts.specs.PlainFacts.{PlainFact, said, root, IsProper}
-use Rattle.std.proofs.Common.{true}
+use Rattle.lifted_facts.specs.{declared.fact.Fact.{Fact}, PlainFacts.{PlainFact, said, root, IsProper}}
 
 -- one axiom more
 pub root_more : (axioms : List Closed) (k : ℕ) (a : Closed) (facts : List PlainFact) → slice_get axioms k ≡ Some a

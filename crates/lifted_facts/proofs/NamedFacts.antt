@@ -1,14 +1,9 @@
 -- What the fact of a number has: its part, its sides, an edge or a denied node, and that it holds nowhere.
-use Rattle.std.proofs.Common.{◌≡◌, ℕ, Bool, false, Option, Some, None, sym, ◌∙◌, ap, subst}
-use Rattle.std.specs.Prelude.{◌↔◌, IsTrue, MatchOption, slice_get}
+use Rattle.std.{proofs.Common.{◌≡◌, ℕ, Bool, false, Option, Some, None, sym, ◌∙◌, ap, subst}, specs.Prelude.{◌↔◌, IsTrue, MatchOption, slice_get}}
 use Rattle.std.specs.Option.{option_map}
-use Rattle.pc_common.specs.Case.{Case}
-use Rattle.pc_common.specs.World.{Node}
-use Rattle.lifted_facts.specs.declared.fact.Fact.{Fact}
-use Rattle.lifted_facts.specs.declared.way.Way.{Way}
-use Rattle.lifted_facts.specs.PlainFacts.{PlainFact, one_node, one_edge, Branch, plain_fact, plain_pair}
-use Rattle.lifted_facts.specs.Parts.{part_of, sides, is_false}
-use Rattle.lifted_facts.specs.Lifted.{HasFact, IsEdge, Asserts, IsAbsent, IsFalsity, HasPart, HasSides}
+use Rattle.pc_common.specs.{Case.{Case}, World.{Node}}
+use Rattle.lifted_facts.specs.{declared.{fact.Fact.{Fact}, way.Way.{Way}}, PlainFacts.{PlainFact, one_node, one_edge, Branch, plain_fact, plain_pair}}
+use Rattle.lifted_facts.specs.{Parts.{part_of, sides, is_false}, Lifted.{HasFact, IsEdge, Asserts, IsAbsent, IsFalsity, HasPart, HasSides}}
 
 -- a number has one fact, or none
 pub no_fact : (b : Branch) (k : ℕ) → slice_get b k ≡ None → (f : PlainFact) → HasFact b k f → ⊥

@@ -1,14 +1,9 @@
 -- What steps make of the open branches as lists of facts.
 use Rattle.std.proofs.Common.{◌≡◌, ℕ, suc, ◌≤◌, Bool, true, false, List, [], ◌∷◌, ◌++◌, length, map, take, refl, sym, ◌∙◌, ap, subst, arith}
-use Rattle.std.proofs.Math.Seq.{take-append_seam}
-use Rattle.std.proofs.lemmas.List.{map-append, take-map, take-append-le, length-take-le}
+use Rattle.std.proofs.{Math.Seq.{take-append_seam}, lemmas.List.{map-append, take-map, take-append-le, length-take-le}}
 use Rattle.pc_common.specs.Case.{Case}
-use Rattle.lifted_facts.specs.declared.fact.Fact.{Fact}
-use Rattle.lifted_facts.specs.declared.waiting.Waiting.{Waiting}
-use Rattle.lifted_facts.specs.declared.way.Way.{Way}
-use Rattle.lifted_facts.specs.PlainFacts.{PlainFact, Branch, plain_fact}
-use Rattle.lifted_facts.specs.Lifted.{derive, split, HasPart, HasSides, HasAdvanced}
-use Rattle.lifted_facts.specs.OpenBranches.{waiting, opens_of, AreWithin}
+use Rattle.lifted_facts.specs.{declared.{fact.Fact.{Fact}, waiting.Waiting.{Waiting}, way.Way.{Way}}, PlainFacts.{PlainFact, Branch, plain_fact}}
+use Rattle.lifted_facts.specs.{Lifted.{derive, split, HasPart, HasSides, HasAdvanced}, OpenBranches.{waiting, opens_of, AreWithin}}
 
 -- more facts after those that waiting branches keep change none of them
 pub waiting_more : (b more : Branch) (ls : List Waiting) → AreWithin (length b) ls → waiting (b ++ more) ls ≡ waiting b ls

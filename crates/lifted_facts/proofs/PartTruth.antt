@@ -1,25 +1,13 @@
 -- A part of a fact is true where the fact is; so is one of its sides; and a fact that is false is true nowhere.
 use Rattle.std.proofs.Common.{◌≡◌, ◌⊎◌, inl, inr, ℕ, ◌+◌, ◌≤◌, Bool, true, false, not, List, [], ◌∷◌, ◌++◌, Option, Some, None, length, map, drop, refl, sym, ◌∙◌, ap, subst}
-use Rattle.std.specs.Prelude.{slice_get, nat_lt}
-use Rattle.std.specs.List.{list_any, list_all}
+use Rattle.std.{proofs.lemmas.{Bool.{ltb-false}, List.{drop_all}}, specs.{Prelude.{slice_get, nat_lt}, List.{list_any, list_all}}}
 use Rattle.std.specs.Option.{option_map, option_and_then}
-use Rattle.std.proofs.lemmas.Bool.{ltb-false}
-use Rattle.std.proofs.lemmas.List.{drop_all}
-use Rattle.pc_common.specs.Case.{Case}
-use Rattle.pc_common.specs.World.{Node, World}
-use Rattle.pc_common.proofs.Elements.{all_holds}
-use Rattle.pc_common.proofs.Bools.{and_first, and_second, or_either}
-use Rattle.pc_common.proofs.Places.{in_at}
-use Rattle.pc_syntax.specs.declared.closed_term.ClosedNode.{ClosedNode}
-use Rattle.pc_syntax.specs.declared.closed_term.ClosedEdge.{ClosedEdge}
-use Rattle.pc_syntax.specs.declared.term.Sort.{Sort}
-use Rattle.pc_syntax.specs.Predicates.{predicate_holds}
+use Rattle.pc_common.{specs.{Case.{Case}, World.{Node, World}}, proofs.{Elements.{all_holds}, Bools.{and_first, and_second, or_either}, Places.{in_at}}}
+use Rattle.pc_syntax.specs.{declared.{closed_term.{ClosedNode.{ClosedNode}, ClosedEdge.{ClosedEdge}}, term.Sort.{Sort}}, Predicates.{predicate_holds}}
 use Rattle.pc_syntax.specs.Truth.{Meaning, node_holds, edge_holds, range_of}
 use Rattle.pc_syntax.specs.Closed.{PlainClosed, closed_not, closed_and, closed_or, closed_implies, closed_forall, closed_exists, closed_static, closed_nodes, closed_edges, closed_bind, closed_node, closed_value, closed_argument, closed_true}
 use Rattle.static_preds.proofs.Walked.{drop_at}
-use Rattle.lifted_facts.specs.declared.way.Way.{Way}
-use Rattle.lifted_facts.specs.declared.way.Way.TheVariants.{Left, Right, Not, Bind, Inst, Member}
-use Rattle.lifted_facts.specs.PlainFacts.{PlainFact, said, one_node, one_edge}
+use Rattle.lifted_facts.specs.{declared.way.Way.{Way, TheVariants.{Left, Right, Not, Bind, Inst, Member}}, PlainFacts.{PlainFact, said, one_node, one_edge}}
 use Rattle.lifted_facts.specs.Parts.{number_of_instance, said_at, part_of, or_later, sides, is_false}
 use Rattle.lifted_facts.proofs.FactTruth.{under, fact_true, start_true, nor_first, nor_second, nand_either, not_not, not_true, none_passes}
 

@@ -1,10 +1,7 @@
 -- Runs of steps: one after another, and that they lead to one list of branches.
-use Rattle.std.proofs.Common.{◌≡◌, ℕ, List, [], ◌∷◌, ◌++◌, Option, Some, refl, sym, ◌∙◌, ap, subst}
-use Rattle.std.specs.Prelude.{slice_get}
+use Rattle.std.{proofs.Common.{◌≡◌, ℕ, List, [], ◌∷◌, ◌++◌, Option, Some, refl, sym, ◌∙◌, ap, subst}, specs.Prelude.{slice_get}}
 use Rattle.pc_common.specs.Case.{Case}
-use Rattle.lifted_facts.specs.PlainFacts.{PlainFact, Branch}
-use Rattle.lifted_facts.specs.Parts.{part_of, sides}
-use Rattle.lifted_facts.specs.Lifted.{LiftedStep, derive, split, close, StepsTo, Advances, Runs}
+use Rattle.lifted_facts.specs.{PlainFacts.{PlainFact, Branch}, Parts.{part_of, sides}, Lifted.{LiftedStep, derive, split, close, StepsTo, Advances, Runs}}
 
 pub runs_then : (c : Case) (xs ys : List LiftedStep) (opens mid rest : List Branch) → Runs c xs opens mid → Runs c ys mid rest → Runs c (xs ++ ys) opens rest
 runs_then c [] ys opens mid rest r q = (let P : List Branch → Type 0 = λ bs. Runs c ys bs rest in subst P (sym r) q)

@@ -1,10 +1,8 @@
 -- Laws of lifted refutations.
 use Rattle.std.specs.Prelude.{◌≡◌, ◌↔◌, List, ◌++◌, IsTrue}
-use Rattle.pc_common.specs.Case.{Case}
-use Rattle.pc_common.specs.World.{Node, World, IsWorld}
+use Rattle.pc_common.specs.{Case.{Case}, World.{Node, World, IsWorld}}
 use Rattle.pc_syntax.specs.Closed.{PlainClosed, closed_satisfies}
-use Rattle.lifted_facts.specs.PlainFacts.{Branch}
-use Rattle.lifted_facts.specs.Lifted.{LiftedStep, Runs, IsLiftedRefutation}
+use Rattle.lifted_facts.specs.{PlainFacts.{Branch}, Lifted.{LiftedStep, Runs, IsLiftedRefutation}}
 
 -- axioms that have a lifted refutation are together true in no world
 abbrev pub LiftedIsSound : Type 0

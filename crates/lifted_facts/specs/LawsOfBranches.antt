@@ -1,15 +1,10 @@
 -- What the open branches promise has one proof.
-use Rattle.std.specs.Prelude.{ℕ, List, [], ◌∷◌, length, reverse}
-use Rattle.std.specs.Coded.{le_prop}
+use Rattle.std.specs.{Prelude.{ℕ, List, [], ◌∷◌, length, reverse}, Coded.{le_prop}}
 use Rattle.pc_common.specs.Case.{Case}
-use Rattle.pc_syntax.specs.Closed.{plain_closed}
-use Rattle.pc_syntax.specs.LawsOfFormulas.{IsClosed-prop}
+use Rattle.pc_syntax.specs.{Closed.{plain_closed}, LawsOfFormulas.{IsClosed-prop}}
 use Rattle.static_preds.specs.Values.{scope_of}
-use Rattle.lifted_facts.specs.declared.fact.Fact.{Fact}
-use Rattle.lifted_facts.specs.declared.fact.Fact.TheVariants.{Said, Node as NodeFact, Edge as EdgeFact}
-use Rattle.lifted_facts.specs.declared.waiting.Waiting.{Waiting as WaitingBranch}
-use Rattle.lifted_facts.specs.PlainFacts.{IsProper}
-use Rattle.lifted_facts.specs.OpenBranches.{AreWithin, AreKept}
+use Rattle.lifted_facts.specs.declared.{fact.Fact.{Fact, TheVariants.{Said, Node as NodeFact, Edge as EdgeFact}}, waiting.Waiting.{Waiting as WaitingBranch}}
+use Rattle.lifted_facts.specs.{PlainFacts.{IsProper}, OpenBranches.{AreWithin, AreKept}}
 
 pub IsProper-prop : (c : Case) (f : Fact) → IsProp (IsProper c f)
 IsProper-prop c (Said s) = hlevel (IsClosed-prop (scope_of s.env.items) (plain_closed s.formula.now), le_prop)

@@ -1,11 +1,8 @@
 -- Lifted refutations: steps in prefix order that leave no branch of facts open.
 use Rattle.std.specs.Prelude.{ℕ, ◌≡◌, ◌⊎◌, Bool, true, false, List, [], ◌∷◌, ◌++◌, Some, slice_get}
-use Rattle.pc_common.specs.Case.{Case}
-use Rattle.pc_common.specs.World.{Node}
+use Rattle.pc_common.specs.{Case.{Case}, World.{Node}}
 use Rattle.pc_syntax.specs.Closed.{PlainClosed}
-use Rattle.lifted_facts.specs.declared.way.Way.{Way}
-use Rattle.lifted_facts.specs.PlainFacts.{PlainFact, one_node, one_edge, Branch, root}
-use Rattle.lifted_facts.specs.Parts.{part_of, sides, is_false}
+use Rattle.lifted_facts.specs.{declared.way.Way.{Way}, PlainFacts.{PlainFact, one_node, one_edge, Branch, root}, Parts.{part_of, sides, is_false}}
 
 -- what closes a branch; its facts are named by their numbers
 pub data LiftedLeaf : Type 0 where

@@ -1,9 +1,7 @@
 -- The branches that are open: the facts of the first, and of each waiting one what it keeps of those and one fact more.
 use Rattle.std.specs.Prelude.{ℕ, ◌≤◌, Bool, true, false, List, [], ◌∷◌, ◌++◌, All, length, map, take, reverse}
 use Rattle.pc_common.specs.Case.{Case}
-use Rattle.lifted_facts.specs.declared.fact.Fact.{Fact}
-use Rattle.lifted_facts.specs.declared.waiting.Waiting.{Waiting as WaitingBranch}
-use Rattle.lifted_facts.specs.PlainFacts.{Branch, plain_fact, IsProper}
+use Rattle.lifted_facts.specs.{declared.{fact.Fact.{Fact}, waiting.Waiting.{Waiting as WaitingBranch}}, PlainFacts.{Branch, plain_fact, IsProper}}
 
 -- a waiting branch has the first facts of the one before it, and one fact more; the next one is first
 abbrev pub waiting : Branch → List WaitingBranch → List Branch

@@ -1,8 +1,6 @@
 -- The open branches of the code.
 use Rattle.std.specs.Prelude.{List, reverse}
-use Rattle.lifted_facts.specs.declared.open_branches.Branches.{Branches}
-use Rattle.lifted_facts.specs.PlainFacts.{Branch}
-use Rattle.lifted_facts.specs.OpenBranches.{opens_of}
+use Rattle.lifted_facts.specs.{declared.open_branches.Branches.{Branches}, PlainFacts.{Branch}, OpenBranches.{opens_of}}
 
 abbrev pub opens_at : Branches → List Branch
 opens_at b = opens_of b.is_open b.facts.items (reverse b.later.items)

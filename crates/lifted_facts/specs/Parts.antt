@@ -2,16 +2,10 @@
 use Rattle.std.specs.Prelude.{ℕ, ◌+◌, Bool, true, false, not, List, [], ◌∷◌, ◌++◌, Option, Some, None, length, map, nat_lt, slice_get}
 use Rattle.std.specs.Option.{option_map, option_and_then}
 use Rattle.pc_common.specs.Case.{Case}
-use Rattle.pc_syntax.specs.declared.term.Sort.{Sort}
-use Rattle.pc_syntax.specs.declared.term.Sort.TheVariants.{Microop, Core}
-use Rattle.pc_syntax.specs.Predicates.{predicate_holds}
-use Rattle.pc_syntax.specs.Truth.{Meaning, range_of}
+use Rattle.pc_syntax.specs.{declared.term.Sort.{Sort, TheVariants.{Microop, Core}}, Predicates.{predicate_holds}, Truth.{Meaning, range_of}}
 use Rattle.pc_syntax.specs.Closed.{PlainClosed, closed_not, closed_and, closed_or, closed_implies, closed_forall, closed_exists, closed_static, closed_nodes, closed_edges, closed_bind, closed_value, closed_argument, closed_node}
-use Rattle.lifted_facts.specs.declared.way.Instance.{Instance}
-use Rattle.lifted_facts.specs.declared.way.Instance.TheVariants.{Op as OpInstance, Core as CoreInstance}
-use Rattle.lifted_facts.specs.declared.way.Way.{Way}
-use Rattle.lifted_facts.specs.declared.way.Way.TheVariants.{Left, Right, Not, Bind, Inst, Member}
-use Rattle.lifted_facts.specs.PlainFacts.{PlainFact, said, one_node, one_edge}
+use Rattle.lifted_facts.specs.declared.way.{Instance.{Instance, TheVariants.{Op as OpInstance, Core as CoreInstance}}, Way.{Way}}
+use Rattle.lifted_facts.specs.{declared.way.Way.TheVariants.{Left, Right, Not, Bind, Inst, Member}, PlainFacts.{PlainFact, said, one_node, one_edge}}
 
 -- the place of a value in the range of its sort: in test order, or its number as a core
 abbrev pub number_of_instance : Sort → Instance → Option ℕ

@@ -1,16 +1,10 @@
 -- Facts: what is said of a world by parts of closed axioms.
 use Rattle.std.specs.Prelude.{ℕ, Bool, true, List, [], Option, Some, map}
-use Rattle.pc_common.specs.Case.{Case}
-use Rattle.pc_common.specs.World.{Node}
-use Rattle.pc_syntax.specs.Truth.{Meaning}
-use Rattle.pc_syntax.specs.Closed.{PlainClosed, plain_closed}
-use Rattle.pc_syntax.specs.IsClosed.{IsClosed}
+use Rattle.pc_common.specs.{Case.{Case}, World.{Node}}
+use Rattle.pc_syntax.specs.{Truth.{Meaning}, Closed.{PlainClosed, plain_closed}, IsClosed.{IsClosed}}
 use Rattle.pc_ground.specs.Keys.{key_node}
-use Rattle.static_preds.specs.Slots.{AreInRange}
-use Rattle.static_preds.specs.Values.{meanings, scope_of}
-use Rattle.lifted_facts.specs.declared.fact.Said.{Said as SaidFact}
-use Rattle.lifted_facts.specs.declared.fact.Fact.{Fact}
-use Rattle.lifted_facts.specs.declared.fact.Fact.TheVariants.{Said, Node as NodeFact, Edge as EdgeFact}
+use Rattle.static_preds.specs.{Slots.{AreInRange}, Values.{meanings, scope_of}}
+use Rattle.lifted_facts.specs.declared.fact.{Said.{Said as SaidFact}, Fact.{Fact, TheVariants.{Said, Node as NodeFact, Edge as EdgeFact}}}
 
 -- the sign true says that what follows holds, and false that it does not
 pub data PlainFact : Type 0 where

@@ -1,8 +1,5 @@
 -- The steps of the code.
-use Rattle.lifted_facts.specs.declared.step.Leaf.{Leaf}
-use Rattle.lifted_facts.specs.declared.step.Leaf.TheVariants.{False, Cycle, Path, Absent}
-use Rattle.lifted_facts.specs.declared.step.Step.{Step}
-use Rattle.lifted_facts.specs.declared.step.Step.TheVariants.{Derive, Split, Close}
+use Rattle.lifted_facts.specs.declared.step.{Leaf.{Leaf, TheVariants.{False, Cycle, Path, Absent}}, Step.{Step, TheVariants.{Derive, Split, Close}}}
 use Rattle.lifted_facts.specs.Lifted.{LiftedLeaf, falsity, cycle, path, absent, LiftedStep, derive, split, close}
 
 abbrev pub plain_leaf : Leaf → LiftedLeaf

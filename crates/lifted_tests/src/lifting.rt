@@ -1,6 +1,6 @@
 //! The command lift: a certificate of version 1 made into a lifted refutation, or refused at its line.
 use example_texts::{BOTH_ORDERS, EITHER_ORDER, EMPTY, ORDERED, SOME_OP, TWO, TWO_FORBIDDEN};
-use memory_runs::{Plan, are_failures_reported, ends_over, written};
+use memory_runs::{Plan, are_failures_reported, ends_over, output_of};
 use pc_common::{Memory, Status};
 use std::alloc::Global;
 use std::test::Fail;
@@ -64,7 +64,7 @@ fn a_lifted_refutation_is_verified(rt: HostRuntime) -> Result<(), Fail> {
             ("test", *test),
             ("certificate", *certificate),
         ];
-        let text = written(rt.alloc(), WORDS, contents)?;
+        let text = output_of(rt.alloc(), WORDS, contents)?;
         assert!(rt;
             is_verified(rt.alloc(), *model, *test, &text)?,
             "{certificate}"

@@ -1,33 +1,17 @@
 -- A term of a closed formula names a node, so no member of a list is a constant.
 use Rattle.std.proofs.Common.{◌≡◌, ℕ, zero, suc, ◌-◌, inl, inr, Bool, true, false, List, [], ◌∷◌, Option, Some, None, map, drop, length, refl, sym, ◌∙◌, ap, subst, length-drop}
-use Rattle.std.specs.Prelude.{slice_get, unwrap_or}
-use Rattle.std.specs.Option.{option_map}
-use Rattle.std.proofs.lemmas.Option.{slice_get-map}
-use Rattle.pc_common.specs.Case.{Case, MicroOp}
-use Rattle.pc_common.specs.World.{Node}
-use Rattle.pc_common.proofs.Elements.{In}
-use Rattle.pc_common.proofs.Places.{there_at}
-use Rattle.pc_syntax.specs.declared.term.Sort.{Sort}
-use Rattle.pc_syntax.specs.declared.term.Sort.TheVariants.{Microop, Core as core_sort}
-use Rattle.pc_syntax.specs.declared.bound.Bound.{Bound}
-use Rattle.pc_syntax.specs.declared.bound.Bound.TheVariants.{Op, Core}
-use Rattle.pc_syntax.specs.declared.closed_term.ClosedArg.{ClosedArg}
-use Rattle.pc_syntax.specs.declared.closed_term.ClosedArg.TheVariants.{Slot, Core as core_arg, Plain}
-use Rattle.pc_syntax.specs.declared.closed_term.ClosedNode.{ClosedNode}
-use Rattle.pc_syntax.specs.declared.closed_term.ClosedEdge.{ClosedEdge}
-use Rattle.pc_syntax.specs.Truth.{Meaning, a_core, op_of, core_of}
+use Rattle.std.{proofs.lemmas.Option.{slice_get-map}, specs.{Prelude.{slice_get, unwrap_or}, Option.{option_map}}}
+use Rattle.pc_common.{specs.{Case.{Case, MicroOp}, World.{Node}}, proofs.{Elements.{In}, Places.{there_at}}}
+use Rattle.pc_syntax.specs.declared.{term.Sort.{Sort, TheVariants.{Microop, Core as core_sort}}, bound.Bound.{Bound, TheVariants.{Op, Core}}}
+use Rattle.pc_syntax.specs.declared.closed_term.{ClosedArg.{ClosedArg, TheVariants.{Slot, Core as core_arg, Plain}}, ClosedNode.{ClosedNode}}
+use Rattle.pc_syntax.specs.{declared.closed_term.ClosedEdge.{ClosedEdge}, Truth.{Meaning, a_core, op_of, core_of}}
 use Rattle.pc_syntax.specs.Closed.{PlainClosed, closed_nodes, closed_edges, meaning_of, value_at, closed_core, closed_node}
 use Rattle.pc_syntax.specs.IsClosed.{IsClosed, IsBound, FitsCore, FitsNode, FitNodes, FitEdges}
 use Rattle.pc_ground.specs.Unfolded.{node_said, edge_said}
-use Rattle.static_preds.specs.Slots.{AreInRange}
-use Rattle.static_preds.specs.Values.{meanings, sort_bound, scope_of}
-use Rattle.static_preds.proofs.Terms.{node_named}
+use Rattle.static_preds.{specs.{Slots.{AreInRange}, Values.{meanings, sort_bound, scope_of}}, proofs.Terms.{node_named}}
 use Rattle.lifted_facts.specs.PlainFacts.{said}
-use Rattle.lifter.specs.Trees.{signed_tree, said_tree, joined_trees, node_tree, edge_tree, fact_tree}
-use Rattle.lifter.specs.declared.kind.Kind.TheVariants.{Open}
-use Rattle.lifter.specs.Kinds.{kind_of, kind_over}
-use Rattle.lifter.proofs.TreeLaws.{nodes_tree, edges_tree}
-use Rattle.lifter.proofs.KindLaws.{kind_of_members}
+use Rattle.lifter.specs.{Trees.{signed_tree, said_tree, joined_trees, node_tree, edge_tree, fact_tree}, declared.kind.Kind.TheVariants.{Open}}
+use Rattle.lifter.{specs.Kinds.{kind_of, kind_over}, proofs.{TreeLaws.{nodes_tree, edges_tree}, KindLaws.{kind_of_members}}}
 
 -- a slot of this sort
 sorted : (slot : Option Bound) (sort : Sort) → option_map sort_bound slot ≡ Some sort → (b : Bound) × (slot ≡ Some b) × (sort_bound b ≡ sort)

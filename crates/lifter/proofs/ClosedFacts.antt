@@ -1,20 +1,11 @@
 -- A fact that is False closes its branch: by itself, by its two sides, or by a part.
 use Rattle.std.proofs.Common.{◌≡◌, ℕ, ◌+◌, true, false, List, [], ◌∷◌, ◌++◌, Some, None, map, refl, sym, ◌∙◌, ap}
 use Rattle.pc_common.specs.Case.{Case}
-use Rattle.lifted_facts.specs.declared.way.Way.{Way}
-use Rattle.lifted_facts.specs.declared.fact.Fact.{Fact}
-use Rattle.lifted_facts.specs.declared.fact.Fact.TheVariants.{Said, Node as NodeFact, Edge as EdgeFact}
-use Rattle.lifted_facts.specs.PlainFacts.{PlainFact, plain_fact, plain_part}
-use Rattle.lifted_facts.specs.Parts.{part_of, sides, is_false}
+use Rattle.lifted_facts.specs.declared.{way.Way.{Way}, fact.Fact.{Fact, TheVariants.{Said, Node as NodeFact, Edge as EdgeFact}}}
+use Rattle.lifted_facts.specs.{PlainFacts.{PlainFact, plain_fact, plain_part}, Parts.{part_of, sides, is_false}}
 use Rattle.lifted_facts.specs.Lifted.{LiftedStep, derive, split, close, falsity}
-use Rattle.lifter.specs.Trees.{fact_tree, joined_trees}
-use Rattle.lifter.specs.PartLists.{parts}
-use Rattle.lifter.specs.declared.kind.Kind.{Kind}
-use Rattle.lifter.specs.declared.kind.Kind.TheVariants.{True, False, Open}
-use Rattle.lifter.specs.Kinds.{kind_of, joined_kind}
-use Rattle.lifter.proofs.KindLaws.{kind_joined}
-use Rattle.lifter.proofs.SideLaws.{sides_tree, parts_tree}
-use Rattle.lifter.specs.Closings.{HasClosed}
+use Rattle.lifter.specs.{Trees.{fact_tree, joined_trees}, PartLists.{parts}, declared.kind.Kind.{Kind, TheVariants.{True, False, Open}}}
+use Rattle.lifter.{specs.{Kinds.{kind_of, joined_kind}, Closings.{HasClosed}}, proofs.{KindLaws.{kind_joined}, SideLaws.{sides_tree, parts_tree}}}
 use Rattle.lifter.proofs.RunsMore.{last_fact, one_longer, ran_derive, ran_split, ran_close}
 
 pub closed_by_falsity : (c : Case) (f : PlainFact) (k n : ℕ) (old new : List LiftedStep) → is_false c f ≡ true → new ≡ old ++ close (falsity k) ∷ []

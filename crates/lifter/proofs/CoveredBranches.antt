@@ -1,21 +1,14 @@
 -- What the steps of a refutation of the ground tree say of what is known.
-use Rattle.std.proofs.Common.{◌≡◌, inl, inr, ℕ, Bool, true, false, List, [], ◌∷◌, ◌++◌, Option, Some, None, refl, sym, ap, subst}
-use Rattle.std.specs.Prelude.{Contains}
-use Rattle.pc_common.specs.World.{Node}
-use Rattle.pc_common.specs.Chain.{Leads}
-use Rattle.pc_common.specs.Steps.{cycle, path, absent, false_step}
+use Rattle.std.{proofs.Common.{◌≡◌, inl, inr, ℕ, Bool, true, false, List, [], ◌∷◌, ◌++◌, Option, Some, None, refl, sym, ap, subst}, specs.Prelude.{Contains}}
+use Rattle.pc_common.specs.{World.{Node}, Chain.{Leads}, Steps.{cycle, path, absent, false_step}}
 use Rattle.pc_common.proofs.Elements.{In, in_from_contains, in_either, from_flat, from_map}
-use Rattle.pc_ground.specs.declared.literal.Literal.{Literal}
-use Rattle.pc_ground.specs.declared.literal.Literal.TheVariants.{Node as a_node, Edge as an_edge, NoNode as not_node, NoEdge as not_edge}
-use Rattle.pc_ground.specs.declared.row.Row.{Row}
-use Rattle.pc_ground.specs.Tree.{Tree, always, never, leaf, both, either, turned}
-use Rattle.pc_ground.specs.Rows.{rows_of}
+use Rattle.pc_ground.specs.declared.literal.Literal.{Literal, TheVariants.{Node as a_node, Edge as an_edge, NoNode as not_node, NoEdge as not_edge}}
+use Rattle.pc_ground.specs.{declared.row.Row.{Row}, Tree.{Tree, always, never, leaf, both, either, turned}, Rows.{rows_of}}
 use Rattle.pc_ground.specs.Literals.{Joins, IsPresent, as_node, as_start, as_end}
 use Rattle.pc_ground.specs.Refutes.{subtree_at, Signed, signed, all_signed, part_at, Branch as TreeBranch, literal_of, literals_of, a_cycle, a_path, an_absence, Closes, a_contradiction, a_falsity, IsSplit}
 use Rattle.pc_ground.proofs.FlatRows.{subtree_part}
 use Rattle.lifter.specs.KnownFacts.{at_position, no_node, present, Entry, HasKey, IsPart, TellsLiteral, TellsAt, TellsAll, HaveMore, AreEdges, IsCycleKnown, IsPathKnown}
-use Rattle.lifter.specs.States.{IsCovered}
-use Rattle.lifter.proofs.Tellings.{root_more}
+use Rattle.lifter.{specs.States.{IsCovered}, proofs.Tellings.{root_more}}
 
 pub covered_more : (rows : List (Row Node)) (es new : List Entry) (ps : TreeBranch) → HaveMore es new → IsCovered rows es ps → IsCovered rows new ps
 covered_more rows es new ps m h q i = (let c = h q i in (c.0, λ s part. root_more es new q.position s m (c.1 s part)))

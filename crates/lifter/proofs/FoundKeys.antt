@@ -1,17 +1,10 @@
 -- Look-ups by keys, as lists of plain keys with their numbers, and a key more.
 use Rattle.std.proofs.Common.{◌≡◌, ◌⊎◌, inl, inr, ℕ, Bool, true, false, List, [], ◌∷◌, ◌++◌, Option, Some, None, cond, refl, sym, ◌∙◌, ap, subst, eqb-true, eq-eqb}
-use Rattle.std.proofs.lemmas.List.{map-append}
-use Rattle.std.specs.Prelude.{MatchOption}
-use Rattle.std.specs.Map.{lookup}
-use Rattle.std.proofs.lemmas.Bool.{and_from}
+use Rattle.std.{proofs.lemmas.{List.{map-append}, Bool.{and_from}}, specs.{Prelude.{MatchOption}, Map.{lookup}}}
 use Rattle.indexmap.specs.IndexMap.{insert_entry}
-use Rattle.pc_common.proofs.Elements.{In, in_back, in_either}
-use Rattle.pc_ground.specs.Keys.{key_node}
-use Rattle.pc_ground.proofs.Nodes.{key_eq, same_keys, keys_same}
-use Rattle.pc_common.proofs.Bools.{true_or_false, and_first, and_second}
-use Rattle.lifter.specs.declared.key.Key.{Key}
-use Rattle.lifter.specs.declared.key.Key.TheVariants.{At, Edge, NoEdge, NoNode, Present}
-use Rattle.lifter.specs.contracts.key.KeyPartialEq.TheImpl.{ghosts}
+use Rattle.pc_common.proofs.{Elements.{In, in_back, in_either}, Bools.{true_or_false, and_first, and_second}}
+use Rattle.pc_ground.{specs.Keys.{key_node}, proofs.Nodes.{key_eq, same_keys, keys_same}}
+use Rattle.lifter.specs.{declared.key.Key.{Key, TheVariants.{At, Edge, NoEdge, NoNode, Present}}, contracts.key.KeyPartialEq.TheImpl.{ghosts}}
 use Rattle.lifter.specs.KnownFacts.{PlainKey, at_position, edge, no_edge, no_node, present, plain_key, Entry, entry, entries_of, HasMarked}
 
 -- how keys are compared

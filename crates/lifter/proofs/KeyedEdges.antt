@@ -1,11 +1,8 @@
 -- The numbers of the edges that lead along node keys, one by one.
 use Rattle.std.proofs.Common.{◌≡◌, ◌≤◌, ℕ, zero, suc, ◌+◌, ◌-◌, List, [], ◌∷◌, ◌++◌, Some, length, get_or, map, take, drop, refl, sym, ◌∙◌, ap, subst, arith, append_assoc}
-use Rattle.std.specs.Prelude.{slice_get}
-use Rattle.std.proofs.lemmas.List.{map-append, take_all, drop_all}
-use Rattle.pc_common.specs.World.{Node}
-use Rattle.pc_common.proofs.Elements.{In}
-use Rattle.pc_ground.specs.Keys.{key_node}
-use Rattle.pc_ground.specs.declared.node_key.NodeKey.{NodeKey}
+use Rattle.std.{proofs.lemmas.List.{map-append, take_all, drop_all}, specs.Prelude.{slice_get}}
+use Rattle.pc_common.{specs.World.{Node}, proofs.Elements.{In}}
+use Rattle.pc_ground.specs.{Keys.{key_node}, declared.node_key.NodeKey.{NodeKey}}
 use Rattle.static_preds.proofs.Walked.{drop_at}
 use Rattle.lifter.specs.KnownFacts.{edge, no_edge, Entry, entry, HasKey, AreEdges, AreNumbers, IsCycleKnown, IsPathKnown}
 

@@ -1,14 +1,9 @@
 -- What is known stays known while a branch goes on.
 use Rattle.std.proofs.Common.{◌≡◌, ◌⊎◌, inl, inr, ℕ, true, false, List, [], ◌∷◌, ◌++◌, Some, take, refl, sym, ap, subst, arith, length-append}
 use Rattle.std.proofs.lemmas.List.{take-append-le}
-use Rattle.pc_common.specs.Case.{Case}
-use Rattle.pc_common.specs.World.{Node}
-use Rattle.pc_common.proofs.Elements.{In, in_front}
-use Rattle.pc_common.proofs.Places.{slice_get-more}
-use Rattle.pc_ground.specs.declared.row.Row.{Row}
-use Rattle.pc_ground.specs.Refutes.{Branch as TreeBranch}
-use Rattle.lifted_facts.specs.PlainFacts.{PlainFact, Branch, plain_fact, one_node, one_edge}
-use Rattle.lifted_facts.specs.Lifted.{LiftedStep, Runs}
+use Rattle.pc_common.{specs.{Case.{Case}, World.{Node}}, proofs.{Elements.{In, in_front}, Places.{slice_get-more}}}
+use Rattle.pc_ground.specs.{declared.row.Row.{Row}, Refutes.{Branch as TreeBranch}}
+use Rattle.lifted_facts.specs.{PlainFacts.{PlainFact, Branch, plain_fact, one_node, one_edge}, Lifted.{LiftedStep, Runs}}
 use Rattle.lifter.specs.declared.state.Later.{Later}
 use Rattle.lifter.specs.KnownFacts.{PlainKey, at_position, edge, no_edge, no_node, present, Entry, entry, HasKey, IsKnown, AreKnown, HasMarked, HaveMore}
 use Rattle.lifter.specs.States.{waiting, AreLater, IsGood, IsSide, AreMatched, no_more, due, side}

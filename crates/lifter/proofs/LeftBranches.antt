@@ -1,28 +1,16 @@
 -- The branches that wait, once the first one is closed.
 use Rattle.std.proofs.Common.{◌≡◌, ℕ, ◌+◌, ◌≤◌, List, [], ◌∷◌, ◌++◌, Some, length, map, take, drop, reverse, refl, sym, ◌∙◌, ap, subst, arith}
+use Rattle.std.proofs.lemmas.List.{take-append-drop, take-map, length-take-le, reverse-append, Elements.{All-nil, All-pop, All-take, All-push}}
 use Rattle.std.specs.Prelude.{All}
-use Rattle.std.proofs.lemmas.List.{take-append-drop, take-map, length-take-le, reverse-append}
-use Rattle.std.proofs.lemmas.List.Elements.{All-nil, All-pop, All-take, All-push}
-use Rattle.pc_common.specs.Case.{Case}
-use Rattle.pc_common.specs.World.{Node}
-use Rattle.pc_ground.specs.declared.row.Row.{Row}
-use Rattle.pc_ground.specs.Refutes.{asserted, Branch as TreeBranch}
-use Rattle.lifted_facts.specs.declared.fact.Fact.{Fact}
-use Rattle.lifted_facts.specs.PlainFacts.{Branch, plain_fact, IsProper}
-use Rattle.lifted_facts.specs.Lifted.{LiftedStep, HasFact, Runs}
-use Rattle.lifter.specs.Trees.{fact_tree}
-use Rattle.lifter.specs.declared.state.Task.TheVariants.{Close, Side}
-use Rattle.lifter.specs.declared.state.Later.{Later}
-use Rattle.lifter.specs.declared.state.State.{State}
-use Rattle.lifter.specs.Closings.{HasClosed}
+use Rattle.pc_common.specs.{Case.{Case}, World.{Node}}
+use Rattle.pc_ground.specs.{declared.row.Row.{Row}, Refutes.{asserted, Branch as TreeBranch}}
+use Rattle.lifted_facts.specs.{declared.fact.Fact.{Fact}, PlainFacts.{Branch, plain_fact, IsProper}, Lifted.{LiftedStep, HasFact, Runs}}
+use Rattle.lifter.specs.{Trees.{fact_tree}, declared.state.{Task.TheVariants.{Close, Side}, Later.{Later}, State.{State}}, Closings.{HasClosed}}
 use Rattle.lifter.specs.KnownFacts.{Entry, HaveMore}
 use Rattle.lifter.specs.States.{branch_of, waiting, IsDue, AreKept, AreLater, IsGoodState, IsCovered, IsSide, AreMatched, no_more, due, side, IsMatchedState}
-use Rattle.lifter.specs.Unfoldings.{HasUnfolded}
-use Rattle.lifter.specs.Progress.{FollowsBranches, HasClosedFirst, LeavesWaiting, CanEnterNext, CanEnter, HasClosedBy}
-use Rattle.lifter.proofs.RunsMore.{last_fact, one_longer, ran_close}
-use Rattle.lifter.proofs.KnownLaws.{waiting_more, later_more, matched_more, good_same, matched_same}
-use Rattle.lifter.proofs.StateMoves.{branch_push, good_waits}
-use Rattle.lifter.proofs.CoveredBranches.{covered_more, covered_side}
+use Rattle.lifter.specs.{Unfoldings.{HasUnfolded}, Progress.{FollowsBranches, HasClosedFirst, LeavesWaiting, CanEnterNext, CanEnter, HasClosedBy}}
+use Rattle.lifter.proofs.{RunsMore.{last_fact, one_longer, ran_close}, KnownLaws.{waiting_more, later_more, matched_more, good_same, matched_same}}
+use Rattle.lifter.proofs.{StateMoves.{branch_push, good_waits}, CoveredBranches.{covered_more, covered_side}}
 
 close_not_side : (p : ℕ) → Close ≡ Side p → ⊥
 close_not_side p e = cc

@@ -1,17 +1,11 @@
 -- The axioms as facts, one by one.
-use Rattle.std.proofs.Common.{◌≡◌, ℕ, suc, ◌<◌, ◌≤◌, true, List, [], ◌∷◌, Some, length, get_or, map, refl, sym, ◌∙◌, ap, arith}
-use Rattle.std.specs.Prelude.{slice_get}
-use Rattle.std.proofs.lemmas.List.{drop_all}
-use Rattle.std.proofs.lemmas.Option.{slice_get_read}
+use Rattle.std.proofs.{Common.{◌≡◌, ℕ, suc, ◌<◌, ◌≤◌, true, List, [], ◌∷◌, Some, length, get_or, map, refl, sym, ◌∙◌, ap, arith}, lemmas.List.{drop_all}}
+use Rattle.std.{proofs.lemmas.Option.{slice_get_read}, specs.Prelude.{slice_get}}
 use Rattle.pc_common.specs.Case.{Case}
-use Rattle.pc_syntax.specs.declared.closed.Closed.{Closed}
-use Rattle.pc_syntax.specs.Closed.{plain_closed}
-use Rattle.pc_ground.specs.Tree.{always}
-use Rattle.pc_ground.specs.Stages.{plain_axioms}
+use Rattle.pc_syntax.specs.{declared.closed.Closed.{Closed}, Closed.{plain_closed}}
+use Rattle.pc_ground.specs.{Tree.{always}, Stages.{plain_axioms}}
 use Rattle.lifted_facts.specs.PlainFacts.{PlainFact, said, root}
-use Rattle.lifter.specs.Trees.{fact_tree, joined_trees}
-use Rattle.lifter.specs.PartLists.{facts_from}
-use Rattle.lifter.proofs.RootTrees.{axiom_there}
+use Rattle.lifter.{specs.{Trees.{fact_tree, joined_trees}, PartLists.{facts_from}}, proofs.RootTrees.{axiom_there}}
 
 pub as_many : (axioms : List Closed) → length (root (plain_axioms axioms)) ≡ length axioms
 as_many [] = refl

@@ -1,15 +1,9 @@
 -- Numbers of edges that are known lead along their nodes.
-use Rattle.std.proofs.Common.{◌≡◌, ℕ, List, [], ◌∷◌, ◌++◌, refl}
-use Rattle.std.specs.Prelude.{Result, Ok, Err, OnOk, is_ok, if◌then◌else◌}
-use Rattle.pc_common.specs.Case.{Case}
-use Rattle.pc_common.specs.World.{Node}
-use Rattle.pc_common.proofs.Elements.{In}
+use Rattle.std.{proofs.Common.{◌≡◌, ℕ, List, [], ◌∷◌, ◌++◌, refl}, specs.Prelude.{Result, Ok, Err, OnOk, is_ok, if◌then◌else◌}}
+use Rattle.pc_common.{specs.{Case.{Case}, World.{Node}}, proofs.Elements.{In}}
 use Rattle.pc_ground.specs.declared.row.Row.{Row}
-use Rattle.lifted_facts.specs.PlainFacts.{Branch}
-use Rattle.lifted_facts.specs.Lifted.{LiftedLeaf, close, cycle, path, absent, Follows, Closes}
-use Rattle.lifter.specs.declared.state.State.{State}
-use Rattle.lifter.specs.KnownFacts.{edge, no_edge, no_node, present, Entry, entry, AreKnown, AreNumbers}
-use Rattle.lifter.specs.States.{branch_of}
+use Rattle.lifted_facts.specs.{PlainFacts.{Branch}, Lifted.{LiftedLeaf, close, cycle, path, absent, Follows, Closes}}
+use Rattle.lifter.specs.{declared.state.State.{State}, KnownFacts.{edge, no_edge, no_node, present, Entry, entry, AreKnown, AreNumbers}, States.{branch_of}}
 use Rattle.lifter.specs.Progress.{HasClosedBy}
 
 module _ (c : Case) (rows : List (Row Node)) (b : Branch) (es : List Entry) (known : AreKnown c rows b es) where

@@ -1,34 +1,16 @@
 -- The part at a place of a fact's parts is the one that is named so; and which parts of And are constants.
 use Rattle.std.proofs.Common.{◌≡◌, ℕ, zero, suc, ◌+◌, ◌-◌, ◌<◌, ◌≤◌, Bool, true, false, List, [], ◌∷◌, Some, length, map, drop, refl, sym, ◌∙◌, ap, subst, arith}
-use Rattle.std.specs.Prelude.{slice_get}
-use Rattle.std.specs.Option.{option_map}
-use Rattle.std.proofs.lemmas.Option.{slice_get-map, slice_get_within}
-use Rattle.std.proofs.lemmas.List.{drop_all}
-use Rattle.pc_common.specs.Case.{Case}
-use Rattle.pc_common.specs.World.{Node}
-use Rattle.pc_common.proofs.Places.{there_at}
-use Rattle.pc_syntax.specs.declared.closed_term.ClosedNode.{ClosedNode}
-use Rattle.pc_syntax.specs.declared.closed_term.ClosedEdge.{ClosedEdge}
-use Rattle.pc_syntax.specs.declared.term.Sort.{Sort}
-use Rattle.pc_syntax.specs.declared.term.Sort.TheVariants.{Microop, Core}
+use Rattle.std.{proofs.lemmas.{Option.{slice_get-map, slice_get_within}, List.{drop_all}}, specs.{Prelude.{slice_get}, Option.{option_map}}}
+use Rattle.pc_common.{specs.{Case.{Case}, World.{Node}}, proofs.Places.{there_at}}
+use Rattle.pc_syntax.specs.declared.{closed_term.{ClosedNode.{ClosedNode}, ClosedEdge.{ClosedEdge}}, term.Sort.{Sort, TheVariants.{Microop, Core}}}
 use Rattle.pc_syntax.specs.Truth.{Meaning, range_of}
 use Rattle.pc_syntax.specs.Closed.{PlainClosed, plain_closed, closed_not, closed_and, closed_or, closed_implies, closed_forall, closed_exists, closed_nodes, closed_edges, closed_bind, closed_node}
 use Rattle.pc_ground.specs.Tree.{Tree, always, never, leaf, both, either}
-use Rattle.static_preds.proofs.Walked.{drop_at}
-use Rattle.static_preds.specs.Values.{meanings}
-use Rattle.lifted_facts.specs.declared.fact.Said.{Said as SaidFact}
-use Rattle.lifted_facts.specs.declared.fact.Fact.{Fact}
-use Rattle.lifted_facts.specs.declared.fact.Fact.TheVariants.{Said}
-use Rattle.lifted_facts.specs.declared.way.Way.{Way}
-use Rattle.lifted_facts.specs.PlainFacts.{PlainFact, said, one_node, one_edge, plain_fact, plain_part}
-use Rattle.lifted_facts.specs.Parts.{said_inside, part_of}
-use Rattle.lifter.specs.Trees.{joined_tree, joined_trees}
-use Rattle.lifter.specs.declared.kind.Kind.{Kind}
-use Rattle.lifter.specs.declared.kind.Kind.TheVariants.{True, False, Open}
-use Rattle.lifter.specs.Kinds.{kind_of, joined_kind}
-use Rattle.lifter.specs.PartLists.{parts}
-use Rattle.lifter.specs.WayTable.{way_of}
-use Rattle.lifter.proofs.KindLaws.{kind_of_more}
+use Rattle.static_preds.{proofs.Walked.{drop_at}, specs.Values.{meanings}}
+use Rattle.lifted_facts.specs.declared.{fact.{Said.{Said as SaidFact}, Fact.{Fact, TheVariants.{Said}}}, way.Way.{Way}}
+use Rattle.lifted_facts.specs.{PlainFacts.{PlainFact, said, one_node, one_edge, plain_fact, plain_part}, Parts.{said_inside, part_of}}
+use Rattle.lifter.specs.{Trees.{joined_tree, joined_trees}, declared.kind.Kind.{Kind, TheVariants.{True, False, Open}}, Kinds.{kind_of, joined_kind}}
+use Rattle.lifter.{specs.{PartLists.{parts}, WayTable.{way_of}}, proofs.KindLaws.{kind_of_more}}
 
 module _ (c : Case) (slots : List Meaning) where
   each_value : (plus : Bool) (sort : Sort) (p : PlainClosed) (k : ℕ)

@@ -1,16 +1,9 @@
 -- The bodies of a quantifier at the values of its range, one by one.
 use Rattle.std.proofs.Common.{◌≡◌, ◌<◌, ℕ, ◌+◌, Bool, List, [], ◌∷◌, ◌++◌, length, map, ap, sym, ◌∙◌}
 use Rattle.pc_common.specs.Case.{Case}
-use Rattle.pc_syntax.specs.declared.term.Sort.{Sort}
-use Rattle.pc_syntax.specs.declared.bound.Bound.{Bound}
-use Rattle.pc_syntax.specs.Truth.{Meaning, range_of}
-use Rattle.pc_syntax.specs.Closed.{PlainClosed}
-use Rattle.static_preds.specs.Slots.{bound_at}
-use Rattle.static_preds.specs.Values.{meanings}
-use Rattle.static_preds.proofs.Ranges.{next_value, meanings_inside}
-use Rattle.lifter.specs.Trees.{said_tree, joined_trees, bodies}
-use Rattle.lifter.specs.declared.kind.Kind.{Kind}
-use Rattle.lifter.specs.Kinds.{kind_of, joined_kind, decider}
+use Rattle.pc_syntax.specs.{declared.{term.Sort.{Sort}, bound.Bound.{Bound}}, Truth.{Meaning, range_of}, Closed.{PlainClosed}}
+use Rattle.static_preds.{specs.{Slots.{bound_at}, Values.{meanings}}, proofs.Ranges.{next_value, meanings_inside}}
+use Rattle.lifter.specs.{Trees.{said_tree, joined_trees, bodies}, declared.kind.Kind.{Kind}, Kinds.{kind_of, joined_kind, decider}}
 use Rattle.lifter.proofs.KindLaws.{kind_of_more, decided_first, decided_second, joined_assoc}
 
 -- the next body and those after it

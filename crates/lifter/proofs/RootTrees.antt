@@ -1,41 +1,17 @@
 -- The ground tree of axioms is And over them as facts; and the start of following a refutation of it.
-use Rattle.std.proofs.Common.{◌≡◌, ℕ, true, false, List, [], ◌∷◌, Some, map, reverse, refl, sym, ◌∙◌, ap, subst}
-use Rattle.std.specs.Prelude.{slice_get, Contains}
-use Rattle.std.specs.Option.{option_map}
-use Rattle.std.proofs.lemmas.Option.{slice_get-map}
-use Rattle.pc_common.specs.Case.{Case}
-use Rattle.pc_common.specs.World.{Node, World}
-use Rattle.pc_common.specs.Steps.{Step}
-use Rattle.pc_common.proofs.Elements.{in_from_contains}
-use Rattle.pc_common.proofs.Places.{one_item}
-use Rattle.pc_syntax.specs.declared.closed.Closed.{Closed}
-use Rattle.pc_syntax.specs.Closed.{PlainClosed, plain_closed}
-use Rattle.pc_ground.specs.declared.node_key.NodeKey.{NodeKey}
-use Rattle.pc_ground.specs.Keys.{key_node, row_node, renamed_kind}
-use Rattle.pc_ground.specs.declared.row.Row.{Row}
-use Rattle.pc_ground.specs.declared.row.RowKind.TheVariants.{False}
-use Rattle.pc_ground.specs.declared.version.Version.TheVariants.{One}
-use Rattle.pc_ground.specs.Tree.{Tree, always, never, leaf, both, either}
-use Rattle.pc_ground.specs.Rows.{rows_of, root_kind}
-use Rattle.pc_ground.specs.Unfolded.{closed_unfolded}
-use Rattle.pc_ground.specs.GroundTree.{closed_ground_tree}
-use Rattle.pc_ground.specs.Stages.{plain_axioms}
-use Rattle.pc_ground.specs.Refutes.{asserted, all_signed, IsRefutation}
-use Rattle.pc_ground.proofs.FlatRows.{root_of, part_whole, part_row, renamed_false}
-use Rattle.pc_ground.proofs.Refuted.{refutation_sound}
+use Rattle.std.proofs.{Common.{◌≡◌, ℕ, true, false, List, [], ◌∷◌, Some, map, reverse, refl, sym, ◌∙◌, ap, subst}, lemmas.Option.{slice_get-map}}
+use Rattle.std.specs.{Prelude.{slice_get, Contains}, Option.{option_map}}
+use Rattle.pc_common.{specs.{Case.{Case}, World.{Node, World}, Steps.{Step}}, proofs.{Elements.{in_from_contains}, Places.{one_item}}}
+use Rattle.pc_syntax.specs.{declared.closed.Closed.{Closed}, Closed.{PlainClosed, plain_closed}}
+use Rattle.pc_ground.specs.declared.{node_key.NodeKey.{NodeKey}, row.{Row.{Row}, RowKind.TheVariants.{False}}, version.Version.TheVariants.{One}}
+use Rattle.pc_ground.specs.{Keys.{key_node, row_node, renamed_kind}, Tree.{Tree, always, never, leaf, both, either}, Rows.{rows_of, root_kind}}
+use Rattle.pc_ground.specs.{Unfolded.{closed_unfolded}, GroundTree.{closed_ground_tree}, Stages.{plain_axioms}, Refutes.{asserted, all_signed, IsRefutation}}
+use Rattle.pc_ground.proofs.{FlatRows.{root_of, part_whole, part_row, renamed_false}, Refuted.{refutation_sound}}
 use Rattle.lifted_facts.specs.PlainFacts.{said, Branch, root}
-use Rattle.lifter.specs.Trees.{fact_tree, said_tree, joined_trees}
-use Rattle.lifter.specs.declared.kind.Kind.TheVariants.{False as NeverKind, Open}
-use Rattle.lifter.specs.Kinds.{kind_of}
-use Rattle.lifter.proofs.TreeLaws.{over_all, start_tree}
-use Rattle.lifter.specs.declared.state.State.{State}
-use Rattle.lifter.specs.KnownFacts.{IsPart, TellsAll}
-use Rattle.lifter.specs.States.{branch_of, IsGood, IsGoodState, no_more, IsMatchedState}
-use Rattle.lifter.specs.PartLists.{facts_from}
-use Rattle.lifter.specs.Unfoldings.{HasUnfolded}
-use Rattle.lifter.specs.Progress.{HasStepsLeft}
-use Rattle.lifter.proofs.CoveredBranches.{covered_all}
-use Rattle.lifter.proofs.KnownLaws.{good_same, matched_same}
+use Rattle.lifter.specs.{Trees.{fact_tree, said_tree, joined_trees}, declared.{kind.Kind.TheVariants.{False as NeverKind, Open}, state.State.{State}}}
+use Rattle.lifter.specs.{Kinds.{kind_of}, KnownFacts.{IsPart, TellsAll}, States.{branch_of, IsGood, IsGoodState, no_more, IsMatchedState}}
+use Rattle.lifter.{specs.{PartLists.{facts_from}, Unfoldings.{HasUnfolded}, Progress.{HasStepsLeft}}, proofs.TreeLaws.{over_all, start_tree}}
+use Rattle.lifter.proofs.{CoveredBranches.{covered_all}, KnownLaws.{good_same, matched_same}}
 
 roots : (c : Case) (axioms : List PlainClosed) → map (λ p. said_tree c true p []) axioms ≡ map (fact_tree c) (root axioms)
 roots c [] = refl

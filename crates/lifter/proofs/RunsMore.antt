@@ -1,10 +1,8 @@
 -- One step more: what it makes of the open branches.
 use Rattle.std.proofs.Common.{◌≡◌, ℕ, ◌+◌, List, [], ◌∷◌, ◌++◌, length, refl, sym, ◌∙◌, ap, subst, arith, length-append}
 use Rattle.std.specs.Prelude.{slice_get, Result, Ok, Err, OnOk, is_ok, if◌then◌else◌}
-use Rattle.pc_common.specs.Case.{Case}
-use Rattle.pc_common.proofs.Places.{get_last}
-use Rattle.lifted_facts.specs.declared.way.Way.{Way}
-use Rattle.lifted_facts.specs.PlainFacts.{PlainFact, Branch}
+use Rattle.pc_common.{specs.Case.{Case}, proofs.Places.{get_last}}
+use Rattle.lifted_facts.specs.{declared.way.Way.{Way}, PlainFacts.{PlainFact, Branch}}
 use Rattle.lifted_facts.specs.Lifted.{LiftedLeaf, LiftedStep, derive, split, close, HasFact, HasPart, HasSides, Closes, Advances, Runs}
 use Rattle.lifted_facts.proofs.RunLaws.{runs_then, one_step}
 

@@ -1,31 +1,16 @@
 -- The tree of a fact by those of its sides or its parts, and that these have a lower rank.
 use Rattle.std.proofs.Common.{◌≡◌, ℕ, ◌+◌, ◌<◌, ◌≤◌, Bool, true, false, not, List, [], ◌∷◌, ◌++◌, Option, Some, None, length, map, drop, refl, sym, ◌∙◌, ap, subst, arith}
-use Rattle.std.specs.Prelude.{slice_get, nat_lt}
+use Rattle.std.{proofs.lemmas.{Bool.{ltb-true, ltb-false}, Option.{slice_get_within}, List.{drop_all}}, specs.Prelude.{slice_get, nat_lt}}
 use Rattle.std.specs.Option.{option_map, option_and_then}
-use Rattle.std.proofs.lemmas.Bool.{ltb-true, ltb-false}
-use Rattle.std.proofs.lemmas.Option.{slice_get_within}
-use Rattle.std.proofs.lemmas.List.{drop_all}
-use Rattle.pc_common.specs.Case.{Case}
-use Rattle.pc_common.specs.World.{Node}
-use Rattle.pc_common.proofs.Places.{there_at}
-use Rattle.pc_syntax.specs.declared.closed_term.ClosedNode.{ClosedNode}
-use Rattle.pc_syntax.specs.declared.closed_term.ClosedEdge.{ClosedEdge}
-use Rattle.pc_syntax.specs.Predicates.{predicate_holds}
-use Rattle.pc_syntax.specs.Truth.{Meaning, range_of}
+use Rattle.pc_common.{specs.{Case.{Case}, World.{Node}}, proofs.Places.{there_at}}
+use Rattle.pc_syntax.specs.{declared.closed_term.{ClosedNode.{ClosedNode}, ClosedEdge.{ClosedEdge}}, Predicates.{predicate_holds}, Truth.{Meaning, range_of}}
 use Rattle.pc_syntax.specs.Closed.{PlainClosed, closed_not, closed_and, closed_or, closed_implies, closed_forall, closed_exists, closed_static, closed_nodes, closed_edges, closed_bind, closed_node, closed_value, closed_argument}
-use Rattle.pc_ground.specs.Tree.{Tree, always, never, leaf, both, either}
-use Rattle.pc_ground.specs.PlainGround.{conjoined, disjoined}
-use Rattle.pc_ground.specs.Unfolded.{decided}
+use Rattle.pc_ground.specs.{Tree.{Tree, always, never, leaf, both, either}, PlainGround.{conjoined, disjoined}, Unfolded.{decided}}
 use Rattle.static_preds.proofs.Walked.{drop_at}
-use Rattle.lifted_facts.specs.declared.way.Way.{Way}
-use Rattle.lifted_facts.specs.declared.way.Way.TheVariants.{Left, Right, Not, Bind, Inst, Member}
-use Rattle.lifted_facts.specs.PlainFacts.{PlainFact, said, one_node, one_edge}
-use Rattle.lifted_facts.specs.Parts.{number_of_instance, said_inside, part_of, or_later, sides, is_false}
-use Rattle.lifted_facts.proofs.PartTruth.{mapped}
-use Rattle.lifter.specs.Trees.{signed_tree, said_tree, joined_trees, node_tree, edge_tree, fact_tree}
-use Rattle.lifter.specs.PartLists.{parts, IsSaid}
-use Rattle.lifter.proofs.TreeLaws.{start_tree, forall_tree, exists_tree, nodes_tree, edges_tree}
-use Rattle.lifter.proofs.Ranks.{weight, rank}
+use Rattle.lifted_facts.specs.{declared.way.Way.{Way, TheVariants.{Left, Right, Not, Bind, Inst, Member}}, PlainFacts.{PlainFact, said, one_node, one_edge}}
+use Rattle.lifted_facts.{specs.Parts.{number_of_instance, said_inside, part_of, or_later, sides, is_false}, proofs.PartTruth.{mapped}}
+use Rattle.lifter.specs.{Trees.{signed_tree, said_tree, joined_trees, node_tree, edge_tree, fact_tree}, PartLists.{parts, IsSaid}}
+use Rattle.lifter.proofs.{TreeLaws.{start_tree, forall_tree, exists_tree, nodes_tree, edges_tree}, Ranks.{weight, rank}}
 
 abbrev pair : PlainFact → PlainFact → PlainFact × PlainFact
 pair f g = (f, g)

@@ -1,36 +1,15 @@
 -- An Or of the ground tree is split by the fact that it is the tree of.
 use Rattle.std.proofs.Common.{◌≡◌, ℕ, ◌+◌, false, ◌<◌, List, ◌∷◌, ◌++◌, Option, Some, None, length, get_or, map, take, reverse, refl, sym, ◌∙◌, ap, subst, arith}
-use Rattle.std.specs.Prelude.{All}
-use Rattle.std.specs.Option.{option_map}
-use Rattle.std.proofs.Math.Seq.{take-length}
-use Rattle.std.proofs.lemmas.List.Elements.{All-get_or}
-use Rattle.std.proofs.lemmas.Option.{slice_get-map, slice_get_within, slice_get_read}
-use Rattle.pc_common.specs.Case.{Case}
-use Rattle.pc_common.specs.World.{Node}
-use Rattle.pc_common.proofs.Elements.{In}
-use Rattle.pc_common.proofs.Places.{one_item}
-use Rattle.pc_ground.specs.declared.row.Row.{Row}
-use Rattle.pc_ground.specs.declared.version.Version.TheVariants.{One}
-use Rattle.pc_ground.specs.Tree.{Tree, either, size_of}
-use Rattle.pc_ground.specs.Refutes.{asserted, all_signed, left_branch, right_branch}
-use Rattle.pc_ground.proofs.FlatRows.{one_part, subtree_part, parts_either}
-use Rattle.lifted_facts.specs.declared.fact.Fact.{Fact}
-use Rattle.lifted_facts.specs.PlainFacts.{PlainFact, Branch, plain_fact, IsProper}
-use Rattle.lifted_facts.specs.Lifted.{HasFact}
-use Rattle.lifted_facts.specs.Parts.{sides}
-use Rattle.lifter.specs.Trees.{fact_tree}
-use Rattle.lifter.specs.declared.kind.Kind.TheVariants.{Open}
-use Rattle.lifter.specs.Kinds.{kind_of}
-use Rattle.lifter.specs.declared.state.Task.TheVariants.{Side}
-use Rattle.lifter.specs.declared.state.Later.{Later}
-use Rattle.lifter.specs.declared.state.State.{State}
-use Rattle.lifter.specs.KnownFacts.{Entry, entry, at_position, IsPart, IsOr, HaveMore}
-use Rattle.lifter.specs.States.{branch_of, IsGoodState, IsCovered, IsSide, AreMatched, side, IsMatchedState}
-use Rattle.lifter.specs.Unfoldings.{HasUnfolded}
-use Rattle.lifter.specs.Progress.{HasSplitOr}
-use Rattle.lifter.proofs.KnownLaws.{matched_same}
-use Rattle.lifter.proofs.StateMoves.{mapped_length}
-use Rattle.lifter.proofs.CoveredBranches.{covered_more, covered_side}
+use Rattle.std.proofs.{Math.Seq.{take-length}, lemmas.{List.Elements.{All-get_or}, Option.{slice_get-map, slice_get_within, slice_get_read}}}
+use Rattle.std.specs.{Prelude.{All}, Option.{option_map}}
+use Rattle.pc_common.{specs.{Case.{Case}, World.{Node}}, proofs.{Elements.{In}, Places.{one_item}}}
+use Rattle.pc_ground.specs.{declared.{row.Row.{Row}, version.Version.TheVariants.{One}}, Tree.{Tree, either, size_of}}
+use Rattle.pc_ground.{specs.Refutes.{asserted, all_signed, left_branch, right_branch}, proofs.FlatRows.{one_part, subtree_part, parts_either}}
+use Rattle.lifted_facts.specs.{declared.fact.Fact.{Fact}, PlainFacts.{PlainFact, Branch, plain_fact, IsProper}, Lifted.{HasFact}, Parts.{sides}}
+use Rattle.lifter.specs.{Trees.{fact_tree}, declared.{kind.Kind.TheVariants.{Open}, state.{Task.TheVariants.{Side}, Later.{Later}, State.{State}}}}
+use Rattle.lifter.specs.{Kinds.{kind_of}, KnownFacts.{Entry, entry, at_position, IsPart, IsOr, HaveMore}}
+use Rattle.lifter.specs.{States.{branch_of, IsGoodState, IsCovered, IsSide, AreMatched, side, IsMatchedState}, Unfoldings.{HasUnfolded}, Progress.{HasSplitOr}}
+use Rattle.lifter.proofs.{KnownLaws.{matched_same}, StateMoves.{mapped_length}, CoveredBranches.{covered_more, covered_side}}
 
 abbrev pair : PlainFact → PlainFact → PlainFact × PlainFact
 pair f g = (f, g)

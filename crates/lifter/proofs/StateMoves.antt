@@ -1,26 +1,12 @@
 -- What the moves of the state keep.
 use Rattle.std.proofs.Common.{◌≡◌, ℕ, suc, ◌+◌, List, [], ◌∷◌, ◌++◌, length, map, take, reverse, refl, sym, ◌∙◌, ap, subst, arith, append_assoc}
-use Rattle.std.specs.Prelude.{All}
-use Rattle.std.proofs.Math.Seq.{take-length}
-use Rattle.std.proofs.lemmas.List.{map-append, reverse-append}
-use Rattle.std.proofs.lemmas.List.Elements.{All-push}
-use Rattle.pc_common.specs.Case.{Case}
-use Rattle.pc_common.specs.World.{Node}
-use Rattle.pc_common.proofs.Places.{slice_get-more}
+use Rattle.std.{proofs.{Math.Seq.{take-length}, lemmas.List.{map-append, reverse-append, Elements.{All-push}}}, specs.Prelude.{All}}
+use Rattle.pc_common.{specs.{Case.{Case}, World.{Node}}, proofs.Places.{slice_get-more}}
 use Rattle.pc_ground.specs.declared.row.Row.{Row}
-use Rattle.lifted_facts.specs.declared.fact.Fact.{Fact}
-use Rattle.lifted_facts.specs.declared.way.Way.{Way}
-use Rattle.lifted_facts.specs.PlainFacts.{PlainFact, Branch, plain_fact, IsProper}
+use Rattle.lifted_facts.specs.{declared.{fact.Fact.{Fact}, way.Way.{Way}}, PlainFacts.{PlainFact, Branch, plain_fact, IsProper}}
 use Rattle.lifted_facts.specs.Lifted.{LiftedStep, derive, split, HasFact, HasPart, HasSides, Runs}
-use Rattle.lifter.specs.Trees.{fact_tree}
-use Rattle.lifter.specs.declared.kind.Kind.TheVariants.{False}
-use Rattle.lifter.specs.Kinds.{kind_of}
-use Rattle.lifter.specs.declared.state.Task.{Task}
-use Rattle.lifter.specs.declared.state.Task.TheVariants.{Close}
-use Rattle.lifter.specs.declared.state.Later.{Later}
-use Rattle.lifter.specs.declared.state.State.{State}
-use Rattle.lifter.specs.Closings.{HasClosed}
-use Rattle.lifter.specs.KnownFacts.{PlainKey, Entry, IsKnown, AreKnown, HasMarked, HaveMore}
+use Rattle.lifter.specs.{Trees.{fact_tree}, declared.{kind.Kind.TheVariants.{False}, state.{Task.{Task, TheVariants.{Close}}, Later.{Later}, State.{State}}}}
+use Rattle.lifter.specs.{Kinds.{kind_of}, Closings.{HasClosed}, KnownFacts.{PlainKey, Entry, IsKnown, AreKnown, HasMarked, HaveMore}}
 use Rattle.lifter.specs.States.{branch_of, waiting, IsDue, AreKept, AreLater, IsGood, IsGoodState, AreMatched, due, Moves, HasGained}
 use Rattle.lifter.proofs.RunsMore.{last_fact, one_longer, ran_derive, ran_split}
 use Rattle.lifter.proofs.KnownLaws.{waiting_more, all_known_more, good_fact, good_key, good_same, matched_same, matched_more, later_more, keys_front, keys_same}

@@ -1,25 +1,15 @@
 -- One step of the refutation of the ground tree: that it can be taken, and what is ahead after it.
-use Rattle.std.proofs.Common.{◌≡◌, ℕ, ◌+◌, Bool, true, false, ◌<◌, List, [], ◌∷◌, length, drop, refl, sym, ◌∙◌, subst}
+use Rattle.std.proofs.{Common.{◌≡◌, ℕ, ◌+◌, Bool, true, false, ◌<◌, List, [], ◌∷◌, length, drop, refl, sym, ◌∙◌, subst}, lemmas.Result.{IfOk-weaker}}
 use Rattle.std.specs.Prelude.{Result, IfOk}
-use Rattle.std.proofs.lemmas.Result.{IfOk-weaker}
-use Rattle.pc_common.specs.Case.{Case}
-use Rattle.pc_common.specs.World.{Node}
-use Rattle.pc_common.specs.Steps.{Leaf, cycle, path, absent, false_step, Step, split, close}
-use Rattle.pc_common.proofs.Places.{there_at}
+use Rattle.pc_common.{specs.{Case.{Case}, World.{Node}, Steps.{Leaf, cycle, path, absent, false_step, Step, split, close}}, proofs.Places.{there_at}}
 use Rattle.static_preds.proofs.Walked.{drop_at}
-use Rattle.pc_ground.specs.declared.row.Row.{Row}
-use Rattle.pc_ground.specs.declared.version.Version.TheVariants.{One}
-use Rattle.pc_ground.specs.Tree.{Tree}
-use Rattle.pc_ground.specs.Rows.{rows_of}
+use Rattle.pc_ground.specs.{declared.{row.Row.{Row}, version.Version.TheVariants.{One}}, Tree.{Tree}, Rows.{rows_of}}
 use Rattle.pc_ground.specs.Refutes.{Branch as TreeBranch, Runs as TreeRuns, Closes as TreeCloses, literals_of, left_branch, right_branch}
-use Rattle.lifted_facts.specs.PlainFacts.{Branch}
-use Rattle.lifted_facts.specs.Lifted.{Runs}
-use Rattle.lifter.specs.declared.state.State.{State}
-use Rattle.lifter.specs.KnownFacts.{at_position, no_node, present, HasKey, IsCycleKnown, IsPathKnown}
+use Rattle.lifted_facts.specs.{PlainFacts.{Branch}, Lifted.{Runs}}
+use Rattle.lifter.specs.{declared.state.State.{State}, KnownFacts.{at_position, no_node, present, HasKey, IsCycleKnown, IsPathKnown}}
 use Rattle.lifter.specs.States.{IsGoodState, IsCovered}
 use Rattle.lifter.specs.Progress.{HasFollowed, HasStepsLeft, IsNextStep, HasTakenStep, LeavesWaiting, AreWaiting, HasGoneOn, HasSplitOr, HasClosedBy}
-use Rattle.lifter.proofs.CoveredBranches.{split_known, cycle_known, path_known, absent_known, only_false}
-use Rattle.lifter.proofs.LeftBranches.{left_by}
+use Rattle.lifter.proofs.{CoveredBranches.{split_known, cycle_known, path_known, absent_known, only_false}, LeftBranches.{left_by}}
 
 module _ (c : Case) (rows : List (Row Node)) (start : List Branch) (s : State) where
   run_here : (steps : List (Step Node)) (h : HasStepsLeft c rows start s true steps) → TreeRuns One h.tree steps (h.at.first ∷ h.at.rest) []

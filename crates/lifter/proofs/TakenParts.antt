@@ -1,25 +1,12 @@
 -- And over facts, of which the ones before a place are unfolded.
-use Rattle.std.proofs.Common.{◌≡◌, ℕ, ◌+◌, List, Some, refl, sym, ◌∙◌, ap, subst}
-use Rattle.std.specs.Prelude.{slice_get}
-use Rattle.pc_common.specs.Case.{Case}
-use Rattle.pc_common.specs.World.{Node}
-use Rattle.pc_ground.specs.declared.row.Row.{Row}
-use Rattle.pc_ground.specs.Tree.{Tree, always, never, both, either, size_of, leaf}
-use Rattle.pc_ground.specs.PlainGround.{conjoined, disjoined}
-use Rattle.pc_ground.specs.Refutes.{asserted}
-use Rattle.pc_ground.proofs.FlatRows.{parts_both}
-use Rattle.pc_ground.proofs.NormalForms.{conjoined_always}
+use Rattle.std.{proofs.Common.{◌≡◌, ℕ, ◌+◌, List, Some, refl, sym, ◌∙◌, ap, subst}, specs.Prelude.{slice_get}}
+use Rattle.pc_common.specs.{Case.{Case}, World.{Node}}
+use Rattle.pc_ground.specs.{declared.row.Row.{Row}, Tree.{Tree, always, never, both, either, size_of, leaf}, PlainGround.{conjoined, disjoined}}
+use Rattle.pc_ground.{specs.Refutes.{asserted}, proofs.{FlatRows.{parts_both}, NormalForms.{conjoined_always}}}
 use Rattle.lifted_facts.specs.PlainFacts.{PlainFact}
-use Rattle.lifter.specs.Trees.{fact_tree}
-use Rattle.lifter.specs.declared.kind.Kind.TheVariants.{Open}
-use Rattle.lifter.specs.Kinds.{kind_of}
-use Rattle.lifter.proofs.PartWays.{rest_next, kind_rest, is_always, only_true, both_open}
-use Rattle.lifter.specs.declared.state.State.{State}
-use Rattle.lifter.specs.KnownFacts.{IsPart, TellsAll, Entry, HaveMore}
-use Rattle.lifter.specs.States.{Moves}
-use Rattle.lifter.specs.PartLists.{facts_from}
-use Rattle.lifter.specs.Unfoldings.{HasUnfolded, HasTaken}
-use Rattle.lifter.proofs.StateMoves.{moves_same, moves_then}
+use Rattle.lifter.specs.{Trees.{fact_tree}, declared.{kind.Kind.TheVariants.{Open}, state.State.{State}}, Kinds.{kind_of}}
+use Rattle.lifter.specs.{KnownFacts.{IsPart, TellsAll, Entry, HaveMore}, States.{Moves}, PartLists.{facts_from}, Unfoldings.{HasUnfolded, HasTaken}}
+use Rattle.lifter.proofs.{PartWays.{rest_next, kind_rest, is_always, only_true, both_open}, StateMoves.{moves_same, moves_then}}
 use Rattle.lifter.proofs.Tellings.{tells_both, tells_more}
 
 -- And and Or of two trees that are no constants

@@ -1,13 +1,8 @@
 -- What stands at the positions that a tree asserts is known.
 use Rattle.std.proofs.Common.{◌≡◌, inl, inr, ℕ, ◌+◌, List, subst}
-use Rattle.pc_common.specs.World.{Node}
-use Rattle.pc_common.proofs.Elements.{in_either}
-use Rattle.pc_ground.specs.declared.literal.Literal.{Literal}
-use Rattle.pc_ground.specs.declared.literal.Literal.TheVariants.{Node as a_node, Edge as an_edge, NoNode as not_node, NoEdge as not_edge}
-use Rattle.pc_ground.specs.declared.row.Row.{Row}
-use Rattle.pc_ground.specs.Tree.{Tree, leaf, both, either, size_of, always, never}
-use Rattle.pc_ground.specs.Refutes.{asserted}
-use Rattle.pc_ground.proofs.FlatRows.{one_part}
+use Rattle.pc_common.{specs.World.{Node}, proofs.Elements.{in_either}}
+use Rattle.pc_ground.specs.declared.literal.Literal.{Literal, TheVariants.{Node as a_node, Edge as an_edge, NoNode as not_node, NoEdge as not_edge}}
+use Rattle.pc_ground.{specs.{declared.row.Row.{Row}, Tree.{Tree, leaf, both, either, size_of, always, never}, Refutes.{asserted}}, proofs.FlatRows.{one_part}}
 use Rattle.lifter.specs.KnownFacts.{at_position, edge, no_edge, no_node, present, Entry, HasKey, IsPart, TellsLiteral, TellsRoot, TellsAt, TellsAll, HaveMore}
 
 literal_more : (es new : List Entry) (l : Literal Node) → HaveMore es new → TellsLiteral es l → TellsLiteral new l

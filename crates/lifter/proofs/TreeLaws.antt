@@ -1,15 +1,9 @@
 -- The tree of a formula by those of its parts.
 use Rattle.std.proofs.Common.{◌≡◌, Bool, true, false, not, List, [], ◌∷◌, ◌++◌, map, refl, sym, ◌∙◌, ap}
-use Rattle.pc_common.specs.Case.{Case}
-use Rattle.pc_common.specs.World.{Node}
-use Rattle.pc_syntax.specs.declared.term.Sort.{Sort}
-use Rattle.pc_syntax.specs.declared.closed_term.ClosedNode.{ClosedNode}
-use Rattle.pc_syntax.specs.declared.closed_term.ClosedEdge.{ClosedEdge}
-use Rattle.pc_syntax.specs.Truth.{Meaning, range_of}
+use Rattle.pc_common.specs.{Case.{Case}, World.{Node}}
+use Rattle.pc_syntax.specs.{declared.{term.Sort.{Sort}, closed_term.{ClosedNode.{ClosedNode}, ClosedEdge.{ClosedEdge}}}, Truth.{Meaning, range_of}}
 use Rattle.pc_syntax.specs.Closed.{PlainClosed, closed_not, closed_and, closed_or, closed_implies, closed_forall, closed_exists, closed_nodes, closed_edges, closed_node}
-use Rattle.pc_ground.specs.Tree.{Tree}
-use Rattle.pc_ground.specs.PlainGround.{PlainGround, conjoined, disjoined}
-use Rattle.pc_ground.specs.Unfolded.{all_of, some_of, node_said, edge_said, closed_unfolded}
+use Rattle.pc_ground.specs.{Tree.{Tree}, PlainGround.{PlainGround, conjoined, disjoined}, Unfolded.{all_of, some_of, node_said, edge_said, closed_unfolded}}
 use Rattle.lifted_facts.specs.PlainFacts.{said}
 use Rattle.lifter.specs.Trees.{signed_tree, said_tree, joined_tree, joined_trees, bodies, node_tree, edge_tree, fact_tree}
 

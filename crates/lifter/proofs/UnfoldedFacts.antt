@@ -1,35 +1,14 @@
 -- A fact is unfolded by its sides or by its parts.
-use Rattle.std.proofs.Common.{◌≡◌, ℕ, Bool, true, false, List, Some, None, refl, sym, ◌∙◌, ap, subst}
-use Rattle.std.specs.Prelude.{Result, Ok, Err, OnOk}
-use Rattle.pc_common.specs.Case.{Case}
-use Rattle.pc_common.specs.World.{Node}
-use Rattle.pc_ground.specs.Keys.{literal_node}
-use Rattle.pc_ground.specs.declared.node_key.NodeKey.{NodeKey}
-use Rattle.pc_ground.specs.declared.literal.Literal.{Literal}
-use Rattle.pc_ground.specs.declared.literal.Literal.TheVariants.{Node as a_node, Edge as an_edge, NoNode as not_node, NoEdge as not_edge}
-use Rattle.pc_ground.specs.declared.row.Row.{Row}
-use Rattle.pc_ground.specs.Tree.{Tree, never, leaf}
-use Rattle.pc_ground.specs.PlainGround.{disjoined}
-use Rattle.pc_ground.specs.Refutes.{asserted}
-use Rattle.pc_ground.proofs.NormalForms.{disjoined_never}
-use Rattle.lifted_facts.specs.PlainFacts.{PlainFact, Branch}
-use Rattle.lifted_facts.specs.Parts.{sides, is_false}
-use Rattle.lifted_facts.specs.Lifted.{HasFact}
-use Rattle.lifter.specs.Trees.{fact_tree}
-use Rattle.lifter.specs.declared.kind.Kind.{Kind}
-use Rattle.lifter.specs.declared.kind.Kind.TheVariants.{True, False, Open}
-use Rattle.lifter.specs.Kinds.{kind_of, joined_kind}
-use Rattle.lifter.specs.PartLists.{IsSaid, parts_from}
-use Rattle.lifter.proofs.KindLaws.{kind_joined}
-use Rattle.lifter.proofs.SideLaws.{sides_tree, parts_tree, false_tree}
-use Rattle.lifter.proofs.PartWays.{is_never}
-use Rattle.lifter.specs.declared.state.State.{State}
-use Rattle.lifter.specs.KnownFacts.{at_position, HasKey, IsPart, IsOr, TellsLiteral, TellsAll}
-use Rattle.lifter.specs.States.{branch_of, Moves}
-use Rattle.lifter.specs.Unfoldings.{fact_of, HasUnfolded}
-use Rattle.lifter.proofs.StateMoves.{moves_then}
-use Rattle.lifter.proofs.Tellings.{tells_leaf, tells_either}
-use Rattle.lifter.proofs.TakenParts.{open_either}
+use Rattle.std.{proofs.Common.{◌≡◌, ℕ, Bool, true, false, List, Some, None, refl, sym, ◌∙◌, ap, subst}, specs.Prelude.{Result, Ok, Err, OnOk}}
+use Rattle.pc_common.specs.{Case.{Case}, World.{Node}}
+use Rattle.pc_ground.specs.{Keys.{literal_node}, declared.{node_key.NodeKey.{NodeKey}, literal.Literal.{Literal}}}
+use Rattle.pc_ground.specs.declared.{literal.Literal.TheVariants.{Node as a_node, Edge as an_edge, NoNode as not_node, NoEdge as not_edge}, row.Row.{Row}}
+use Rattle.pc_ground.{specs.{Tree.{Tree, never, leaf}, PlainGround.{disjoined}, Refutes.{asserted}}, proofs.NormalForms.{disjoined_never}}
+use Rattle.lifted_facts.specs.{PlainFacts.{PlainFact, Branch}, Parts.{sides, is_false}, Lifted.{HasFact}}
+use Rattle.lifter.specs.{Trees.{fact_tree}, declared.{kind.Kind.{Kind, TheVariants.{True, False, Open}}, state.State.{State}}, Kinds.{kind_of, joined_kind}}
+use Rattle.lifter.specs.{PartLists.{IsSaid, parts_from}, KnownFacts.{at_position, HasKey, IsPart, IsOr, TellsLiteral, TellsAll}, States.{branch_of, Moves}}
+use Rattle.lifter.{specs.Unfoldings.{fact_of, HasUnfolded}, proofs.{KindLaws.{kind_joined}, SideLaws.{sides_tree, parts_tree, false_tree}, PartWays.{is_never}}}
+use Rattle.lifter.proofs.{StateMoves.{moves_then}, Tellings.{tells_leaf, tells_either}, TakenParts.{open_either}}
 
 pub literal_tree : (c : Case) (l : Literal Node) → fact_tree c (fact_of l) ≡ leaf l
 literal_tree c (a_node a) = refl

@@ -1,8 +1,7 @@
 -- Steps that close a branch by one of its facts.
 use Rattle.std.specs.Prelude.{ℕ, ◌≡◌, List, ◌∷◌, length}
 use Rattle.pc_common.specs.Case.{Case}
-use Rattle.lifted_facts.specs.PlainFacts.{PlainFact, Branch}
-use Rattle.lifted_facts.specs.Lifted.{LiftedStep, HasFact, Runs}
+use Rattle.lifted_facts.specs.{PlainFacts.{PlainFact, Branch}, Lifted.{LiftedStep, HasFact, Runs}}
 
 -- the steps that came to the old ones close each branch of n facts whose k-th fact is this
 abbrev pub HasClosed : Case → PlainFact → ℕ → ℕ → List LiftedStep → List LiftedStep → Type 0

@@ -2,8 +2,7 @@
 use Rattle.std.specs.Prelude.{ℕ, zero, suc, Bool, true, false}
 use Rattle.pc_common.specs.World.{Node}
 use Rattle.pc_ground.specs.Tree.{Tree, always, never, leaf, both, either}
-use Rattle.lifter.specs.declared.kind.Kind.{Kind}
-use Rattle.lifter.specs.declared.kind.Kind.TheVariants.{True, False, Open}
+use Rattle.lifter.specs.declared.kind.Kind.{Kind, TheVariants.{True, False, Open}}
 
 abbrev pub kind_of : Tree Node → Kind
 kind_of always = True

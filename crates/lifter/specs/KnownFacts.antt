@@ -1,22 +1,12 @@
 -- What is known on a lifted branch of the branch of the ground tree: under which number each asserted Or and literal is a fact.
 use Rattle.std.specs.Prelude.{ℕ, ◌≡◌, ◌⊎◌, true, false, List, [], ◌∷◌, ◌++◌, Some, map, drop}
-use Rattle.pc_common.specs.Case.{Case}
-use Rattle.pc_common.specs.World.{Node}
-use Rattle.pc_common.specs.Elements.{In}
-use Rattle.pc_ground.specs.Keys.{key_node}
-use Rattle.pc_ground.specs.declared.literal.Literal.{Literal}
-use Rattle.pc_ground.specs.declared.literal.Literal.TheVariants.{Node as a_node, Edge as an_edge, NoNode as not_node, NoEdge as not_edge}
-use Rattle.pc_ground.specs.declared.row.Row.{Row}
-use Rattle.pc_ground.specs.Tree.{Tree, always, never, leaf, both, either}
-use Rattle.pc_ground.specs.Rows.{rows_of}
-use Rattle.lifted_facts.specs.PlainFacts.{PlainFact, one_node, Branch}
-use Rattle.lifted_facts.specs.Parts.{sides}
-use Rattle.lifted_facts.specs.Lifted.{HasFact, IsEdge, Asserts}
-use Rattle.lifter.specs.Trees.{fact_tree}
-use Rattle.lifter.specs.declared.kind.Kind.TheVariants.{Open}
+use Rattle.pc_common.specs.{Case.{Case}, World.{Node}, Elements.{In}}
+use Rattle.pc_ground.specs.{Keys.{key_node}, declared.literal.Literal.{Literal}}
+use Rattle.pc_ground.specs.declared.{literal.Literal.TheVariants.{Node as a_node, Edge as an_edge, NoNode as not_node, NoEdge as not_edge}, row.Row.{Row}}
+use Rattle.pc_ground.specs.{Tree.{Tree, always, never, leaf, both, either}, Rows.{rows_of}}
+use Rattle.lifted_facts.specs.{PlainFacts.{PlainFact, one_node, Branch}, Parts.{sides}, Lifted.{HasFact, IsEdge, Asserts}}
+use Rattle.lifter.specs.{Trees.{fact_tree}, declared.{kind.Kind.TheVariants.{Open}, key.Key.{Key, TheVariants.{At, Edge, NoEdge, NoNode, Present}}}}
 use Rattle.lifter.specs.Kinds.{kind_of}
-use Rattle.lifter.specs.declared.key.Key.{Key}
-use Rattle.lifter.specs.declared.key.Key.TheVariants.{At, Edge, NoEdge, NoNode, Present}
 
 -- what can be known
 pub data PlainKey : Type 0 where

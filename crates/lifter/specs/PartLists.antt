@@ -1,12 +1,10 @@
 -- The parts of a fact that hold with it, in the order of the ground tree.
 use Rattle.std.specs.Prelude.{ℕ, true, false, not, List, [], ◌∷◌, map, drop}
-use Rattle.pc_common.specs.Case.{Case}
-use Rattle.pc_common.specs.World.{Node}
+use Rattle.pc_common.specs.{Case.{Case}, World.{Node}}
 use Rattle.pc_syntax.specs.Truth.{range_of}
 use Rattle.pc_syntax.specs.Closed.{closed_not, closed_and, closed_or, closed_implies, closed_forall, closed_exists, closed_nodes, closed_edges, closed_bind, closed_value, closed_node}
 use Rattle.pc_ground.specs.Tree.{Tree}
-use Rattle.lifted_facts.specs.PlainFacts.{PlainFact, said, one_node, one_edge}
-use Rattle.lifted_facts.specs.Parts.{said_inside}
+use Rattle.lifted_facts.specs.{PlainFacts.{PlainFact, said, one_node, one_edge}, Parts.{said_inside}}
 use Rattle.lifter.specs.Trees.{fact_tree, joined_trees}
 
 abbrev pub parts : Case → PlainFact → List PlainFact

@@ -1,18 +1,10 @@
 -- How far a refutation of the ground tree was followed.
 use Rattle.std.specs.Prelude.{ℕ, ◌≡◌, Bool, true, false, List, [], ◌∷◌, ◌++◌, Some, take, reverse}
-use Rattle.pc_common.specs.Case.{Case}
-use Rattle.pc_common.specs.World.{Node}
-use Rattle.pc_common.specs.Steps.{Step}
-use Rattle.pc_ground.specs.declared.row.Row.{Row}
-use Rattle.pc_ground.specs.declared.version.Version.TheVariants.{One}
-use Rattle.pc_ground.specs.Tree.{Tree, never, either}
-use Rattle.pc_ground.specs.Rows.{rows_of}
+use Rattle.pc_common.specs.{Case.{Case}, World.{Node}, Steps.{Step}}
+use Rattle.pc_ground.specs.{declared.{row.Row.{Row}, version.Version.TheVariants.{One}}, Tree.{Tree, never, either}, Rows.{rows_of}}
 use Rattle.pc_ground.specs.Refutes.{Branch as TreeBranch, Runs as TreeRuns, subtree_at, left_branch, right_branch}
-use Rattle.lifted_facts.specs.PlainFacts.{Branch}
-use Rattle.lifted_facts.specs.Lifted.{LiftedLeaf, LiftedStep, close, Closes as LiftedCloses, Runs}
-use Rattle.lifter.specs.declared.state.Later.{Later}
-use Rattle.lifter.specs.declared.state.State.{State}
-use Rattle.lifter.specs.KnownFacts.{Entry, AreKnown}
+use Rattle.lifted_facts.specs.{PlainFacts.{Branch}, Lifted.{LiftedLeaf, LiftedStep, close, Closes as LiftedCloses, Runs}}
+use Rattle.lifter.specs.{declared.state.{Later.{Later}, State.{State}}, KnownFacts.{Entry, AreKnown}}
 use Rattle.lifter.specs.States.{branch_of, waiting, AreLater, IsGoodState, IsCovered, IsSide, AreMatched, IsMatchedState}
 
 -- an open branch of the ground tree is followed on the first branch, and the others on those that wait

@@ -1,14 +1,9 @@
 -- What a fact is in the ground tree: its formula under its sign, unfolded in a case, with the constants folded.
 use Rattle.std.specs.Prelude.{ℕ, Bool, true, false, List, [], ◌∷◌, ◌++◌, map, drop}
-use Rattle.pc_common.specs.Case.{Case}
-use Rattle.pc_common.specs.World.{Node}
-use Rattle.pc_syntax.specs.declared.term.Sort.{Sort}
-use Rattle.pc_syntax.specs.declared.closed_term.ClosedNode.{ClosedNode}
-use Rattle.pc_syntax.specs.declared.closed_term.ClosedEdge.{ClosedEdge}
-use Rattle.pc_syntax.specs.Truth.{Meaning, range_of}
+use Rattle.pc_common.specs.{Case.{Case}, World.{Node}}
+use Rattle.pc_syntax.specs.{declared.{term.Sort.{Sort}, closed_term.{ClosedNode.{ClosedNode}, ClosedEdge.{ClosedEdge}}}, Truth.{Meaning, range_of}}
 use Rattle.pc_syntax.specs.Closed.{PlainClosed, closed_forall, closed_exists, closed_nodes, closed_edges, closed_node}
-use Rattle.pc_ground.specs.Tree.{Tree, always, never}
-use Rattle.pc_ground.specs.PlainGround.{PlainGround, pushed, conjoined, disjoined, folded}
+use Rattle.pc_ground.specs.{Tree.{Tree, always, never}, PlainGround.{PlainGround, pushed, conjoined, disjoined, folded}}
 use Rattle.pc_ground.specs.Unfolded.{node_said, edge_said, closed_unfolded}
 use Rattle.lifted_facts.specs.PlainFacts.{PlainFact, said, one_node, one_edge}
 

@@ -1,11 +1,8 @@
 -- How the part at a place of a fact's parts is named.
 use Rattle.std.specs.Prelude.{ℕ, ◌==◌, if◌then◌else◌}
-use Rattle.pc_syntax.specs.declared.term.Sort.{Sort}
-use Rattle.pc_syntax.specs.declared.term.Sort.TheVariants.{Microop, Core}
+use Rattle.pc_syntax.specs.declared.term.Sort.{Sort, TheVariants.{Microop, Core}}
 use Rattle.pc_syntax.specs.Closed.{PlainClosed, closed_not, closed_and, closed_or, closed_implies, closed_forall, closed_exists, closed_static, closed_nodes, closed_edges, closed_bind}
-use Rattle.lifted_facts.specs.declared.way.Instance.{Instance}
-use Rattle.lifted_facts.specs.declared.way.Instance.TheVariants.{Op as OpInstance, Core as CoreInstance}
-use Rattle.lifted_facts.specs.declared.way.Way.{Way}
+use Rattle.lifted_facts.specs.declared.way.{Instance.{Instance, TheVariants.{Op as OpInstance, Core as CoreInstance}}, Way.{Way}}
 use Rattle.lifted_facts.specs.declared.way.Way.TheVariants.{Left, Right, Not, Bind, Inst, Member}
 
 -- the value at a place of a range

@@ -1,6 +1,5 @@
 -- The steps of the code.
-use Rattle.lifter.specs.declared.line.Line.{Line}
-use Rattle.lifter.specs.declared.line.Line.TheVariants.{Derive, Split, False, Cycle, Path, Absent}
+use Rattle.lifter.specs.declared.line.Line.{Line, TheVariants.{Derive, Split, False, Cycle, Path, Absent}}
 use Rattle.lifted_facts.specs.Lifted.{LiftedStep, derive, split, close, falsity, cycle, path, absent}
 
 abbrev pub plain_line : Line → LiftedStep

@@ -1,9 +1,6 @@
 -- A text has one way of being cut into lines.
 use Rattle.std.proofs.Common.{◌≡◌, ◌≤◌, ◌+◌, ℕ, suc, List, [], ◌∷◌, ◌++◌, length, get_or, refl, sym, ◌∙◌, ap, arith, append_assoc, length-append}
-use Rattle.std.specs.List.{All}
-use Rattle.std.proofs.lemmas.List.{get_or_at}
-use Rattle.std.proofs.lemmas.List.Elements.{All-head, All-tail}
-use Rattle.std.proofs.lemmas.Grind.{flat_map-append}
+use Rattle.std.{proofs.lemmas.{List.{get_or_at, Elements.{All-head, All-tail}}, Grind.{flat_map-append}}, specs.List.{All}}
 use Rattle.line_judge.specs.Texts.{IsLine, text_of_lines}
 
 -- the line, its LF and all that follows

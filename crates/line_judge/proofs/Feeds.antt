@@ -1,15 +1,9 @@
 -- What a feed's parts say of its text.
 use Rattle.std.proofs.Common.{◌≡◌, ◌≤◌, ◌<◌, ◌+◌, inl, inr, ℕ, Bool, true, false, List, [], ◌∷◌, ◌++◌, length, min, refl, sym, ◌∙◌, subst, arith, length-append}
-use Rattle.std.specs.Prelude.{◌↔◌, IsTrue, MatchBool}
-use Rattle.std.proofs.lemmas.Bool.{cases_lt, MatchBool-at_true, MatchBool-at_false}
-use Rattle.std.proofs.lemmas.List.Elements.{All-push}
-use Rattle.line_judge.specs.Texts.{IsLine, HoldsRefused, IsRefusedAt}
-use Rattle.line_judge.specs.JudgedLines.{IsGood, IsBad, IsRefusedWith}
-use Rattle.line_judge.specs.Judges.{JudgeView}
-use Rattle.line_judge.specs.Feeds.{HasTaken, IsDecided, IsSettled, IsRefusedBy}
-use Rattle.line_judge.specs.declared.feed.Feed.{Feed}
-use Rattle.line_judge.proofs.JudgedLines.{FirstBegins, StandsBegins, WholeBegins, refused_line}
-use Rattle.line_judge.proofs.Refusals.{holds_none}
+use Rattle.std.{proofs.lemmas.{Bool.{cases_lt, MatchBool-at_true, MatchBool-at_false}, List.Elements.{All-push}}, specs.Prelude.{◌↔◌, IsTrue, MatchBool}}
+use Rattle.line_judge.specs.{Texts.{IsLine, HoldsRefused, IsRefusedAt}, JudgedLines.{IsGood, IsBad, IsRefusedWith}, Judges.{JudgeView}}
+use Rattle.line_judge.specs.{Feeds.{HasTaken, IsDecided, IsSettled, IsRefusedBy}, declared.feed.Feed.{Feed}}
+use Rattle.line_judge.proofs.{JudgedLines.{FirstBegins, StandsBegins, WholeBegins, refused_line}, Refusals.{holds_none}}
 
 holds_bad : (begins : List (List ℕ) → Type 0) (text : List ℕ) (number : ℕ) → IsBad begins text number → HoldsRefused begins text
 holds_bad begins text number bad = record {

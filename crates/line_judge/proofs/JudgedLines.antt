@@ -1,14 +1,9 @@
 -- A judge takes a line, and what its lines are of the text afterwards.
 use Rattle.std.proofs.Common.{◌≡◌, ◌≤◌, ◌<◌, ◌+◌, ℕ, Bool, true, false, List, [], ◌∷◌, ◌++◌, Result, Ok, Err, length, min, refl, sym, ◌∙◌, ap, subst, arith, append_assoc, length-append}
-use Rattle.std.specs.Prelude.{◌↔◌, IfOk}
-use Rattle.std.proofs.lemmas.List.{append-nil}
-use Rattle.std.proofs.lemmas.List.Elements.{All-append, All-push, All-nil}
-use Rattle.line_judge.specs.Texts.{IsLine, text_of_lines, IsRefusedAt}
-use Rattle.line_judge.specs.Judges.{JudgeView, GoesOn, Refuses}
-use Rattle.line_judge.specs.JudgedLines.{IsGood, IsBad, IsJudged, IsWhole, IsRefusedWith}
-use Rattle.line_judge.specs.declared.judged.Judged.{Judged}
-use Rattle.line_judge.proofs.Cuts.{text_append, lines_within}
-use Rattle.line_judge.proofs.Refusals.{refused_at_line, refused_at_end}
+use Rattle.std.{proofs.lemmas.List.{append-nil, Elements.{All-append, All-push, All-nil}}, specs.Prelude.{◌↔◌, IfOk}}
+use Rattle.line_judge.specs.{Texts.{IsLine, text_of_lines, IsRefusedAt}, Judges.{JudgeView, GoesOn, Refuses}}
+use Rattle.line_judge.specs.{JudgedLines.{IsGood, IsBad, IsJudged, IsWhole, IsRefusedWith}, declared.judged.Judged.{Judged}}
+use Rattle.line_judge.proofs.{Cuts.{text_append, lines_within}, Refusals.{refused_at_line, refused_at_end}}
 
 -- what a judge's laws say of it: first lines of those that begin well do so too, and what it took, and what is whole
 abbrev pub FirstBegins : JudgeView → Type 0

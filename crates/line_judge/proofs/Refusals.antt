@@ -1,10 +1,8 @@
 -- Where a text is refused, from a cut of it.
 use Rattle.std.proofs.Common.{◌≡◌, ◌≤◌, ◌+◌, ℕ, List, [], ◌∷◌, ◌++◌, length, take, drop, sym, ◌∙◌, ap, subst, arith, length-append}
+use Rattle.std.proofs.lemmas.List.{append-nil, append_cancel_left, take-append-drop, length-take-le, nil_from_length, Elements.{All-take, All-push, All-nil}}
 use Rattle.std.specs.List.{All}
-use Rattle.std.proofs.lemmas.List.{append-nil, append_cancel_left, take-append-drop, length-take-le, nil_from_length}
-use Rattle.std.proofs.lemmas.List.Elements.{All-take, All-push, All-nil}
-use Rattle.line_judge.specs.Texts.{IsLine, text_of_lines, FirstLinesBegin, IsRefusedAt, HoldsRefused}
-use Rattle.line_judge.proofs.Cuts.{text_append, first_lines, fewer_lines}
+use Rattle.line_judge.{specs.Texts.{IsLine, text_of_lines, FirstLinesBegin, IsRefusedAt, HoldsRefused}, proofs.Cuts.{text_append, first_lines, fewer_lines}}
 
 -- what begins well does so up to each of its lines
 begins_well : (begins : List (List ℕ) → Type 0) (first : (lines more : List (List ℕ)) → begins (lines ++ more) → begins lines)

@@ -1,11 +1,7 @@
 -- What a feed is after a text, and what it answers at the end.
 use Rattle.std.specs.Prelude.{◌≡◌, ◌≤◌, ◌<◌, ◌⊎◌, ℕ, List, length, min, IsTrue, MatchBool, ⊤}
-use Rattle.line_judge.specs.Texts.{IsRefusedAt, HoldsRefused}
-use Rattle.line_judge.specs.Judges.{JudgeView}
-use Rattle.line_judge.specs.JudgedLines.{IsGood, IsBad, IsWhole}
-use Rattle.line_judge.specs.declared.feed.Feed.{Feed}
-use Rattle.line_judge.specs.declared.feed.Finished.{Finished}
-use Rattle.line_judge.specs.declared.feed.Finished.TheVariants.{Whole, Refused}
+use Rattle.line_judge.specs.{Texts.{IsRefusedAt, HoldsRefused}, Judges.{JudgeView}, JudgedLines.{IsGood, IsBad, IsWhole}, declared.feed.Feed.{Feed}}
+use Rattle.line_judge.specs.declared.feed.Finished.{Finished, TheVariants.{Whole, Refused}}
 
 -- the feed was begun with this judge and this limit, and took this text
 pub record HasTaken {J : Type 0} (view : J → JudgeView) (start : J) (limit : ℕ) (text : List ℕ)
@@ -29,6 +25,10 @@ IsDecided begins limit text all = (limit < length all) ⊎ HoldsRefused begins t
 abbrev pub IsSettled : {J : Type 0} → Feed J → Type 0
 IsSettled feed = IsTrue feed.refused ⊎ (feed.limit < feed.bytes)
 
+-- the first line of the text that is refused where a judge means this
+abbrev pub IsRefusedLine : JudgeView → List ℕ → ℕ → Type 0
+IsRefusedLine view text n = IsRefusedAt view.begins view.whole text n
+
 -- 0 stands for a text past the limit, any other number for the line that is refused
 pub record IsRefusedBy (begins whole : List (List ℕ) → Type 0) (limit : ℕ) (text : List ℕ) (number : ℕ) : Type 0 where
   pub past : number ≡ 0 → limit < length text
@@ -46,3 +46,8 @@ AreAlike (Whole judge) (Whole other) = ⊤
 AreAlike (Whole judge) (Refused number) = ⊥
 AreAlike (Refused number) (Whole judge) = ⊥
 AreAlike (Refused m) (Refused n) = m ≡ n
+
+-- whatever was read, a text has one answer
+abbrev pub HasOneAnswer : {J : Type 0} → (J → JudgeView) → J → ℕ → List ℕ → Type 0
+HasOneAnswer {J} view start limit text =
+    (one other : Finished J) → IsAnswer view start limit text one → IsAnswer view start limit text other → AreAlike one other

@@ -1,9 +1,6 @@
 -- What a judge's lines are of a text so far.
-use Rattle.std.specs.Prelude.{◌≡◌, ◌↔◌, ◌+◌, ◌≤◌, ◌<◌, ℕ, List, [], ◌∷◌, ◌++◌, codes, length, min, Bool, MatchBool, Result, MatchResult}
-use Rattle.std.specs.List.{All}
-use Rattle.line_judge.specs.Texts.{IsLine, text_of_lines, IsMadeOf, IsRefusedAt}
-use Rattle.line_judge.specs.Judges.{JudgeView}
-use Rattle.line_judge.specs.declared.judged.Judged.{Judged}
+use Rattle.std.specs.{Prelude.{◌≡◌, ◌↔◌, ◌+◌, ◌≤◌, ◌<◌, ℕ, List, [], ◌∷◌, ◌++◌, codes, length, min, Bool, MatchBool, Result, MatchResult}, List.{All}}
+use Rattle.line_judge.specs.{Texts.{IsLine, text_of_lines, IsMadeOf, IsRefusedAt}, Judges.{JudgeView}, declared.judged.Judged.{Judged}}
 
 -- two judges judge the same texts
 pub record JudgeAlike (one other : JudgeView) : Type 0 where

@@ -1,6 +1,5 @@
 -- A text cut into lines, each of which ends with LF.
-use Rattle.std.specs.Prelude.{◌≡◌, ◌≢◌, ◌<◌, ℕ, List, ◌++◌, codes, length}
-use Rattle.std.specs.List.{All, flat_map}
+use Rattle.std.specs.{Prelude.{◌≡◌, ◌≢◌, ◌<◌, ℕ, List, ◌++◌, codes, length}, List.{All, flat_map}}
 
 -- no LF stands in it
 abbrev pub IsLine : List ℕ → Type 0

@@ -1,22 +1,12 @@
 -- Listings are a form of second files.
-use Rattle.std.proofs.Common.{◌≡◌, ◌≢◌, ℕ, List, ◌⊎◌, inl, inr, Some, refl, sym, ◌∙◌, ap, subst}
-use Rattle.std.specs.Prelude.{unwrap_or}
-use Rattle.pc_common.specs.Case.{Case}
-use Rattle.pc_common.specs.declared.fault.FaultKind.TheVariants.{Lexical, Syntax}
-use Rattle.pc_common.specs.declared.fault.InputFault.{InputFault}
-use Rattle.pc_common.specs.declared.fault.Which.TheVariants.{Test}
+use Rattle.std.{proofs.Common.{◌≡◌, ◌≢◌, ℕ, List, ◌⊎◌, inl, inr, Some, refl, sym, ◌∙◌, ap, subst}, specs.Prelude.{unwrap_or}}
+use Rattle.pc_common.specs.{Case.{Case}, declared.fault.{FaultKind.TheVariants.{Lexical, Syntax}, InputFault.{InputFault}, Which.TheVariants.{Test}}}
 use Rattle.pc_syntax.specs.Written.{WrittenModel}
-use Rattle.x86_litmus.specs.Answer.{CaseOf, IsX86Fault}
-use Rattle.x86_litmus.specs.declared.fault.X86Fault.{X86Fault}
+use Rattle.x86_litmus.specs.{Answer.{CaseOf, IsX86Fault}, declared.fault.X86Fault.{X86Fault}}
 use Rattle.x86_litmus.specs.declared.fault.X86Fault.TheVariants.{Lexical as a_lexical_fault, Syntax as a_syntax_fault, Content as a_fault_of_content, Memory as no_room}
-use Rattle.x86_litmus.proofs.OneReading.{one_case, no_fault}
-use Rattle.x86_litmus.proofs.OneFault.{one_fault}
-use Rattle.x86_litmus.proofs.Totality.{case_or_fault}
-use Rattle.pc_front.specs.ModelFront.{IsModelEnd}
-use Rattle.pc_front.specs.Front.{SaysModel, fault_at}
-use Rattle.pc_front.specs.declared.model_front.FrontEnd.{FrontEnd}
-use Rattle.command_base.specs.SecondFiles.{IsOfTwo, IsFrontEnd, IsForm, IsToldFault, in_second}
-use Rattle.command_base.proofs.Forms.{IsReader, form_of, fault_ends, model_ends}
+use Rattle.x86_litmus.proofs.{OneReading.{one_case, no_fault}, OneFault.{one_fault}, Totality.{case_or_fault}}
+use Rattle.pc_front.specs.{ModelFront.{IsModelEnd}, Front.{SaysModel, fault_at}, declared.model_front.FrontEnd.{FrontEnd}}
+use Rattle.command_base.{specs.SecondFiles.{IsOfTwo, IsFrontEnd, IsForm, IsToldFault, in_second}, proofs.Forms.{IsReader, form_of, fault_ends, model_ends}}
 use Rattle.listing_form.specs.Listings.{listing_fault_of, IsFirstListingFault, listing_end}
 
 -- want of memory is no fault of a listing

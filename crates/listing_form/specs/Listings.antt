@@ -1,13 +1,8 @@
 -- The first fault of the bytes of a model and of a listing.
 use Rattle.std.specs.Prelude.{ℕ, List, Option, Some, None}
-use Rattle.pc_common.specs.declared.fault.FaultKind.TheVariants.{Lexical, Syntax}
-use Rattle.pc_common.specs.declared.fault.InputFault.{InputFault}
-use Rattle.pc_common.specs.declared.fault.Which.TheVariants.{Test}
-use Rattle.pc_front.specs.declared.model_front.FrontEnd.{FrontEnd}
-use Rattle.pc_front.specs.declared.model_front.FrontEnd.TheVariants.{Refused, Memory}
-use Rattle.pc_front.specs.Front.{fault_at}
-use Rattle.x86_litmus.specs.Answer.{IsX86Fault}
-use Rattle.x86_litmus.specs.declared.fault.X86Fault.{X86Fault}
+use Rattle.pc_common.specs.declared.fault.{FaultKind.TheVariants.{Lexical, Syntax}, InputFault.{InputFault}, Which.TheVariants.{Test}}
+use Rattle.pc_front.specs.{declared.model_front.FrontEnd.{FrontEnd, TheVariants.{Refused, Memory}}, Front.{fault_at}}
+use Rattle.x86_litmus.specs.{Answer.{IsX86Fault}, declared.fault.X86Fault.{X86Fault}}
 use Rattle.x86_litmus.specs.declared.fault.X86Fault.TheVariants.{Lexical as a_lexical_fault, Syntax as a_syntax_fault, Content as a_fault_of_content, Memory as no_memory}
 use Rattle.command_base.specs.SecondFiles.{IsToldFault, IsFaultOfTwo}
 

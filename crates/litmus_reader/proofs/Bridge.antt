@@ -1,43 +1,26 @@
 -- The table reads exactly the terminals of the tests.
 use Rattle.std.proofs.Common.{◌≡◌, ℕ, Bool, true, false, List, [], ◌∷◌, ◌++◌, Some, None, IsTrue, MatchOption, map, codes, refl, sym, ap, subst, ◌∙◌, append_assoc, if◌then◌else◌}
 use Rattle.std.proofs.lemmas.List.{append-nil, map-append}
-use Rattle.pc_case.specs.declared.address.Page.{Page}
-use Rattle.pc_case.specs.declared.address.Address.{Address}
-use Rattle.pc_case.specs.declared.address.Address.TheVariants.{Page as PageAddress, Entry as EntryAddress}
+use Rattle.pc_case.specs.declared.address.{Page.{Page}, Address.{Address, TheVariants.{Page as PageAddress, Entry as EntryAddress}}}
 use Rattle.pc_common.specs.declared.place.Place.{Place}
-use Rattle.ll_grammar.specs.Rules.{Derives}
-use Rattle.ll_grammar.specs.Texts.{IsText}
-use Rattle.ll_grammar.specs.declared.grammar.Symbol.{Symbol}
+use Rattle.ll_grammar.specs.{Rules.{Derives}, Texts.{IsText}, declared.grammar.Symbol.{Symbol}}
 use Rattle.ll_grammar.specs.declared.grammar.Symbol.TheVariants.{Terminal as a_terminal, Nonterminal as a_nonterminal}
-use Rattle.ll_grammar.proofs.DerivesLaws.{Each, meaning, derives-begin, derives-end}
-use Rattle.ll_grammar.proofs.DerivesLaws.Each.{none, class, part}
-use Rattle.uspec_lexer.specs.Token.{Token}
-use Rattle.uspec_lexer.specs.Vocabulary.{expected_terminal}
-use Rattle.uspec_lexer.specs.Expected.{Expected, a_word, a_number, Is, Spell}
+use Rattle.ll_grammar.proofs.DerivesLaws.{Each, meaning, derives-begin, derives-end, Each.{none, class, part}}
+use Rattle.uspec_lexer.specs.{Token.{Token}, Vocabulary.{expected_terminal}, Expected.{Expected, a_word, a_number, Is, Spell}}
+use Rattle.uspec_lexer.proofs.Spelling.{spell-append, map-head, map-part}
+use Rattle.uspec_lexer.proofs.Words.{is_word, is_placed_word, is_symbol, is_number, is_text, is_named, word_is_name, terminals-of_tokens}
 use Rattle.litmus_reader.specs.Expected.{word_at, number_at}
 use Rattle.litmus_reader.specs.Syntax.{spelled_page, spelled_address, spelled_entry, spelled_value, spelled_stated, spelled_touch, spelled_access, spelled_head, spelled_statement, spelled_item, spelled_items, spelled_test, open_, close_, dot, arrow, format_word, IsAddressOf, IsValueOf, IsActionOf, IsItemOf, AreItemsOf, IsTest}
 use Rattle.litmus_reader.specs.Terminals.{spelling, word_terminal, symbol_terminal, vocabulary, terminal_of, sort_of, is_name}
-use Rattle.litmus_reader.specs.Phrases.{production, is_nullable, deep, rules}
-use Rattle.litmus_reader.specs.declared.item.Numeral.{Numeral}
-use Rattle.litmus_reader.specs.declared.format.Format.{Format}
-use Rattle.litmus_reader.specs.declared.format.Format.TheVariants.{One, Two}
-use Rattle.litmus_reader.specs.declared.item.ValueText.{ValueText}
-use Rattle.litmus_reader.specs.declared.item.ValueText.TheVariants.{Number as number_text, Entry as entry_text}
-use Rattle.litmus_reader.specs.declared.item.Touch.{Touch}
-use Rattle.litmus_reader.specs.declared.item.Head.{Head}
-use Rattle.litmus_reader.specs.declared.item.End.{End}
-use Rattle.litmus_reader.specs.declared.item.Action.{Action}
-use Rattle.litmus_reader.specs.declared.item.Action.TheVariants.{Read as read, Write as write, Fence as fence}
-use Rattle.litmus_reader.specs.declared.item.ValueLine.{ValueLine}
-use Rattle.litmus_reader.specs.declared.item.Item.{Item}
+use Rattle.litmus_reader.specs.{Phrases.{production, is_nullable, deep, rules}, declared.item.{Numeral.{Numeral}, ValueText.{ValueText}}}
+use Rattle.litmus_reader.specs.declared.item.{ValueText.TheVariants.{Number as number_text, Entry as entry_text}, Touch.{Touch}, Head.{Head}, End.{End}}
+use Rattle.litmus_reader.specs.declared.item.{Action.{Action, TheVariants.{Read as read, Write as write, Fence as fence}}, ValueLine.{ValueLine}, Item.{Item}}
 use Rattle.litmus_reader.specs.declared.item.Item.TheVariants.{Microop as microop, Relationship as relationship, Initial as initial, Final as final, Permitted as permitted, Forbidden as forbidden}
-use Rattle.litmus_reader.specs.declared.terminal.Terminal.{Terminal}
+use Rattle.litmus_reader.specs.declared.{format.Format.{Format, TheVariants.{One, Two}}, terminal.Terminal.{Terminal}}
 use Rattle.litmus_reader.specs.declared.terminal.Terminal.TheVariants.{Litmus, Litmus2, Microop, Relationship, Init, Final, Permitted, Forbidden, Read, Write, Fence, Va, Pa, Entry, Data, Maps, Name, Number, Text, Open, Close, Dot, Arrow}
 use Rattle.litmus_reader.specs.declared.phrase.Phrase.{Phrase}
 use Rattle.litmus_reader.specs.declared.phrase.Phrase.TheVariants.{Test, Items, Access, Types, AnyName, VirtualPage, Address as AddressPart, AddressInside, ReadValue, WriteValue, ValueInside, StatedValue}
 use Rattle.litmus_reader.proofs.Words.{sorted}
-use Rattle.uspec_lexer.proofs.Spelling.{spell-append, map-head, map-part}
-use Rattle.uspec_lexer.proofs.Words.{is_word, is_placed_word, is_symbol, is_number, is_text, is_named, word_is_name, terminals-of_tokens}
 
 -- From the table to the grammar: tokens of these terminals spell a text.
 

@@ -1,28 +1,14 @@
 -- What a builder holds of the lines, line by line.
 use Rattle.std.proofs.Common.{◌≡◌, zero, ◌<◌, ◌≤◌, Bool, true, false, List, [], ◌∷◌, ◌++◌, Option, Some, None, Result, Ok, Err, OnOk, length, map, refl, sym, ap, ◌∙◌, arith, append_assoc, inl, inr}
-use Rattle.std.specs.List.{filter_map, cons_option}
-use Rattle.std.proofs.lemmas.List.{map-append, append-nil}
-use Rattle.std.proofs.lemmas.List.Elements.{filter_map-append}
-use Rattle.std.proofs.lemmas.List.Sums.{prefix_len-le-length}
-use Rattle.pc_common.specs.declared.place.Place.{Place}
-use Rattle.pc_common.specs.declared.fault.FaultKind.{FaultKind}
-use Rattle.pc_common.specs.declared.fault.FaultKind.TheVariants.{OpUnknown}
-use Rattle.pc_common.specs.Case.{Expectation, MicroOp, Dependency}
-use Rattle.pc_case.specs.Plain.{micro_op, dependency}
-use Rattle.pc_case.specs.declared.stated.Stated.{Stated}
+use Rattle.std.{proofs.lemmas.List.{map-append, append-nil, Elements.{filter_map-append}, Sums.{prefix_len-le-length}}, specs.List.{filter_map, cons_option}}
+use Rattle.pc_common.specs.{declared.{place.Place.{Place}, fault.FaultKind.{FaultKind, TheVariants.{OpUnknown}}}, Case.{Expectation, MicroOp, Dependency}}
+use Rattle.pc_case.specs.{Plain.{micro_op, dependency}, declared.stated.Stated.{Stated}}
 use Rattle.litmus_reader.specs.Items.{microop_of, relationship_of, initial_of, final_of, expectation_of, microops_in, heads_in, relationships_in, initial_in, final_in, expectations_in, op_of, is_named, place_in, dependency_of}
 use Rattle.litmus_reader.specs.Content.{Never, First, Unknown, AgainExpected}
-use Rattle.litmus_reader.specs.Builder.{stated_of, stated_expectations, HasLines, AddsMicroop, AddsRelationship}
-use Rattle.litmus_reader.specs.declared.item.Head.{Head}
-use Rattle.litmus_reader.specs.declared.item.End.{End}
-use Rattle.litmus_reader.specs.declared.item.Microop.{Microop}
-use Rattle.litmus_reader.specs.declared.item.Relationship.{Relationship}
-use Rattle.litmus_reader.specs.declared.item.ValueLine.{ValueLine}
-use Rattle.litmus_reader.specs.declared.item.Item.{Item}
+use Rattle.litmus_reader.specs.{Builder.{stated_of, stated_expectations, HasLines, AddsMicroop, AddsRelationship}, declared.item.{Head.{Head}, End.{End}}}
+use Rattle.litmus_reader.specs.declared.item.{Microop.{Microop}, Relationship.{Relationship}, ValueLine.{ValueLine}, Item.{Item}}
 use Rattle.litmus_reader.specs.declared.item.Item.TheVariants.{Microop as microop, Relationship as relationship, Initial as initial, Final as final}
-use Rattle.litmus_reader.specs.declared.builder.CaseBuilder.{CaseBuilder}
-use Rattle.litmus_reader.specs.declared.builder.StatedExpectation.{StatedExpectation}
-use Rattle.litmus_reader.proofs.RowFacts.{place_in-none}
+use Rattle.litmus_reader.{specs.declared.builder.{CaseBuilder.{CaseBuilder}, StatedExpectation.{StatedExpectation}}, proofs.RowFacts.{place_in-none}}
 
 pub place_in_within : (heads : List Head) (x : End) → place_in heads x ≤ length heads
 place_in_within heads x = prefix_len-le-length _ heads

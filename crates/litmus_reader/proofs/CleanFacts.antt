@@ -1,31 +1,18 @@
 -- What holds of items without a fault.
 use Rattle.std.proofs.Common.{◌≡◌, ℕ, zero, suc, ◌<◌, ◌≤◌, List, [], ◌∷◌, ◌++◌, Option, Some, None, length, map, slice_get, refl, sym, ap, subst, ◌∙◌, ◌⊎◌, inl, inr, arith, append_assoc}
-use Rattle.std.specs.Prelude.{Contains, ◌↔◌, IsNone}
-use Rattle.std.specs.List.{filter_map}
+use Rattle.std.proofs.lemmas.List.{append-nil, length-append, length-map, Elements.{Contains-push_cases}}
+use Rattle.std.{proofs.lemmas.Option.{slice_get-map, slice_get_within, get_or_from_slice_get}, specs.{Prelude.{Contains, ◌↔◌, IsNone}, List.{filter_map}}}
 use Rattle.std.specs.Option.{option_map}
-use Rattle.std.proofs.lemmas.List.{append-nil, length-append, length-map}
-use Rattle.std.proofs.lemmas.List.Elements.{Contains-push_cases}
-use Rattle.std.proofs.lemmas.Option.{slice_get-map, slice_get_within, get_or_from_slice_get}
-use Rattle.pc_common.specs.declared.place.Place.{Place}
-use Rattle.pc_common.specs.declared.fault.FaultKind.{FaultKind}
-use Rattle.pc_common.specs.declared.fault.FaultKind.TheVariants.{CoreNumber, TooManyOps, DuplicateOp, AgainInitial, AgainFinal}
-use Rattle.pc_common.specs.declared.value.Value.{Value}
+use Rattle.pc_common.specs.declared.{place.Place.{Place}, fault.FaultKind.{FaultKind}}
+use Rattle.pc_common.specs.declared.{fault.FaultKind.TheVariants.{CoreNumber, TooManyOps, DuplicateOp, AgainInitial, AgainFinal}, value.Value.{Value}}
+use Rattle.pc_common.specs.declared.limits.TheConstants.{MAX_CORE, MAX_OPS}
 use Rattle.pc_common.specs.Case.{Address as PlainAddress, page, entry_of, Value as PlainValue, MicroOp, Dependency, fence}
-use Rattle.pc_case.specs.declared.address.Address.{Address}
-use Rattle.pc_case.specs.declared.address.Address.TheVariants.{Page, Entry}
-use Rattle.pc_case.specs.MicroOps.{AreMicroOps}
-use Rattle.pc_case.specs.Stated.{IsStatedOnce, AreWithin}
+use Rattle.pc_case.specs.{declared.address.Address.{Address, TheVariants.{Page, Entry}}, MicroOps.{AreMicroOps}, Stated.{IsStatedOnce, AreWithin}}
 use Rattle.pc_case.specs.Plain.{address_at}
 use Rattle.litmus_reader.specs.Items.{value_of, microop_of, relationship_of, initial_of, final_of, microops_in, heads_in, relationships_in, initial_in, final_in, kind_of_action, touch_of_action, op_of, place_in, dependency_of, stated_by}
 use Rattle.litmus_reader.specs.Content.{Never, First, OverCore, OverMany, SplitFrom, DuplicateOf, SomeEarlier, Unknown, AgainStated, MarkFault, HeadFault, ActionFault, IsFaultOf, IsClean}
-use Rattle.pc_common.specs.declared.limits.TheConstants.{MAX_CORE, MAX_OPS}
-use Rattle.litmus_reader.specs.declared.item.Head.{Head}
-use Rattle.litmus_reader.specs.declared.item.Action.{Action}
-use Rattle.litmus_reader.specs.declared.item.Action.TheVariants.{Read as reads, Write as writes, Fence as fences}
-use Rattle.litmus_reader.specs.declared.item.Microop.{Microop}
-use Rattle.litmus_reader.specs.declared.item.Relationship.{Relationship}
-use Rattle.litmus_reader.specs.declared.item.ValueLine.{ValueLine}
-use Rattle.litmus_reader.specs.declared.item.Item.{Item}
+use Rattle.litmus_reader.specs.declared.item.{Head.{Head}, Action.{Action, TheVariants.{Read as reads, Write as writes, Fence as fences}}, Microop.{Microop}}
+use Rattle.litmus_reader.specs.declared.item.{Relationship.{Relationship}, ValueLine.{ValueLine}, Item.{Item}}
 use Rattle.litmus_reader.specs.declared.item.Item.TheVariants.{Microop as microop, Relationship as relationship, Initial as initial, Final as final, Permitted as permitted, Forbidden as forbidden}
 use Rattle.litmus_reader.proofs.BuilderFacts.{never-first, never-others, added, same, same_heads, added_head, place_in-append, known}
 

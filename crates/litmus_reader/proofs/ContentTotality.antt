@@ -1,27 +1,16 @@
 -- Each list of items is clean or has a content fault.
 use Rattle.std.proofs.Common.{◌≡◌, ◌≢◌, zero, ◌<◌, ◌≤◌, ◌⊎◌, ⊎_elim, inl, inr, List, [], ◌∷◌, ◌++◌, length, refl, sym, ap, subst, ◌∙◌, arith, append_assoc}
-use Rattle.std.specs.Prelude.{Contains}
-use Rattle.std.proofs.lemmas.List.{append-nil}
-use Rattle.pc_common.specs.declared.place.Place.{Place}
-use Rattle.pc_common.specs.declared.fault.FaultKind.{FaultKind}
+use Rattle.std.{proofs.lemmas.List.{append-nil}, specs.Prelude.{Contains}}
+use Rattle.pc_common.specs.declared.{place.Place.{Place}, fault.FaultKind.{FaultKind}}
 use Rattle.pc_common.specs.declared.fault.FaultKind.TheVariants.{CoreNumber, TooManyOps, SplitInstruction, DuplicateOp, OpUnknown, AgainInitial, AgainFinal, AgainExpectation, MarkValue}
-use Rattle.pc_common.specs.declared.value.Value.{Value}
-use Rattle.pc_common.specs.Case.{Expectation}
+use Rattle.pc_common.specs.{declared.{value.Value.{Value}, limits.TheConstants.{MAX_CORE, MAX_OPS}}, Case.{Expectation}}
 use Rattle.litmus_reader.specs.Items.{value_of, heads_in, initial_in, final_in, expectations_in}
 use Rattle.litmus_reader.specs.Content.{Never, First, OverCore, OverMany, SplitFrom, DuplicateOf, SomeEarlier, Unknown, AgainStated, AgainExpected, OverMark, MarkFault, ActionFault, HeadFault, IsFaultOf, IsClean, IsContentFault}
-use Rattle.pc_common.specs.declared.limits.TheConstants.{MAX_CORE, MAX_OPS}
-use Rattle.litmus_reader.specs.declared.item.Numeral.{Numeral}
-use Rattle.litmus_reader.specs.declared.item.ValueText.{ValueText}
-use Rattle.litmus_reader.specs.declared.item.ValueText.TheVariants.{Number, Entry}
-use Rattle.litmus_reader.specs.declared.item.Action.{Action}
-use Rattle.litmus_reader.specs.declared.item.Action.TheVariants.{Read as reads, Write as writes, Fence as fences}
-use Rattle.litmus_reader.specs.declared.item.Head.{Head}
-use Rattle.litmus_reader.specs.declared.item.End.{End}
-use Rattle.litmus_reader.specs.declared.item.ValueLine.{ValueLine}
-use Rattle.litmus_reader.specs.declared.item.Item.{Item}
+use Rattle.litmus_reader.specs.declared.item.{Numeral.{Numeral}, ValueText.{ValueText, TheVariants.{Number, Entry}}, Action.{Action}}
+use Rattle.litmus_reader.specs.declared.item.{Action.TheVariants.{Read as reads, Write as writes, Fence as fences}, Head.{Head}, End.{End}}
+use Rattle.litmus_reader.specs.declared.item.{ValueLine.{ValueLine}, Item.{Item}}
 use Rattle.litmus_reader.specs.declared.item.Item.TheVariants.{Microop as microop, Relationship as relationship, Initial as initial, Final as final, Permitted as permitted, Forbidden as forbidden}
-use Rattle.litmus_reader.proofs.Decisions.{Decided, both, less, at_most, same_number, same_address}
-use Rattle.litmus_reader.proofs.ValueFacts.{contains-cons, contains-cases, contains-none}
+use Rattle.litmus_reader.proofs.{Decisions.{Decided, both, less, at_most, same_number, same_address}, ValueFacts.{contains-cons, contains-cases, contains-none}}
 use Rattle.litmus_reader.proofs.CleanFacts.{clean-none, clean-push}
 
 -- a row gives no fault, or it gives one

@@ -1,8 +1,6 @@
 -- What is decided of numbers and addresses.
-use Rattle.std.proofs.Common.{◌≡◌, ℕ, ◌<◌, ◌≤◌, ◌⊎◌, ⊎_elim, inl, inr, ap, arith}
-use Rattle.std.proofs.str.Laws.{order}
-use Rattle.pc_case.specs.declared.address.Address.{Address}
-use Rattle.pc_case.specs.declared.address.Address.TheVariants.{Page, Entry}
+use Rattle.std.proofs.{Common.{◌≡◌, ℕ, ◌<◌, ◌≤◌, ◌⊎◌, ⊎_elim, inl, inr, ap, arith}, str.Laws.{order}}
+use Rattle.pc_case.specs.declared.address.Address.{Address, TheVariants.{Page, Entry}}
 
 -- a statement holds, or it never does
 abbrev pub Decided : Type 0 → Type 0

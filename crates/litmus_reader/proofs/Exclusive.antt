@@ -3,13 +3,8 @@ use Rattle.std.proofs.Common.{◌≡◌, ◌≢◌, ℕ, List, refl, sym, ap, su
 use Rattle.pc_common.specs.Case.{Case}
 use Rattle.ll_grammar.proofs.Faults.{no_place}
 use Rattle.uspec_lexer.proofs.SpellsLaws.{spells-unique, spells-no_fault}
-use Rattle.litmus_reader.specs.Syntax.{IsTestOf, IsTest}
-use Rattle.litmus_reader.specs.Items.{case_of}
-use Rattle.litmus_reader.specs.Answer.{IsTextOf, CaseOf, IsCaseFault}
-use Rattle.litmus_reader.specs.declared.item.Item.{Item}
-use Rattle.litmus_reader.specs.declared.fault.CaseFault.{CaseFault}
-use Rattle.litmus_reader.specs.declared.fault.CaseFault.TheVariants.{Lexical, Syntax, Content, Memory}
-use Rattle.litmus_reader.proofs.OneReading.{one_test}
+use Rattle.litmus_reader.specs.{Syntax.{IsTestOf, IsTest}, Items.{case_of}, Answer.{IsTextOf, CaseOf, IsCaseFault}, declared.item.Item.{Item}}
+use Rattle.litmus_reader.{specs.declared.fault.CaseFault.{CaseFault, TheVariants.{Lexical, Syntax, Content, Memory}}, proofs.OneReading.{one_test}}
 
 -- a text is a test of one list of items at most
 pub one_reading : (bytes : List ℕ) (xs ys : List Item) → IsTextOf bytes xs → IsTextOf bytes ys → xs ≡ ys

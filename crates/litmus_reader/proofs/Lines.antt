@@ -1,32 +1,20 @@
 -- What stands in the lines of a test, place by place.
 use Rattle.std.proofs.Common.{◌≡◌, ◌≢◌, ℕ, ◌+◌, ◌<◌, ◌≤◌, List, [], ◌∷◌, ◌++◌, Some, map, codes, length, slice_get, refl, sym, ap, subst, ◌∙◌, arith, append_assoc}
 use Rattle.std.proofs.lemmas.List.{length-append, length-map}
-use Rattle.pc_case.specs.declared.address.Page.{Page}
-use Rattle.pc_case.specs.declared.address.Address.{Address}
-use Rattle.pc_case.specs.declared.address.Address.TheVariants.{Page as PageAddress, Entry as EntryAddress}
+use Rattle.pc_case.specs.declared.address.{Page.{Page}, Address.{Address, TheVariants.{Page as PageAddress, Entry as EntryAddress}}}
 use Rattle.pc_common.specs.declared.place.Place.{Place}
-use Rattle.uspec_lexer.specs.Token.{Token}
-use Rattle.uspec_lexer.specs.Expected.{Expected, a_word, a_number, a_symbol}
+use Rattle.uspec_lexer.{specs.{Token.{Token}, Expected.{Expected, a_word, a_number, a_symbol}}, proofs.Words.{terminal-of_token}}
 use Rattle.litmus_reader.specs.Expected.{word_at}
 use Rattle.litmus_reader.specs.Syntax.{spelled_page, spelled_address, spelled_entry, spelled_value, spelled_stated, spelled_touch, spelled_action, spelled_access, spelled_head, spelled_statement, spelled_item, action_word, open_, close_, dot}
 use Rattle.litmus_reader.specs.Terminals.{word_terminal, symbol_terminal, vocabulary, terminal_of}
 use Rattle.litmus_reader.specs.Reading.{StandsAt, IsPageAt, IsNameAt, BeginsAt, NamesAt, SomeAt, IsReadAt, IsValueLineAt, terminal_of_action, spelled_microop, spelled_relationship}
-use Rattle.litmus_reader.specs.declared.item.Numeral.{Numeral}
-use Rattle.litmus_reader.specs.declared.item.ValueText.{ValueText}
-use Rattle.litmus_reader.specs.declared.item.ValueText.TheVariants.{Number as number_text, Entry as entry_text}
-use Rattle.litmus_reader.specs.declared.item.Touch.{Touch}
-use Rattle.litmus_reader.specs.declared.item.Action.{Action}
-use Rattle.litmus_reader.specs.declared.item.Action.TheVariants.{Read as read, Write as write, Fence as fence}
-use Rattle.litmus_reader.specs.declared.item.Microop.{Microop as MicroopLine}
-use Rattle.litmus_reader.specs.declared.item.Relationship.{Relationship as RelationshipLine}
-use Rattle.litmus_reader.specs.declared.item.ValueLine.{ValueLine}
-use Rattle.litmus_reader.specs.declared.item.Item.{Item}
+use Rattle.litmus_reader.specs.declared.item.{Numeral.{Numeral}, ValueText.{ValueText, TheVariants.{Number as number_text, Entry as entry_text}}, Touch.{Touch}}
+use Rattle.litmus_reader.specs.declared.item.{Action.{Action, TheVariants.{Read as read, Write as write, Fence as fence}}, Microop.{Microop as MicroopLine}}
+use Rattle.litmus_reader.specs.declared.item.{Relationship.{Relationship as RelationshipLine}, ValueLine.{ValueLine}, Item.{Item}}
 use Rattle.litmus_reader.specs.declared.item.Item.TheVariants.{Microop as microop, Relationship as relationship, Initial as initial, Final as final, Permitted as permitted, Forbidden as forbidden}
 use Rattle.litmus_reader.specs.declared.terminal.Terminal.{Terminal}
 use Rattle.litmus_reader.specs.declared.terminal.Terminal.TheVariants.{Microop, Relationship, Init, Final, Permitted, Forbidden, Pa, Entry, Data, Maps, Number, Open}
-use Rattle.uspec_lexer.proofs.Words.{terminal-of_token}
-use Rattle.litmus_reader.proofs.Bridge.{terminal}
-use Rattle.litmus_reader.proofs.Places.{stands, place-stands, stands-first, begins-behind, begins-front, begins-within}
+use Rattle.litmus_reader.proofs.{Bridge.{terminal}, Places.{stands, place-stands, stands-first, begins-behind, begins-front, begins-within}}
 
 -- the terminal of the token that stands there
 terminal-stands : {ts : List Token} {k : ℕ} {e : Expected} (t : Token) → slice_get ts k ≡ Some t → StandsAt ts k e → terminal_of t ≡ terminal e

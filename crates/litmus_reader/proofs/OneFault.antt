@@ -1,17 +1,10 @@
 -- A text has one first fault at most.
 use Rattle.std.proofs.Common.{◌≡◌, ◌≢◌, ℕ, List, refl, sym, ap, subst, ◌∙◌}
 use Rattle.pc_common.specs.declared.place.Place.{Place}
-use Rattle.ll_grammar.specs.FirstFault.{IsFaultAt}
-use Rattle.ll_grammar.proofs.Faults.{one_place, no_place}
-use Rattle.uspec_lexer.specs.Token.{Token, token_place}
-use Rattle.uspec_lexer.proofs.SpellsLaws.{spells-unique, spells-no_fault, lexical_fault-unique}
-use Rattle.litmus_reader.specs.Syntax.{IsTestOf, IsTest}
-use Rattle.litmus_reader.specs.Content.{IsContentFault}
-use Rattle.litmus_reader.specs.Answer.{IsTextOf, IsSyntaxFault, IsCaseFault}
-use Rattle.litmus_reader.specs.declared.item.Item.{Item}
-use Rattle.litmus_reader.specs.declared.fault.CaseFault.{CaseFault}
-use Rattle.litmus_reader.specs.declared.fault.CaseFault.TheVariants.{Lexical, Syntax, Content, Memory}
-use Rattle.litmus_reader.proofs.Exclusive.{one_reading}
+use Rattle.ll_grammar.{specs.FirstFault.{IsFaultAt}, proofs.Faults.{one_place, no_place}}
+use Rattle.uspec_lexer.{specs.Token.{Token, token_place}, proofs.SpellsLaws.{spells-unique, spells-no_fault, lexical_fault-unique}}
+use Rattle.litmus_reader.specs.{Syntax.{IsTestOf, IsTest}, Content.{IsContentFault}, Answer.{IsTextOf, IsSyntaxFault, IsCaseFault}, declared.item.Item.{Item}}
+use Rattle.litmus_reader.{specs.declared.fault.CaseFault.{CaseFault, TheVariants.{Lexical, Syntax, Content, Memory}}, proofs.Exclusive.{one_reading}}
 use Rattle.litmus_reader.proofs.OneContentFault.{one_content_fault}
 
 one_syntax_fault : (bytes : List ℕ) (p q : Place) → IsSyntaxFault bytes p → IsSyntaxFault bytes q → p ≡ q

@@ -2,25 +2,15 @@
 use Rattle.std.proofs.Common.{◌≡◌, ℕ, ◌+◌, List, [], ◌∷◌, ◌++◌, Some, codes, length, map, drop, slice_get, refl, sym, ap, subst, ◌∙◌, arith}
 use Rattle.std.proofs.lemmas.List.{length-append}
 use Rattle.pc_common.specs.declared.place.Place.{Place}
-use Rattle.pc_case.specs.declared.address.Address.{Address}
-use Rattle.pc_case.specs.declared.address.Address.TheVariants.{Page as PageAddress, Entry as EntryAddress}
-use Rattle.uspec_lexer.specs.Token.{Token, name, symbol}
-use Rattle.uspec_lexer.specs.Expected.{Expected, a_word, a_number, a_symbol, Spell}
+use Rattle.pc_case.specs.declared.address.Address.{Address, TheVariants.{Page as PageAddress, Entry as EntryAddress}}
+use Rattle.uspec_lexer.{specs.{Token.{Token, name, symbol}, Expected.{Expected, a_word, a_number, a_symbol, Spell}}, proofs.Spelling.{spell-length}}
 use Rattle.litmus_reader.specs.Expected.{word_at, number_at}
 use Rattle.litmus_reader.specs.Syntax.{spelled_address, spelled_entry, spelled_value, spelled_stated, spelled_touch, spelled_action, spelled_head, spelled_statement, spelled_item, spelled_items, IsTestOf}
-use Rattle.litmus_reader.specs.Reading.{StandsAt, IsNameAt, BeginsAt, NamesAt, terminal_of_action}
-use Rattle.litmus_reader.specs.declared.item.Numeral.{Numeral}
-use Rattle.litmus_reader.specs.declared.item.ValueText.{ValueText}
-use Rattle.litmus_reader.specs.declared.item.ValueText.TheVariants.{Number as number_text, Entry as entry_text}
-use Rattle.litmus_reader.specs.declared.item.Touch.{Touch}
-use Rattle.litmus_reader.specs.declared.item.ValueLine.{ValueLine}
-use Rattle.litmus_reader.specs.declared.item.Head.{Head}
-use Rattle.litmus_reader.specs.declared.item.Action.{Action}
-use Rattle.litmus_reader.specs.declared.item.Action.TheVariants.{Read as read, Write as write, Fence as fence}
-use Rattle.litmus_reader.specs.declared.item.Microop.{Microop as MicroopLine}
-use Rattle.litmus_reader.specs.declared.item.Item.{Item}
+use Rattle.litmus_reader.specs.{Reading.{StandsAt, IsNameAt, BeginsAt, NamesAt, terminal_of_action}, declared.item.{Numeral.{Numeral}, ValueText.{ValueText}}}
+use Rattle.litmus_reader.specs.declared.item.{ValueText.TheVariants.{Number as number_text, Entry as entry_text}, Touch.{Touch}, ValueLine.{ValueLine}}
+use Rattle.litmus_reader.specs.declared.item.{Head.{Head}, Action.{Action, TheVariants.{Read as read, Write as write, Fence as fence}}}
+use Rattle.litmus_reader.specs.declared.item.{Microop.{Microop as MicroopLine}, Item.{Item}}
 use Rattle.litmus_reader.specs.declared.item.Item.TheVariants.{Microop as microop, Relationship as relationship, Initial as initial, Final as final, Permitted as permitted, Forbidden as forbidden}
-use Rattle.uspec_lexer.proofs.Spelling.{spell-length}
 use Rattle.litmus_reader.proofs.Places.{stands, stands-first, spell-behind, begins-behind, names-none, names-more}
 use Rattle.litmus_reader.proofs.Lines.{terminal_of_address, address-terminal, address-seen, terminal_of_value, value-terminal, value-seen, terminal_of_stated, stated-terminal, stated-seen, touch-pa, touch-value, statement-pa, statement-value, access-terminal, access-names, access-action, access-first, microop-head, microop-access, item_word, item-terminal}
 use Rattle.litmus_reader.proofs.Walk.{item-some}

@@ -1,15 +1,10 @@
 -- What stands at the places of the tokens.
 use Rattle.std.proofs.Common.{◌≡◌, ℕ, zero, suc, ◌+◌, ◌<◌, ◌≤◌, List, [], ◌∷◌, ◌++◌, Some, map, length, slice_get, drop, refl, sym, ap, subst, ◌∙◌, arith, append_assoc}
-use Rattle.std.proofs.Math.Nat.{suc-add}
-use Rattle.std.proofs.Math.Seq.{drop-append_seam}
-use Rattle.std.proofs.lemmas.List.{length-drop, length-append}
+use Rattle.std.proofs.{Math.{Nat.{suc-add}, Seq.{drop-append_seam}}, lemmas.List.{length-drop, length-append}}
 use Rattle.pc_common.specs.declared.place.Place.{Place}
-use Rattle.uspec_lexer.specs.Token.{Token, name}
-use Rattle.uspec_lexer.specs.Expected.{Expected, a_word, a_number, a_symbol, Spell}
-use Rattle.litmus_reader.specs.Expected.{word_at, number_at}
-use Rattle.litmus_reader.specs.declared.item.Numeral.{Numeral}
-use Rattle.litmus_reader.specs.Reading.{StandsAt, IsNameAt, BeginsAt, NamesAt}
+use Rattle.uspec_lexer.specs.{Token.{Token, name}, Expected.{Expected, a_word, a_number, a_symbol, Spell}}
 use Rattle.uspec_lexer.proofs.Spelling.{spell-part, spell-length, spell-get}
+use Rattle.litmus_reader.specs.{Expected.{word_at, number_at}, declared.item.Numeral.{Numeral}, Reading.{StandsAt, IsNameAt, BeginsAt, NamesAt}}
 
 slice_get-drop : {A : Type 0} (k : ℕ) (xs : List A) (j : ℕ) → slice_get (drop k xs) j ≡ slice_get xs (k + j)
 slice_get-drop zero xs j = let e : j ≡ 0 + j = omega arith in ap (λ (i : ℕ). slice_get xs i) e

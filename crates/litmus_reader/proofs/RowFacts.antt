@@ -1,18 +1,11 @@
 -- The rows of the table of faults, one after the other, and over all earlier micro-ops.
 use Rattle.std.proofs.Common.{◌≡◌, ℕ, ◌+◌, ◌<◌, ◌≤◌, Bool, true, false, ◌==◌, ◌&&◌, List, Option, Some, None, length, get_or, refl, sym, ap, subst, ◌∙◌, inl, inr, arith, eq-eqb}
+use Rattle.std.proofs.lemmas.{Bool.{eqb-true}, Option.{slice_get-get_or}, List.Sums.{fails_before_first, passes_at_first, position_or_len_is}}
 use Rattle.std.specs.Prelude.{Contains}
-use Rattle.std.proofs.lemmas.Bool.{eqb-true}
-use Rattle.std.proofs.lemmas.Option.{slice_get-get_or}
-use Rattle.std.proofs.lemmas.List.Sums.{fails_before_first, passes_at_first, position_or_len_is}
-use borrow.Author.Count.{below_more}
-use Rattle.pc_common.specs.declared.place.Place.{Place}
-use Rattle.pc_common.specs.declared.fault.FaultKind.{FaultKind}
-use Rattle.litmus_reader.specs.Items.{is_named, place_in}
-use Rattle.litmus_reader.specs.Content.{Never, First, SomeEarlier}
-use Rattle.litmus_reader.specs.Rows.{Answers}
-use Rattle.litmus_reader.specs.declared.item.Head.{Head}
-use Rattle.litmus_reader.specs.declared.item.End.{End}
+use Rattle.pc_common.specs.declared.{place.Place.{Place}, fault.FaultKind.{FaultKind}}
+use Rattle.litmus_reader.specs.{Items.{is_named, place_in}, Content.{Never, First, SomeEarlier}, Rows.{Answers}, declared.item.{Head.{Head}, End.{End}}}
 use Rattle.litmus_reader.specs.declared.content_fault.ContentFault.{ContentFault}
+use borrow.Author.Count.{below_more}
 
 -- the second row's answer, where the first gives none
 pub first-none : (Row Others : FaultKind → Place → Type 0) → Never Row → (found : Option ContentFault) → Answers Others found → Answers (First Row Others) found

@@ -1,18 +1,11 @@
 -- The faults of the terminals are those of the tokens.
 use Rattle.std.proofs.Common.{◌≡◌, ℕ, ◌⊎◌, List, Option, map, refl}
-use Rattle.ll_grammar.specs.Rules.{Derives}
-use Rattle.ll_grammar.specs.FirstFault.{IsFaultAt, IsAnswer, IsSyntaxAnswer, fault_place}
-use Rattle.ll_grammar.specs.declared.fault.Fault.{Fault}
-use Rattle.ll_grammar.proofs.Existence.{decided_by, kept_by}
-use Rattle.ll_grammar.proofs.Shallow.{syntax_answer, text_or_fault}
-use Rattle.uspec_lexer.specs.Token.{Token}
-use Rattle.uspec_lexer.specs.Vocabulary.{some_token}
-use Rattle.litmus_reader.specs.Syntax.{IsTest}
-use Rattle.litmus_reader.specs.Terminals.{spelling, sort_of, terminal_of, word_terminal, symbol_terminal}
-use Rattle.litmus_reader.specs.Phrases.{rules, follow, terminals, listed, rules_predictable, rules_texts}
-use Rattle.litmus_reader.specs.declared.terminal.Terminal.{Terminal}
-use Rattle.litmus_reader.specs.declared.phrase.Phrase.TheVariants.{Test}
-use Rattle.litmus_reader.proofs.Bridge.{test_of_derives, derives_of_test}
+use Rattle.ll_grammar.specs.{Rules.{Derives}, FirstFault.{IsFaultAt, IsAnswer, IsSyntaxAnswer, fault_place}, declared.fault.Fault.{Fault}}
+use Rattle.ll_grammar.proofs.{Existence.{decided_by, kept_by}, Shallow.{syntax_answer, text_or_fault}}
+use Rattle.uspec_lexer.specs.{Token.{Token}, Vocabulary.{some_token}}
+use Rattle.litmus_reader.specs.{Syntax.{IsTest}, Terminals.{spelling, sort_of, terminal_of, word_terminal, symbol_terminal}}
+use Rattle.litmus_reader.specs.{Phrases.{rules, follow, terminals, listed, rules_predictable, rules_texts}, declared.terminal.Terminal.{Terminal}}
+use Rattle.litmus_reader.{specs.declared.phrase.Phrase.TheVariants.{Test}, proofs.Bridge.{test_of_derives, derives_of_test}}
 
 -- some token of each terminal
 abbrev some : Terminal → Token

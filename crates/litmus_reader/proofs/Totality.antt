@@ -1,15 +1,9 @@
 -- Each text has a case or a first fault that is no want of memory.
 use Rattle.std.proofs.Common.{◌≢◌, ℕ, ◌⊎◌, ⊎_elim, inl, inr, List, refl}
 use Rattle.pc_common.specs.Case.{Case}
-use Rattle.uspec_lexer.specs.Token.{Token, token_place}
-use Rattle.uspec_lexer.specs.Spells.{Spells}
-use Rattle.uspec_lexer.proofs.Totality.{spells-or_fault}
-use Rattle.litmus_reader.specs.Items.{case_of}
-use Rattle.litmus_reader.specs.Answer.{IsTextOf, CaseOf, IsCaseFault}
-use Rattle.litmus_reader.specs.declared.item.Item.{Item}
-use Rattle.litmus_reader.specs.declared.fault.CaseFault.{CaseFault}
-use Rattle.litmus_reader.specs.declared.fault.CaseFault.TheVariants.{Lexical, Syntax, Content, Memory}
-use Rattle.litmus_reader.proofs.SyntaxFaults.{test_or_fault}
+use Rattle.uspec_lexer.{specs.{Token.{Token, token_place}, Spells.{Spells}}, proofs.Totality.{spells-or_fault}}
+use Rattle.litmus_reader.specs.{Items.{case_of}, Answer.{IsTextOf, CaseOf, IsCaseFault}, declared.{item.Item.{Item}, fault.CaseFault.{CaseFault}}}
+use Rattle.litmus_reader.{specs.declared.fault.CaseFault.TheVariants.{Lexical, Syntax, Content, Memory}, proofs.SyntaxFaults.{test_or_fault}}
 use Rattle.litmus_reader.proofs.ContentTotality.{clean_or_fault}
 
 abbrev IsSettled : List ℕ → Type 0

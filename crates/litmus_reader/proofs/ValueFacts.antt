@@ -1,21 +1,11 @@
 -- Values by address.
 use Rattle.std.proofs.Common.{◌≡◌, ◌≢◌, zero, suc, Bool, true, false, ◌==◌, ◌&&◌, List, [], ◌∷◌, ◌++◌, Option, Some, None, map, cond, refl, sym, ap, ◌∙◌, ◌⊎◌, inl, inr, arith, eq-eqb}
-use Rattle.std.specs.Prelude.{Contains}
-use Rattle.std.specs.Map.{lookup}
-use Rattle.std.proofs.lemmas.Bool.{eqb-true}
-use Rattle.std.proofs.lemmas.List.{map-append}
-use Rattle.indexmap.specs.IndexMap.{IndexMap, get, insert_entry}
-use Rattle.indexmap.proofs.CallerLemmas.{insert_entry-new}
-use Rattle.pc_common.specs.declared.fault.FaultKind.{FaultKind}
-use Rattle.pc_case.specs.declared.address.Address.{Address}
-use Rattle.pc_case.specs.declared.address.Address.TheVariants.{Page, Entry}
-use Rattle.pc_common.specs.declared.value.Value.{Value}
-use Rattle.pc_case.specs.declared.stated.Stated.{Stated}
+use Rattle.std.{proofs.lemmas.{Bool.{eqb-true}, List.{map-append}}, specs.{Prelude.{Contains}, Map.{lookup}}}
+use Rattle.indexmap.{specs.IndexMap.{IndexMap, get, insert_entry}, proofs.CallerLemmas.{insert_entry-new}}
+use Rattle.pc_common.specs.declared.{fault.FaultKind.{FaultKind}, value.Value.{Value}}
+use Rattle.pc_case.specs.declared.{address.Address.{Address, TheVariants.{Page, Entry}}, stated.Stated.{Stated}}
 use Rattle.pc_case.specs.contracts.address.AddressPartialEq.TheImpl.{eq-value as address_eq}
-use Rattle.litmus_reader.specs.Values.{stated_entry, IsUnstated, IsValueAt}
-use Rattle.litmus_reader.specs.Builder.{stated_of}
-use Rattle.litmus_reader.specs.Items.{value_of}
-use Rattle.litmus_reader.specs.Content.{Never, AgainStated}
+use Rattle.litmus_reader.specs.{Values.{stated_entry, IsUnstated, IsValueAt}, Builder.{stated_of}, Items.{value_of}, Content.{Never, AgainStated}}
 use Rattle.litmus_reader.specs.declared.item.ValueLine.{ValueLine}
 
 pub contains-cons : {X : Type 0} (x : X) (xs : List X) (y : X) → Contains xs y → Contains (x ∷ xs) y

@@ -1,23 +1,13 @@
 -- The walk over the lines of a test.
 use Rattle.std.proofs.Common.{◌≡◌, ℕ, ◌+◌, ◌<◌, ◌≤◌, List, [], ◌∷◌, ◌++◌, length, drop, refl, sym, ap, subst, ◌∙◌, arith, append_assoc}
 use Rattle.std.proofs.lemmas.List.{append-nil, length-append, length-drop, drop_all}
-use Rattle.pc_common.specs.declared.place.Place.{Place}
-use Rattle.pc_common.specs.declared.fault.FaultKind.{FaultKind}
-use Rattle.uspec_lexer.specs.Token.{Token}
-use Rattle.uspec_lexer.specs.Expected.{Expected, Spell}
-use Rattle.litmus_reader.specs.Syntax.{spelled_item, spelled_items, IsTestOf, IsTest}
-use Rattle.litmus_reader.specs.Content.{Never, IsFaultOf, IsClean, IsContentFault}
-use Rattle.litmus_reader.specs.Answer.{IsContentFaultIn}
-use Rattle.litmus_reader.specs.Builder.{HasLines, IsLineFault}
-use Rattle.litmus_reader.specs.Reading.{BeginsAt, SomeAt, IsReadAt}
-use Rattle.litmus_reader.specs.declared.fault.CaseFault.{CaseFault}
-use Rattle.litmus_reader.specs.declared.fault.CaseFault.TheVariants.{Lexical, Syntax, Content, Memory}
-use Rattle.litmus_reader.specs.declared.item.Item.{Item}
+use Rattle.pc_common.specs.declared.{place.Place.{Place}, fault.FaultKind.{FaultKind}}
+use Rattle.uspec_lexer.{specs.{Token.{Token}, Expected.{Expected, Spell}}, proofs.Spelling.{spell-length}}
+use Rattle.litmus_reader.specs.{Syntax.{spelled_item, spelled_items, IsTestOf, IsTest}, Content.{Never, IsFaultOf, IsClean, IsContentFault}}
+use Rattle.litmus_reader.specs.{Answer.{IsContentFaultIn}, Builder.{HasLines, IsLineFault}, Reading.{BeginsAt, SomeAt, IsReadAt}}
+use Rattle.litmus_reader.specs.declared.{fault.CaseFault.{CaseFault, TheVariants.{Lexical, Syntax, Content, Memory}}, item.Item.{Item}}
 use Rattle.litmus_reader.specs.declared.item.Item.TheVariants.{Microop as microop, Relationship as relationship, Initial as initial, Final as final, Permitted as permitted, Forbidden as forbidden}
-use Rattle.litmus_reader.specs.declared.builder.CaseBuilder.{CaseBuilder}
-use Rattle.uspec_lexer.proofs.Spelling.{spell-length}
-use Rattle.litmus_reader.proofs.Places.{spell-behind, begins-front}
-use Rattle.litmus_reader.proofs.Lines.{item-within}
+use Rattle.litmus_reader.{specs.declared.builder.CaseBuilder.{CaseBuilder}, proofs.{Places.{spell-behind, begins-front}, Lines.{item-within}}}
 use Rattle.litmus_reader.proofs.CleanFacts.{clean-none, clean-push}
 
 -- the lines up to `at` are read and have no fault, and the builder holds them

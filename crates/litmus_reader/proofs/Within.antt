@@ -1,30 +1,16 @@
 -- A fault stands within the text.
 use Rattle.std.proofs.Common.{◌≡◌, ℕ, zero, suc, map, ◌+◌, ◌≤◌, List, [], ◌∷◌, ◌++◌, Option, Some, None, codes, length, drop, slice_get, refl, sym, ap, subst, ◌∙◌, inl, inr, arith}
-use Rattle.pc_common.specs.declared.place.Place.{Place}
-use Rattle.pc_common.specs.declared.fault.FaultKind.{FaultKind}
-use Rattle.uspec_lexer.specs.Token.{Token, place_or, token_place}
-use Rattle.uspec_lexer.specs.Spells.{Spells}
+use Rattle.pc_common.specs.declared.{place.Place.{Place}, fault.FaultKind.{FaultKind}}
+use Rattle.uspec_lexer.specs.{Token.{Token, place_or, token_place}, Spells.{Spells}, Expected.{Expected, a_word, Is, Spell}}
 use Rattle.uspec_lexer.proofs.Order.{spells-get, token-within}
-use Rattle.uspec_lexer.specs.Expected.{Expected, a_word, Is, Spell}
 use Rattle.litmus_reader.specs.Expected.{word_at, number_at}
 use Rattle.litmus_reader.specs.Syntax.{spelled_page, spelled_address, spelled_entry, spelled_value, spelled_stated, spelled_touch, action_word, spelled_action, spelled_access, spelled_head, spelled_statement, spelled_item, spelled_items, open_, close_, dot, IsTestOf}
-use Rattle.litmus_reader.specs.Content.{First, OverMark, MarkFault, ActionFault, IsFaultOf}
-use Rattle.litmus_reader.specs.Answer.{IsCaseFault}
-use Rattle.litmus_reader.specs.Laws.{IsWithin}
-use Rattle.litmus_reader.specs.Reading.{BeginsAt}
-use Rattle.litmus_reader.specs.declared.item.Numeral.{Numeral}
-use Rattle.litmus_reader.specs.declared.item.ValueText.{ValueText}
-use Rattle.litmus_reader.specs.declared.item.ValueText.TheVariants.{Number, Entry}
-use Rattle.litmus_reader.specs.declared.item.Touch.{Touch}
-use Rattle.litmus_reader.specs.declared.item.Action.{Action}
-use Rattle.litmus_reader.specs.declared.item.Action.TheVariants.{Read as reads, Write as writes, Fence as fences}
-use Rattle.litmus_reader.specs.declared.item.Microop.{Microop}
-use Rattle.litmus_reader.specs.declared.item.ValueLine.{ValueLine}
+use Rattle.litmus_reader.specs.{Content.{First, OverMark, MarkFault, ActionFault, IsFaultOf}, Answer.{IsCaseFault}, Laws.{IsWithin}, Reading.{BeginsAt}}
+use Rattle.litmus_reader.specs.declared.item.{Numeral.{Numeral}, ValueText.{ValueText, TheVariants.{Number, Entry}}, Touch.{Touch}, Action.{Action}}
+use Rattle.litmus_reader.specs.declared.item.{Action.TheVariants.{Read as reads, Write as writes, Fence as fences}, Microop.{Microop}, ValueLine.{ValueLine}}
 use Rattle.litmus_reader.specs.declared.item.Item.{Item}
 use Rattle.litmus_reader.specs.declared.item.Item.TheVariants.{Microop as microop, Relationship as relationship, Initial as initial, Final as final, Permitted as permitted, Forbidden as forbidden}
-use Rattle.litmus_reader.specs.declared.fault.CaseFault.{CaseFault}
-use Rattle.litmus_reader.specs.declared.fault.CaseFault.TheVariants.{Lexical, Syntax, Content, Memory}
-use Rattle.litmus_reader.proofs.Places.{stands, spell-behind}
+use Rattle.litmus_reader.{specs.declared.fault.CaseFault.{CaseFault, TheVariants.{Lexical, Syntax, Content, Memory}}, proofs.Places.{stands, spell-behind}}
 
 -- one of these tokens stands at the place
 record HasPlace (es : List Expected) (at : Place) : Type 0 where

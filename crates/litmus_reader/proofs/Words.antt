@@ -1,7 +1,6 @@
 -- The terminals of tests by the kinds of their tokens.
 use Rattle.std.proofs.Common.{◌≡◌, ℕ, List, refl, arith}
-use Rattle.uspec_lexer.specs.Vocabulary.{find_terminal}
-use Rattle.uspec_lexer.proofs.Words.{IsSorted}
+use Rattle.uspec_lexer.{specs.Vocabulary.{find_terminal}, proofs.Words.{IsSorted}}
 use Rattle.litmus_reader.specs.Terminals.{spelling, word_terminals, symbols, word_terminal, symbol_terminal, vocabulary, sort_of}
 use Rattle.litmus_reader.specs.declared.terminal.Terminal.TheVariants.{Name, Other}
 

@@ -2,16 +2,10 @@
 -- before those of content.
 use Rattle.std.specs.Prelude.{◌≡◌, ℕ, ⊤, List}
 use Rattle.ll_grammar.specs.FirstFault.{IsFaultAt}
-use Rattle.pc_common.specs.Case.{Case}
-use Rattle.pc_common.specs.declared.place.Place.{Place}
-use Rattle.uspec_lexer.specs.Token.{Token, token_place}
-use Rattle.uspec_lexer.specs.Spells.{Spells, IsLexicalFault}
-use Rattle.litmus_reader.specs.Syntax.{IsTestOf, IsTest}
-use Rattle.litmus_reader.specs.Items.{case_of}
-use Rattle.litmus_reader.specs.Content.{IsClean, IsContentFault}
-use Rattle.litmus_reader.specs.declared.item.Item.{Item}
-use Rattle.litmus_reader.specs.declared.fault.CaseFault.{CaseFault}
-use Rattle.litmus_reader.specs.declared.fault.CaseFault.TheVariants.{Lexical, Syntax, Content, Memory}
+use Rattle.pc_common.specs.{Case.{Case}, declared.place.Place.{Place}}
+use Rattle.uspec_lexer.specs.{Token.{Token, token_place}, Spells.{Spells, IsLexicalFault}}
+use Rattle.litmus_reader.specs.{Syntax.{IsTestOf, IsTest}, Items.{case_of}, Content.{IsClean, IsContentFault}, declared.item.Item.{Item}}
+use Rattle.litmus_reader.specs.declared.fault.CaseFault.{CaseFault, TheVariants.{Lexical, Syntax, Content, Memory}}
 
 -- the bytes are a text of these items
 pub record IsTextOf (bytes : List ℕ) (items : List Item) : Type 0 where

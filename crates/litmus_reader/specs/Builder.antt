@@ -1,27 +1,14 @@
 -- What the builder of a case holds of the lines so far.
 use Rattle.std.specs.Prelude.{◌≡◌, ⊤, List, [], ◌∷◌, ◌++◌, Option, Some, None, map}
-use Rattle.pc_common.specs.declared.place.Place.{Place}
-use Rattle.pc_common.specs.declared.value.Value.{Value}
+use Rattle.pc_common.specs.declared.{place.Place.{Place}, value.Value.{Value}, fault.FaultKind.{FaultKind, TheVariants.{AgainInitial, AgainFinal}}}
 use Rattle.pc_common.specs.Case.{Expectation}
-use Rattle.pc_common.specs.declared.fault.FaultKind.{FaultKind}
-use Rattle.pc_common.specs.declared.fault.FaultKind.TheVariants.{AgainInitial, AgainFinal}
-use Rattle.pc_case.specs.Plain.{micro_op, dependency, expectation}
-use Rattle.pc_case.specs.declared.stated.Stated.{Stated}
+use Rattle.pc_case.specs.{Plain.{micro_op, dependency, expectation}, declared.stated.Stated.{Stated}}
 use Rattle.litmus_reader.specs.Items.{value_of, microops_in, heads_in, relationships_in, initial_in, final_in, expectations_in, op_of, dependency_of}
+use Rattle.litmus_reader.specs.{Syntax.{IsTestOf}, Content.{IsFaultOf, IsClean}, declared.fault.CaseFault.{CaseFault}}
+use Rattle.litmus_reader.specs.declared.{fault.CaseFault.TheVariants.{Lexical, Syntax, Content, Memory}, item.{Head.{Head}, Microop.{Microop}}}
+use Rattle.litmus_reader.specs.declared.{item.{Relationship.{Relationship}, ValueLine.{ValueLine}, Item.{Item}}, builder.When.{When}}
+use Rattle.litmus_reader.specs.declared.builder.{When.TheVariants.{Initial, Final}, StatedExpectation.{StatedExpectation}, CaseBuilder.{CaseBuilder}}
 use Rattle.uspec_lexer.specs.Token.{Token}
-use Rattle.litmus_reader.specs.Syntax.{IsTestOf}
-use Rattle.litmus_reader.specs.Content.{IsFaultOf, IsClean}
-use Rattle.litmus_reader.specs.declared.fault.CaseFault.{CaseFault}
-use Rattle.litmus_reader.specs.declared.fault.CaseFault.TheVariants.{Lexical, Syntax, Content, Memory}
-use Rattle.litmus_reader.specs.declared.item.Head.{Head}
-use Rattle.litmus_reader.specs.declared.item.Microop.{Microop}
-use Rattle.litmus_reader.specs.declared.item.Relationship.{Relationship}
-use Rattle.litmus_reader.specs.declared.item.ValueLine.{ValueLine}
-use Rattle.litmus_reader.specs.declared.item.Item.{Item}
-use Rattle.litmus_reader.specs.declared.builder.When.{When}
-use Rattle.litmus_reader.specs.declared.builder.When.TheVariants.{Initial, Final}
-use Rattle.litmus_reader.specs.declared.builder.StatedExpectation.{StatedExpectation}
-use Rattle.litmus_reader.specs.declared.builder.CaseBuilder.{CaseBuilder}
 
 abbrev pub stated_of : ValueLine → Stated
 stated_of v = record { pa = v.pa; value = value_of v.value }

@@ -1,22 +1,13 @@
 -- The content faults of a test. An item is judged by the items before it, row by row of its table, and the first row
 -- that applies names the fault; the first item with a fault names that of the test.
 use Rattle.std.specs.Prelude.{◌≡◌, ◌≢◌, ◌<◌, ◌≤◌, List, ◌∷◌, ◌++◌, length, ◌⊎◌, Contains}
-use Rattle.pc_common.specs.declared.place.Place.{Place}
-use Rattle.pc_common.specs.declared.fault.FaultKind.{FaultKind}
+use Rattle.pc_common.specs.declared.{place.Place.{Place}, fault.FaultKind.{FaultKind}}
 use Rattle.pc_common.specs.declared.fault.FaultKind.TheVariants.{CoreNumber, TooManyOps, SplitInstruction, DuplicateOp, OpUnknown, AgainInitial, AgainFinal, AgainExpectation, MarkValue}
-use Rattle.pc_common.specs.declared.value.Value.{Value}
-use Rattle.pc_common.specs.Case.{Expectation}
-use Rattle.litmus_reader.specs.Items.{value_of, heads_in, initial_in, final_in, expectations_in}
-use Rattle.pc_common.specs.declared.limits.TheConstants.{MAX_CORE, MAX_OPS}
-use Rattle.litmus_reader.specs.declared.item.Numeral.{Numeral}
-use Rattle.litmus_reader.specs.declared.item.ValueText.{ValueText}
-use Rattle.litmus_reader.specs.declared.item.ValueText.TheVariants.{Number, Entry}
-use Rattle.litmus_reader.specs.declared.item.Action.{Action}
-use Rattle.litmus_reader.specs.declared.item.Action.TheVariants.{Read as reads, Write as writes, Fence as fences}
-use Rattle.litmus_reader.specs.declared.item.Head.{Head}
-use Rattle.litmus_reader.specs.declared.item.End.{End}
-use Rattle.litmus_reader.specs.declared.item.ValueLine.{ValueLine}
-use Rattle.litmus_reader.specs.declared.item.Item.{Item}
+use Rattle.pc_common.specs.{declared.{value.Value.{Value}, limits.TheConstants.{MAX_CORE, MAX_OPS}}, Case.{Expectation}}
+use Rattle.litmus_reader.specs.{Items.{value_of, heads_in, initial_in, final_in, expectations_in}, declared.item.{Numeral.{Numeral}, ValueText.{ValueText}}}
+use Rattle.litmus_reader.specs.declared.item.{ValueText.TheVariants.{Number, Entry}, Action.{Action}}
+use Rattle.litmus_reader.specs.declared.item.{Action.TheVariants.{Read as reads, Write as writes, Fence as fences}, Head.{Head}, End.{End}}
+use Rattle.litmus_reader.specs.declared.item.{ValueLine.{ValueLine}, Item.{Item}}
 use Rattle.litmus_reader.specs.declared.item.Item.TheVariants.{Microop as microop, Relationship as relationship, Initial as initial, Final as final, Permitted as permitted, Forbidden as forbidden}
 
 -- a row gives no fault

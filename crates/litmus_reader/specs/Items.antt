@@ -1,23 +1,11 @@
 -- What the items of a test say, and the case that they make.
-use Rattle.std.specs.Prelude.{ℕ, Bool, ◌==◌, ◌&&◌, List, [], ◌∷◌, Option, Some, None, map}
-use Rattle.std.specs.List.{filter_map, position_or_len}
-use Rattle.pc_common.specs.declared.place.Place.{Place}
-use Rattle.pc_common.specs.declared.value.Value.{Value}
-use Rattle.pc_common.specs.declared.value.Value.TheVariants.{Number, Entry}
+use Rattle.std.specs.{Prelude.{ℕ, Bool, ◌==◌, ◌&&◌, List, [], ◌∷◌, Option, Some, None, map}, List.{filter_map, position_or_len}}
+use Rattle.pc_common.specs.declared.{place.Place.{Place}, value.Value.{Value, TheVariants.{Number, Entry}}}
 use Rattle.pc_common.specs.Case.{Address, Value as PlainValue, Touch as PlainTouch, Kind, read, write, fence, MicroOp, Dependency, Expectation, permitted, forbidden, unstated, Case}
-use Rattle.pc_case.specs.declared.op.Memop.{Memop}
-use Rattle.pc_case.specs.Plain.{address_at, plain_value, touch_at}
-use Rattle.litmus_reader.specs.declared.item.ValueText.{ValueText}
-use Rattle.litmus_reader.specs.declared.item.ValueText.TheVariants.{Number as number_text, Entry as entry_text}
-use Rattle.litmus_reader.specs.declared.item.Touch.{Touch}
-use Rattle.litmus_reader.specs.declared.item.Head.{Head}
-use Rattle.litmus_reader.specs.declared.item.Action.{Action}
-use Rattle.litmus_reader.specs.declared.item.Action.TheVariants.{Read as reads, Write as writes, Fence as fences}
-use Rattle.litmus_reader.specs.declared.item.Microop.{Microop}
-use Rattle.litmus_reader.specs.declared.item.End.{End}
-use Rattle.litmus_reader.specs.declared.item.Relationship.{Relationship}
-use Rattle.litmus_reader.specs.declared.item.ValueLine.{ValueLine}
-use Rattle.litmus_reader.specs.declared.item.Item.{Item}
+use Rattle.pc_case.specs.{declared.op.Memop.{Memop}, Plain.{address_at, plain_value, touch_at}}
+use Rattle.litmus_reader.specs.declared.item.{ValueText.{ValueText, TheVariants.{Number as number_text, Entry as entry_text}}, Touch.{Touch}, Head.{Head}}
+use Rattle.litmus_reader.specs.declared.item.{Action.{Action, TheVariants.{Read as reads, Write as writes, Fence as fences}}, Microop.{Microop}, End.{End}}
+use Rattle.litmus_reader.specs.declared.item.{Relationship.{Relationship}, ValueLine.{ValueLine}, Item.{Item}}
 use Rattle.litmus_reader.specs.declared.item.Item.TheVariants.{Microop as microop_line, Relationship as relationship_line, Initial as initial_line, Final as final_line, Permitted as permitted_line, Forbidden as forbidden_line}
 
 abbrev pub microop_of : Item → Option Microop

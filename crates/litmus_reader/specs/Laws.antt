@@ -1,9 +1,7 @@
 -- What holds of the bytes of every test. Want of memory counts as no fault.
 use Rattle.std.specs.Prelude.{◌≡◌, ◌≢◌, ◌⊎◌, ◌≤◌, ⊤, ℕ, List, length}
 use Rattle.pc_common.specs.Case.{Case}
-use Rattle.litmus_reader.specs.Answer.{CaseOf, IsCaseFault}
-use Rattle.litmus_reader.specs.declared.fault.CaseFault.{CaseFault}
-use Rattle.litmus_reader.specs.declared.fault.CaseFault.TheVariants.{Lexical, Syntax, Content, Memory}
+use Rattle.litmus_reader.specs.{Answer.{CaseOf, IsCaseFault}, declared.fault.CaseFault.{CaseFault, TheVariants.{Lexical, Syntax, Content, Memory}}}
 
 -- a fault of the bytes
 abbrev pub IsFault : List ℕ → CaseFault → Type 0

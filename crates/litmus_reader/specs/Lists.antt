@@ -1,9 +1,7 @@
 -- What the lists of a test file are as a case.
 use Rattle.std.specs.Prelude.{map, length}
 use Rattle.pc_common.specs.Case.{Case}
-use Rattle.pc_case.specs.Plain.{micro_op, dependency, stated_value, expectation}
-use Rattle.pc_case.specs.MicroOps.{AreMicroOps}
-use Rattle.pc_case.specs.Stated.{IsStatedOnce, AreWithin}
+use Rattle.pc_case.specs.{Plain.{micro_op, dependency, stated_value, expectation}, MicroOps.{AreMicroOps}, Stated.{IsStatedOnce, AreWithin}}
 use Rattle.litmus_reader.specs.declared.lists.CaseLists.{CaseLists}
 
 abbrev pub case_by : CaseLists → Case

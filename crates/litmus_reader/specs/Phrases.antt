@@ -1,12 +1,9 @@
 -- The grammar of tests as a table: what stands after a token where a phrase begins with it.
 use Rattle.std.specs.Prelude.{◌≡◌, ℕ, Bool, true, false, List, [], ◌∷◌, Option, Some, None, refl, if◌then◌else◌}
-use Rattle.ll_grammar.specs.Rules.{Rules}
-use Rattle.ll_grammar.specs.Predictable.{IsPredictable, HasTexts}
-use Rattle.ll_grammar.specs.LawsOfTables.{AreListed, predictable_by, texts_by, is_predictable_part, is_ranked_part}
-use Rattle.ll_grammar.specs.declared.grammar.Symbol.{Symbol}
+use Rattle.ll_grammar.specs.{Rules.{Rules}, Predictable.{IsPredictable, HasTexts}}
+use Rattle.ll_grammar.specs.{LawsOfTables.{AreListed, predictable_by, texts_by, is_predictable_part, is_ranked_part}, declared.grammar.Symbol.{Symbol}}
 use Rattle.ll_grammar.specs.declared.grammar.Symbol.TheVariants.{Terminal as a_terminal, Nonterminal as a_nonterminal}
-use Rattle.litmus_reader.specs.Terminals.{is_name}
-use Rattle.litmus_reader.specs.declared.terminal.Terminal.{Terminal}
+use Rattle.litmus_reader.specs.{Terminals.{is_name}, declared.terminal.Terminal.{Terminal}}
 use Rattle.litmus_reader.specs.declared.terminal.Terminal.TheVariants.{Litmus, Microop, Relationship, Init, Final, Permitted, Forbidden, Read, Write, Fence, Va, Pa, Data, Name, Number, Text, Open, Close, Dot, Arrow, Other, Litmus2, Entry, Maps}
 use Rattle.litmus_reader.specs.declared.phrase.Phrase.{Phrase}
 use Rattle.litmus_reader.specs.declared.phrase.Phrase.TheVariants.{Test, Items, Access, Types, AnyName, VirtualPage, Address, AddressInside, ReadValue, WriteValue, ValueInside, StatedValue}

@@ -1,23 +1,13 @@
 -- What is read at a place of the tokens.
 use Rattle.std.specs.Prelude.{◌≡◌, ℕ, ◌+◌, List, [], ◌∷◌, ◌++◌, Some, length, map, drop, slice_get}
-use Rattle.uspec_lexer.specs.Token.{Token, name}
+use Rattle.uspec_lexer.specs.{Token.{Token, name}, Expected.{Expected, a_word, a_number, a_symbol, Is, Spell}}
 use Rattle.pc_case.specs.declared.address.Page.{Page}
-use Rattle.uspec_lexer.specs.Expected.{Expected, a_word, a_number, a_symbol, Is, Spell}
-use Rattle.litmus_reader.specs.Expected.{number_at}
-use Rattle.litmus_reader.specs.Syntax.{spelled_item, spelled_access, spelled_action, spelled_entry, spelled_statement, close_}
-use Rattle.litmus_reader.specs.declared.terminal.Terminal.{Terminal}
-use Rattle.litmus_reader.specs.declared.terminal.Terminal.TheVariants.{Read as ReadWord, Write as WriteWord, Fence as FenceWord}
+use Rattle.litmus_reader.specs.{Expected.{number_at}, Syntax.{spelled_item, spelled_access, spelled_action, spelled_entry, spelled_statement, close_}}
+use Rattle.litmus_reader.specs.declared.terminal.Terminal.{Terminal, TheVariants.{Read as ReadWord, Write as WriteWord, Fence as FenceWord}}
+use Rattle.litmus_reader.specs.declared.item.{Numeral.{Numeral}, ValueText.{ValueText, TheVariants.{Entry}}, End.{End}, ValueLine.{ValueLine}}
+use Rattle.litmus_reader.specs.declared.item.{Relationship.{Relationship}, Item.TheVariants.{Microop as microop, Relationship as relationship}}
+use Rattle.litmus_reader.specs.declared.item.{Microop.{Microop}, Action.{Action, TheVariants.{Read, Write, Fence}}}
 use Rattle.pc_common.specs.declared.place.Place.{Place}
-use Rattle.litmus_reader.specs.declared.item.Numeral.{Numeral}
-use Rattle.litmus_reader.specs.declared.item.ValueText.{ValueText}
-use Rattle.litmus_reader.specs.declared.item.ValueText.TheVariants.{Entry}
-use Rattle.litmus_reader.specs.declared.item.End.{End}
-use Rattle.litmus_reader.specs.declared.item.ValueLine.{ValueLine}
-use Rattle.litmus_reader.specs.declared.item.Relationship.{Relationship}
-use Rattle.litmus_reader.specs.declared.item.Item.TheVariants.{Microop as microop, Relationship as relationship}
-use Rattle.litmus_reader.specs.declared.item.Microop.{Microop}
-use Rattle.litmus_reader.specs.declared.item.Action.{Action}
-use Rattle.litmus_reader.specs.declared.item.Action.TheVariants.{Read, Write, Fence}
 
 -- the token at k is what is expected
 pub record StandsAt (ts : List Token) (k : ℕ) (e : Expected) : Type 0 where

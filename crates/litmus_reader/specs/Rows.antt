@@ -1,12 +1,8 @@
 -- What the judges of single rows answer.
 use Rattle.std.specs.Prelude.{Option, Some, None}
-use Rattle.pc_common.specs.declared.place.Place.{Place}
-use Rattle.pc_common.specs.declared.fault.FaultKind.{FaultKind}
-use Rattle.uspec_lexer.specs.declared.fault.LexFault.{LexFault}
-use Rattle.uspec_lexer.specs.declared.fault.LexFault.TheVariants.{Lexical as lexical, Memory as lex_memory}
-use Rattle.litmus_reader.specs.Content.{Never}
-use Rattle.litmus_reader.specs.declared.content_fault.ContentFault.{ContentFault}
-use Rattle.litmus_reader.specs.declared.fault.CaseFault.{CaseFault}
+use Rattle.pc_common.specs.declared.{place.Place.{Place}, fault.FaultKind.{FaultKind}}
+use Rattle.uspec_lexer.specs.declared.fault.LexFault.{LexFault, TheVariants.{Lexical as lexical, Memory as lex_memory}}
+use Rattle.litmus_reader.specs.{Content.{Never}, declared.{content_fault.ContentFault.{ContentFault}, fault.CaseFault.{CaseFault}}}
 use Rattle.litmus_reader.specs.declared.fault.CaseFault.TheVariants.{Lexical, Memory}
 
 -- the fault by a row, or none where it gives none

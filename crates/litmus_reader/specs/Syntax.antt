@@ -1,24 +1,11 @@
 -- The grammar of tests, production by production: what is expected of the tokens, from the first to the last.
 -- Its words are names by their spelling, and none is reserved.
-use Rattle.std.specs.Prelude.{ℕ, ⊤, List, [], ◌∷◌, ◌++◌, codes, map}
-use Rattle.std.specs.List.{flat_map}
-use Rattle.pc_case.specs.declared.address.Page.{Page}
-use Rattle.pc_case.specs.declared.address.Address.{Address}
-use Rattle.pc_case.specs.declared.address.Address.TheVariants.{Page as PageAddress, Entry as EntryAddress}
-use Rattle.uspec_lexer.specs.Token.{Token}
-use Rattle.uspec_lexer.specs.Expected.{Expected, a_word, a_number, a_text, a_symbol, Spell}
-use Rattle.litmus_reader.specs.Expected.{word_at, number_at}
-use Rattle.litmus_reader.specs.declared.format.Format.{Format}
-use Rattle.litmus_reader.specs.declared.format.Format.TheVariants.{One, Two}
-use Rattle.litmus_reader.specs.declared.item.Numeral.{Numeral}
-use Rattle.litmus_reader.specs.declared.item.ValueText.{ValueText}
-use Rattle.litmus_reader.specs.declared.item.ValueText.TheVariants.{Number, Entry}
-use Rattle.litmus_reader.specs.declared.item.Touch.{Touch}
-use Rattle.litmus_reader.specs.declared.item.Head.{Head}
-use Rattle.litmus_reader.specs.declared.item.Action.{Action}
-use Rattle.litmus_reader.specs.declared.item.Action.TheVariants.{Read, Write, Fence}
-use Rattle.litmus_reader.specs.declared.item.ValueLine.{ValueLine}
-use Rattle.litmus_reader.specs.declared.item.Item.{Item}
+use Rattle.std.specs.{Prelude.{ℕ, ⊤, List, [], ◌∷◌, ◌++◌, codes, map}, List.{flat_map}}
+use Rattle.pc_case.specs.declared.address.{Page.{Page}, Address.{Address, TheVariants.{Page as PageAddress, Entry as EntryAddress}}}
+use Rattle.uspec_lexer.specs.{Token.{Token}, Expected.{Expected, a_word, a_number, a_text, a_symbol, Spell}}
+use Rattle.litmus_reader.specs.{Expected.{word_at, number_at}, declared.{format.Format.{Format, TheVariants.{One, Two}}, item.Numeral.{Numeral}}}
+use Rattle.litmus_reader.specs.declared.item.{ValueText.{ValueText, TheVariants.{Number, Entry}}, Touch.{Touch}, Head.{Head}, Action.{Action}}
+use Rattle.litmus_reader.specs.declared.item.{Action.TheVariants.{Read, Write, Fence}, ValueLine.{ValueLine}, Item.{Item}}
 use Rattle.litmus_reader.specs.declared.item.Item.TheVariants.{Microop as microop, Relationship as relationship, Initial as initial, Final as final, Permitted as permitted, Forbidden as forbidden}
 
 abbrev pub open_ : Expected

@@ -1,8 +1,7 @@
 -- The values that lines of one kind state, looked up by address.
 use Rattle.std.specs.Prelude.{◌≡◌, ◌≢◌, List, Option, Some, None, Contains}
 use Rattle.pc_common.specs.declared.value.Value.{Value}
-use Rattle.pc_case.specs.declared.address.Address.{Address}
-use Rattle.pc_case.specs.declared.stated.Stated.{Stated}
+use Rattle.pc_case.specs.declared.{address.Address.{Address}, stated.Stated.{Stated}}
 
 abbrev pub stated_entry : Address × Value → Stated
 stated_entry e = record { pa = e.0; value = e.1 }

@@ -1,11 +1,8 @@
 -- What is known of `Derives`: a meaning of each part that is closed under the rules is a meaning of all that it reads.
 use Rattle.std.proofs.Common.{◌≡◌, Bool, false, List, [], ◌∷◌, ◌++◌, Option, Some, IsTrue, MatchOption, refl, sym, ap, subst, ◌∙◌, append_assoc}
 use Rattle.std.proofs.lemmas.List.{append-nil}
-use Rattle.ll_grammar.specs.Rules.{Rules, Yields, Derives}
-use Rattle.ll_grammar.specs.Rules.Yields.{done, class as r_class, ends as r_ends, begins as r_begins}
-use Rattle.ll_grammar.specs.declared.grammar.Symbol.{Symbol}
-use Rattle.ll_grammar.specs.declared.grammar.Symbol.TheVariants.{Terminal as a_terminal, Nonterminal as a_nonterminal}
-use Rattle.ll_grammar.specs.LawsOfTables.{yields-append}
+use Rattle.ll_grammar.specs.Rules.{Rules, Yields, Derives, Yields.{done, class as r_class, ends as r_ends, begins as r_begins}}
+use Rattle.ll_grammar.specs.{declared.grammar.Symbol.{Symbol, TheVariants.{Terminal as a_terminal, Nonterminal as a_nonterminal}}, LawsOfTables.{yields-append}}
 
 -- the tokens, with their marks, are those of the symbols in a row, where `M` says what are those of a part
 pub data Each {C N : Type 0} (M : N → List C → List Bool → Type 0) : List (Symbol C N) → List C → List Bool → Type 0 where

@@ -1,16 +1,10 @@
 -- Tokens whose classes are told apart have an answer, by a run of the recogniser without a stack in memory.
 use Rattle.std.proofs.Common.{◌≡◌, ◌≢◌, ℕ, zero, suc, ◌+◌, ◌<◌, ◌⊎◌, inl, inr, Bool, true, false, List, [], ◌∷◌, ◌++◌, Option, Some, None, length, get_or, slice_get, unwrap_or, nat_eq, eq-eqb, eqb-true, refl, sym, ap, ◌∙◌, subst, arith}
 use Rattle.std.specs.List.{list_all}
-use Rattle.ll_grammar.specs.Rules.{Rules, Derives, is_nullable_symbol}
-use Rattle.ll_grammar.specs.FirstFault.{AreDecided, HasAnswer}
-use Rattle.ll_grammar.specs.Predictable.{IsPredictable, IsReady, HasTexts}
-use Rattle.ll_grammar.specs.Steps.{IsRead}
-use Rattle.ll_grammar.specs.LawsOfTables.{AreListed, all_at}
-use Rattle.ll_grammar.specs.declared.grammar.Symbol.{Symbol}
-use Rattle.ll_grammar.specs.declared.grammar.Symbol.TheVariants.{Terminal as a_terminal, Nonterminal as a_nonterminal}
-use Rattle.ll_grammar.specs.declared.grammar.Step.{Step}
-use Rattle.ll_grammar.specs.declared.grammar.Step.TheVariants.{Absent, Pushed, Deep}
-use Rattle.ll_grammar.specs.declared.fault.Fault.TheVariants.{Syntax, Depth}
+use Rattle.ll_grammar.specs.{Rules.{Rules, Derives, is_nullable_symbol}, FirstFault.{AreDecided, HasAnswer}, Predictable.{IsPredictable, IsReady, HasTexts}}
+use Rattle.ll_grammar.specs.{Steps.{IsRead}, LawsOfTables.{AreListed, all_at}, declared.grammar.Symbol.{Symbol}}
+use Rattle.ll_grammar.specs.declared.grammar.{Symbol.TheVariants.{Terminal as a_terminal, Nonterminal as a_nonterminal}, Step.{Step}}
+use Rattle.ll_grammar.specs.declared.{grammar.Step.TheVariants.{Absent, Pushed, Deep}, fault.Fault.TheVariants.{Syntax, Depth}}
 use Rattle.ll_grammar.proofs.Symbols.{read-nothing, read-class, read-other_class, read-no_part, read-end, read-begins, read-deep}
 use Rattle.ll_grammar.proofs.Progress.{IsReading, begun, passed, refused, deepened, ended, unended}
 

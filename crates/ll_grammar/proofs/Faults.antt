@@ -1,10 +1,8 @@
 -- The first fault of tokens is one, and it is the same for each statement of the same language.
 use Rattle.std.proofs.Common.{◌≡◌, ℕ, ◌+◌, ◌<◌, ◌≤◌, Bool, List, ◌++◌, Option, Some, None, Result, Ok, Err, IfOk, length, take, drop, refl, sym, ap, subst, ◌∙◌, append_assoc, arith}
 use Rattle.std.proofs.lemmas.List.{take-append-drop, take-take}
-use Rattle.ll_grammar.specs.Texts.{IsText, IsViable, IsDeepAt, NoneDeep}
-use Rattle.ll_grammar.specs.FirstFault.{IsFaultAt, IsAccepted, IsFirstTokenFault, IsAnswer}
-use Rattle.ll_grammar.specs.declared.fault.Fault.{Fault}
-use Rattle.ll_grammar.specs.declared.fault.Fault.TheVariants.{Syntax, Depth}
+use Rattle.ll_grammar.specs.{Texts.{IsText, IsViable, IsDeepAt, NoneDeep}, FirstFault.{IsFaultAt, IsAccepted, IsFirstTokenFault, IsAnswer}}
+use Rattle.ll_grammar.specs.declared.fault.Fault.{Fault, TheVariants.{Syntax, Depth}}
 
 -- the first j of the first k, and then the rest of these
 shorter : {C : Type 0} (cs : List C) (j k : ℕ) → j ≤ k → take j cs ++ drop j (take k cs) ≡ take k cs

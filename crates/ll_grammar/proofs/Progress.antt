@@ -1,20 +1,11 @@
 -- How far the recogniser has read, and what it answers there.
 use Rattle.std.proofs.Common.{◌≡◌, ℕ, zero, suc, ◌+◌, ◌<◌, Bool, true, false, List, [], ◌∷◌, ◌++◌, Some, length, take, get_or, reverse, ◌&&◌, replicate, slice_get, below_more, refl, sym, ap, subst, ◌∙◌, append_assoc, arith}
-use Rattle.std.proofs.lemmas.List.{append-nil, reverse-append, take_more, replicate_more}
-use Rattle.std.proofs.lemmas.List.Folds.{list_all-append}
-use Rattle.std.proofs.Math.Seq.{take-length}
-use Rattle.std.specs.Cmp.Derive.{both_true}
-use Rattle.std.specs.List.{list_all}
-use Rattle.ll_grammar.specs.Rules.{Rules, Yields, Derives, is_nullable_symbol}
-use Rattle.ll_grammar.specs.Rules.Yields.{done, class as r_class, ends as r_ends, begins as r_begins}
-use Rattle.ll_grammar.specs.Texts.{IsText, IsViable, IsDeepAt, NoneDeep}
-use Rattle.ll_grammar.specs.FirstFault.{IsAccepted, IsFirstTokenFault}
-use Rattle.ll_grammar.specs.Predictable.{IsReady, HasTexts}
-use Rattle.ll_grammar.specs.Steps.{IsRead}
-use Rattle.ll_grammar.specs.declared.grammar.Symbol.{Symbol}
-use Rattle.ll_grammar.specs.declared.grammar.Symbol.TheVariants.{Terminal as a_terminal, Nonterminal as a_nonterminal}
-use Rattle.ll_grammar.specs.declared.grammar.Step.TheVariants.{Absent, Pushed, Deep}
-use Rattle.ll_grammar.specs.declared.fault.Fault.TheVariants.{Syntax, Depth}
+use Rattle.std.proofs.{lemmas.List.{append-nil, reverse-append, take_more, replicate_more, Folds.{list_all-append}}, Math.Seq.{take-length}}
+use Rattle.std.specs.{Cmp.Derive.{both_true}, List.{list_all}}
+use Rattle.ll_grammar.specs.Rules.{Rules, Yields, Derives, is_nullable_symbol, Yields.{done, class as r_class, ends as r_ends, begins as r_begins}}
+use Rattle.ll_grammar.specs.{Texts.{IsText, IsViable, IsDeepAt, NoneDeep}, FirstFault.{IsAccepted, IsFirstTokenFault}, Predictable.{IsReady, HasTexts}}
+use Rattle.ll_grammar.specs.{Steps.{IsRead}, declared.grammar.Symbol.{Symbol, TheVariants.{Terminal as a_terminal, Nonterminal as a_nonterminal}}}
+use Rattle.ll_grammar.specs.declared.{grammar.Step.TheVariants.{Absent, Pushed, Deep}, fault.Fault.TheVariants.{Syntax, Depth}}
 use Rattle.ll_grammar.proofs.ViablePrefixes.{some_text}
 
 -- the tokens before i are read, none too deep, and the symbols read what may come after them

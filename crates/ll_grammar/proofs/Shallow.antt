@@ -1,15 +1,9 @@
 -- A grammar with no bound on depth, whose classes are those of tokens: its answers are syntax faults of the tokens.
 use Rattle.std.proofs.Common.{◌≡◌, ℕ, zero, suc, ◌+◌, ◌⊎◌, inl, inr, Bool, true, false, List, [], ◌∷◌, ◌++◌, Option, Some, None, map, take, slice_get, refl, sym, ap, subst, ◌∙◌, arith}
 use Rattle.std.proofs.lemmas.List.{map-append, take-map, length-map}
-use Rattle.ll_grammar.specs.Rules.{Rules, Yields, Derives}
-use Rattle.ll_grammar.specs.Rules.Yields.{done, class as r_class, ends as r_ends, begins as r_begins}
-use Rattle.ll_grammar.specs.Texts.{IsText, IsViable}
-use Rattle.ll_grammar.specs.Predictable.{IsPredictable, HasTexts}
-use Rattle.ll_grammar.specs.FirstFault.{IsAnswer, IsFaultAt, IsSyntaxAnswer, fault_place, AreDecided}
-use Rattle.ll_grammar.specs.declared.grammar.Symbol.{Symbol}
-use Rattle.ll_grammar.specs.declared.fault.Fault.{Fault}
-use Rattle.ll_grammar.specs.declared.fault.Fault.TheVariants.{Syntax, Depth}
-use Rattle.ll_grammar.proofs.Existence.{some_answer}
+use Rattle.ll_grammar.specs.{Rules.{Rules, Yields, Derives, Yields.{done, class as r_class, ends as r_ends, begins as r_begins}}, Texts.{IsText, IsViable}}
+use Rattle.ll_grammar.specs.{Predictable.{IsPredictable, HasTexts}, FirstFault.{IsAnswer, IsFaultAt, IsSyntaxAnswer, fault_place, AreDecided}}
+use Rattle.ll_grammar.{specs.declared.{grammar.Symbol.{Symbol}, fault.Fault.{Fault, TheVariants.{Syntax, Depth}}}, proofs.Existence.{some_answer}}
 
 never_deep : {C N : Type 0} {g : Rules C N} → ((n : N) (c : C) → g.deep n c ≡ false)
     → {symbols : List (Symbol C N)} {cs : List C} {marks : List Bool} → Yields g symbols cs marks

@@ -1,12 +1,8 @@
 -- One token against the stack in memory, whose top is the last symbol.
 use Rattle.std.proofs.Common.{◌≡◌, Bool, true, false, List, [], ◌∷◌, ◌++◌, Option, Some, None, reverse, refl, sym, ap, subst, ◌∙◌}
 use Rattle.std.proofs.lemmas.List.{reverse-append, reverse-reverse}
-use Rattle.ll_grammar.specs.Rules.{Rules}
-use Rattle.ll_grammar.specs.Predictable.{IsPredictable, IsReady, HasTexts}
-use Rattle.ll_grammar.specs.Steps.{IsStep, IsRead}
-use Rattle.ll_grammar.specs.declared.grammar.Symbol.{Symbol}
-use Rattle.ll_grammar.specs.declared.grammar.Symbol.TheVariants.{Terminal as a_terminal, Nonterminal as a_nonterminal}
-use Rattle.ll_grammar.specs.declared.grammar.Step.{Step}
+use Rattle.ll_grammar.specs.{Rules.{Rules}, Predictable.{IsPredictable, IsReady, HasTexts}, Steps.{IsStep, IsRead}, declared.grammar.Symbol.{Symbol}}
+use Rattle.ll_grammar.specs.declared.grammar.{Symbol.TheVariants.{Terminal as a_terminal, Nonterminal as a_nonterminal}, Step.{Step}}
 use Rattle.ll_grammar.specs.declared.grammar.Step.TheVariants.{Absent, Pushed, Deep}
 use Rattle.ll_grammar.proofs.Symbols.{read-nothing, read-class, read-other_class, read-no_part, read-end, read-begins, read-deep}
 

@@ -1,14 +1,9 @@
 -- One token against the symbols on the stack.
 use Rattle.std.proofs.Common.{◌≡◌, Bool, true, false, List, [], ◌∷◌, ◌++◌, Option, Some, None, IsTrue, IsSome, refl, sym, subst, ap, ◌∙◌, ◌⊎◌, inl, inr}
-use Rattle.ll_grammar.specs.Rules.{Rules, Yields}
-use Rattle.ll_grammar.specs.Rules.Yields.{done, class as r_class, ends as r_ends, begins as r_begins}
-use Rattle.ll_grammar.specs.Predictable.{MayFollow, IsFollowed, IsPredictable, IsReady, HasTexts}
-use Rattle.ll_grammar.specs.Steps.{IsRead}
-use Rattle.ll_grammar.specs.declared.grammar.Symbol.{Symbol}
-use Rattle.ll_grammar.specs.declared.grammar.Symbol.TheVariants.{Terminal as a_terminal, Nonterminal as a_nonterminal}
-use Rattle.ll_grammar.specs.declared.grammar.Step.{Step}
-use Rattle.ll_grammar.specs.declared.grammar.Step.TheVariants.{Absent, Pushed, Deep}
-use Rattle.ll_grammar.proofs.ViablePrefixes.{some_text}
+use Rattle.ll_grammar.specs.Rules.{Rules, Yields, Yields.{done, class as r_class, ends as r_ends, begins as r_begins}}
+use Rattle.ll_grammar.specs.{Predictable.{MayFollow, IsFollowed, IsPredictable, IsReady, HasTexts}, Steps.{IsRead}, declared.grammar.Symbol.{Symbol}}
+use Rattle.ll_grammar.specs.declared.grammar.{Symbol.TheVariants.{Terminal as a_terminal, Nonterminal as a_nonterminal}, Step.{Step}}
+use Rattle.ll_grammar.{specs.declared.grammar.Step.TheVariants.{Absent, Pushed, Deep}, proofs.ViablePrefixes.{some_text}}
 
 -- the class that the symbols read next may follow the part before them
 next_follows : {C N : Type 0} {g : Rules C N} {symbols : List (Symbol C N)} {cs : List C} {marks : List Bool}

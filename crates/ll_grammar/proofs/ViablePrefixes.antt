@@ -1,12 +1,8 @@
 -- What lists of symbols yield: whole texts, and viable prefixes, which begin one.
 use Rattle.std.proofs.Common.{◌≡◌, Bool, false, List, [], ◌∷◌, ◌++◌, subst}
-use Rattle.ll_grammar.specs.Rules.{Rules, Yields, Begins}
-use Rattle.ll_grammar.specs.Rules.Yields.{done, class as r_class, ends as r_ends, begins as r_begins}
-use Rattle.ll_grammar.specs.Rules.Begins.{nothing, class as b_class, ends as b_ends, begins as b_begins}
-use Rattle.ll_grammar.specs.Predictable.{HasTexts}
-use Rattle.ll_grammar.specs.LawsOfTables.{yields-append}
-use Rattle.ll_grammar.specs.declared.grammar.Symbol.{Symbol}
-use Rattle.ll_grammar.specs.declared.grammar.Symbol.TheVariants.{Terminal as a_terminal, Nonterminal as a_nonterminal}
+use Rattle.ll_grammar.specs.Rules.{Rules, Yields, Begins, Yields.{done, class as r_class, ends as r_ends, begins as r_begins}}
+use Rattle.ll_grammar.specs.{Rules.Begins.{nothing, class as b_class, ends as b_ends, begins as b_begins}, Predictable.{HasTexts}, LawsOfTables.{yields-append}}
+use Rattle.ll_grammar.specs.declared.grammar.Symbol.{Symbol, TheVariants.{Terminal as a_terminal, Nonterminal as a_nonterminal}}
 
 -- each list of symbols reads some text
 pub some_text : {C N : Type 0} (g : Rules C N) → HasTexts g → (symbols : List (Symbol C N))

@@ -1,8 +1,6 @@
 -- The first fault of a list of tokens, against any statement of what its texts are.
 use Rattle.std.specs.Prelude.{◌≡◌, ◌≢◌, ◌⊎◌, ◌+◌, ◌<◌, ◌≤◌, ℕ, Bool, List, Option, Some, None, length, take}
-use Rattle.ll_grammar.specs.Texts.{IsText, IsViable, IsDeepAt, NoneDeep}
-use Rattle.ll_grammar.specs.declared.fault.Fault.{Fault}
-use Rattle.ll_grammar.specs.declared.fault.Fault.TheVariants.{Syntax, Depth}
+use Rattle.ll_grammar.specs.{Texts.{IsText, IsViable, IsDeepAt, NoneDeep}, declared.fault.Fault.{Fault, TheVariants.{Syntax, Depth}}}
 
 -- Some text begins with the tokens before k, and none with those through k.
 -- The end of the tokens counts as one more token.

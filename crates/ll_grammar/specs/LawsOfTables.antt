@@ -1,13 +1,9 @@
 -- The two laws of a grammar by computation: the LL(1) condition over a list of all classes, and that each part has
 -- a text by a rank of the parts. They stand here, and not among the proofs, since an impl gives them as its laws.
 use Rattle.std.proofs.Common.{◌≡◌, ℕ, zero, suc, ◌+◌, ◌<◌, Bool, true, false, not, ◌&&◌, ◌||◌, List, [], ◌∷◌, Option, Some, None, IsTrue, is_some, slice_get, ◌++◌, append_assoc, subst, sym, refl, nat_lt, arith}
-use Rattle.std.proofs.lemmas.Bool.{ltb-true}
-use Rattle.std.proofs.lemmas.List.{append-nil}
-use Rattle.std.specs.List.{list_all}
-use Rattle.ll_grammar.specs.Rules.{Rules, Yields}
-use Rattle.ll_grammar.specs.Rules.Yields.{done, class as r_class, ends as r_ends, begins as r_begins}
-use Rattle.ll_grammar.specs.Predictable.{MayFollow, IsFollowed, IsPredictable, HasTexts}
-use Rattle.ll_grammar.specs.declared.grammar.Symbol.{Symbol}
+use Rattle.std.{proofs.lemmas.{Bool.{ltb-true}, List.{append-nil}}, specs.List.{list_all}}
+use Rattle.ll_grammar.specs.Rules.{Rules, Yields, Yields.{done, class as r_class, ends as r_ends, begins as r_begins}}
+use Rattle.ll_grammar.specs.{Predictable.{MayFollow, IsFollowed, IsPredictable, HasTexts}, declared.grammar.Symbol.{Symbol}}
 use Rattle.ll_grammar.specs.declared.grammar.Symbol.TheVariants.{Terminal as a_terminal, Nonterminal as a_nonterminal}
 
 -- two lists of symbols, one after the other, read their texts one after the other

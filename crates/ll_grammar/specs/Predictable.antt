@@ -1,8 +1,6 @@
 -- The condition under which one token in view decides: LL(1).
 use Rattle.std.specs.Prelude.{◌≡◌, Bool, List, [], ◌∷◌, Some, None, IsTrue, IsSome}
-use Rattle.ll_grammar.specs.Rules.{Rules, Yields}
-use Rattle.ll_grammar.specs.declared.grammar.Symbol.{Symbol}
-use Rattle.ll_grammar.specs.declared.grammar.Symbol.TheVariants.{Terminal as a_terminal, Nonterminal as a_nonterminal}
+use Rattle.ll_grammar.specs.{Rules.{Rules, Yields}, declared.grammar.Symbol.{Symbol, TheVariants.{Terminal as a_terminal, Nonterminal as a_nonterminal}}}
 
 -- Whatever class the symbols can begin with may follow the part `m`; where they can be without tokens, `AtEnd` holds
 -- too.

@@ -1,7 +1,6 @@
 -- A context-free grammar by what one token in view decides, and what it reads.
 use Rattle.std.specs.Prelude.{◌≡◌, Bool, false, List, [], ◌∷◌, ◌++◌, Option, Some, IsTrue}
-use Rattle.ll_grammar.specs.declared.grammar.Symbol.{Symbol}
-use Rattle.ll_grammar.specs.declared.grammar.Symbol.TheVariants.{Terminal as a_terminal, Nonterminal as a_nonterminal}
+use Rattle.ll_grammar.specs.declared.grammar.Symbol.{Symbol, TheVariants.{Terminal as a_terminal, Nonterminal as a_nonterminal}}
 
 -- `C` are the terminals, which are the classes of tokens; `N` are the nonterminals.
 pub record Rules (C N : Type 0) : Type 0 where

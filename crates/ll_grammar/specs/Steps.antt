@@ -1,10 +1,6 @@
 -- What one step of the recogniser says of its stack, whose top is the list's last symbol.
 use Rattle.std.specs.Prelude.{◌≡◌, Bool, true, false, List, ◌∷◌, ◌++◌, Option, Some, None, reverse}
-use Rattle.ll_grammar.specs.Rules.{Rules, Yields}
-use Rattle.ll_grammar.specs.Predictable.{IsReady}
-use Rattle.ll_grammar.specs.declared.grammar.Symbol.{Symbol}
-use Rattle.ll_grammar.specs.declared.grammar.Step.{Step}
-use Rattle.ll_grammar.specs.declared.grammar.Step.TheVariants.{Absent, Pushed, Deep}
+use Rattle.ll_grammar.specs.{Rules.{Rules, Yields}, Predictable.{IsReady}, declared.grammar.{Symbol.{Symbol}, Step.{Step, TheVariants.{Absent, Pushed, Deep}}}}
 
 -- The step of a part at a token: what stands after it is on the stack, the next symbol on top.
 abbrev pub IsStep : {C N : Type 0} → Option (List (Symbol C N)) → Bool → List (Symbol C N) → Step

@@ -1,24 +1,14 @@
 -- What the expanded axioms of a model are, and that expansion keeps truth.
 use Rattle.std.proofs.Common.{◌≡◌, ℕ, ◌<◌, List, [], ◌∷◌, length, map, reverse, get_or, slice_get, option_map, ◌&&◌, Some, None, All, refl, sym, ap, subst, ◌∙◌, arith}
+use Rattle.std.proofs.lemmas.{List.{take_all, get_or-map, length-map, Elements.{All-nil, All-cons}}, Option.{get_or_from_slice_get, slice_get-map}}
 use Rattle.std.specs.List.{flat_map}
-use Rattle.std.proofs.lemmas.List.{take_all, get_or-map, length-map}
-use Rattle.std.proofs.lemmas.Option.{get_or_from_slice_get, slice_get-map}
-use Rattle.std.proofs.lemmas.List.Elements.{All-nil, All-cons}
-use Rattle.pc_syntax.specs.declared.model.ModelFile.{ModelFile}
-use Rattle.pc_syntax.specs.declared.model.Item.{Item}
-use Rattle.pc_syntax.specs.declared.expanded.Expanded.{Expanded}
+use Rattle.pc_syntax.specs.declared.{model.{ModelFile.{ModelFile}, Item.{Item}}, expanded.Expanded.{Expanded}}
 use Rattle.pc_syntax.specs.Written.{Written, MacroAt, WrittenItem, axiom_, macro_, written_item, WrittenModel, written_model}
-use Rattle.pc_syntax.specs.Observable.{axiom_of, macro_of, macros_in_order, macros_of, axioms_of, setting}
-use Rattle.pc_syntax.specs.Truth.{Setting, are_true}
-use Rattle.pc_syntax.specs.Expansion.{expansion_of, parameter_names, IsExpanded}
-use Rattle.pc_syntax.specs.MacroFaults.{body_fault, macro_fault, items_fault, first_macro_fault}
-use Rattle.pc_syntax.specs.Sizes.{sizes_fault, first_size_fault}
-use Rattle.pc_syntax.proofs.NoFault.{none_first, none_second}
-use Rattle.pc_syntax.proofs.ExpandedLaws.{axioms_expanded}
+use Rattle.pc_syntax.specs.{Observable.{axiom_of, macro_of, macros_in_order, macros_of, axioms_of, setting}, Truth.{Setting, are_true}}
+use Rattle.pc_syntax.specs.{Expansion.{expansion_of, parameter_names, IsExpanded}, MacroFaults.{body_fault, macro_fault, items_fault, first_macro_fault}}
+use Rattle.pc_syntax.{specs.Sizes.{sizes_fault, first_size_fault}, proofs.{NoFault.{none_first, none_second}, ExpandedLaws.{axioms_expanded}}}
 use Rattle.pc_syntax.proofs.ExpansionLaws.{expansion_true}
-use Rattle.macro_expand.specs.declared.macros.Macro.{Macro}
-use Rattle.macro_expand.specs.Faults.{AreExpansions}
-use Rattle.macro_expand.specs.Laws.{ExpansionKeepsTruth, ExpansionsSatisfy}
+use Rattle.macro_expand.specs.{declared.macros.Macro.{Macro}, Faults.{AreExpansions}, Laws.{ExpansionKeepsTruth, ExpansionsSatisfy}}
 use Rattle.macro_expand.specs.Tables.{before, macro_at, plain_macros, OfAxiom, expansion_by_all, AreAxiomsExpanded}
 
 -- the names of the parameters of the macro at k

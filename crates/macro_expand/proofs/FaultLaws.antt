@@ -1,16 +1,10 @@
 -- Faults that are judged one after another.
 use Rattle.std.proofs.Common.{◌≡◌, ℕ, Bool, true, false, List, [], ◌∷◌, Option, Some, None, Result, MatchOption, cond, refl, sym, ap, subst, ◌∙◌, option_map}
 use Rattle.std.specs.Option.{option_or}
-use Rattle.pc_common.specs.declared.fault.FaultKind.TheVariants.{MacroAgain, MacroUnknown}
-use Rattle.pc_syntax.specs.declared.term.Word.{Word}
-use Rattle.pc_syntax.specs.declared.term.Arg.{Arg}
-use Rattle.pc_common.specs.Names.{same_name}
-use Rattle.pc_syntax.specs.Written.{MacroAt}
-use Rattle.pc_syntax.specs.Fault.{Fault}
+use Rattle.pc_common.specs.{declared.fault.FaultKind.TheVariants.{MacroAgain, MacroUnknown}, Names.{same_name}}
+use Rattle.pc_syntax.specs.{declared.term.{Word.{Word}, Arg.{Arg}}, Written.{MacroAt}, Fault.{Fault}}
 use Rattle.pc_syntax.specs.MacroFaults.{macro_with_name, macro_again, count_fault, call_fault}
-use Rattle.macro_expand.specs.declared.fault.MacroFault.{MacroFault}
-use Rattle.macro_expand.specs.Faults.{macro_fault_of, IsFault, Judges}
-use Rattle.macro_expand.specs.Tables.{callee_of}
+use Rattle.macro_expand.specs.{declared.fault.MacroFault.{MacroFault}, Faults.{macro_fault_of, IsFault, Judges}, Tables.{callee_of}}
 
 -- the fault of the first part is that of the whole
 pub first_kept : (a b : Option Fault) (answer : MacroFault) → IsFault a answer → IsFault (option_or a b) answer

@@ -1,21 +1,14 @@
 -- The walk over a file's items in the text's order, against the table that has the first macro of each name.
 use Rattle.std.proofs.Common.{◌≡◌, ℕ, ◌+◌, ◌<◌, ◌≤◌, Bool, true, false, List, [], ◌∷◌, ◌++◌, length, map, take, drop, get_or, reverse, Option, Some, None, cond, refl, sym, ap, subst, ◌∙◌, append_assoc, append-nil, arith, length-append, option_map}
-use Rattle.std.specs.List.{fold, flat_map}
-use Rattle.std.specs.Option.{option_or}
-use Rattle.std.proofs.lemmas.List.{reverse-append, map-append, take-append-drop, take_at, take_all, drop_more}
-use Rattle.std.proofs.lemmas.Grind.{flat_map-append, fold-append}
-use Rattle.pc_common.specs.declared.fault.FaultKind.TheVariants.{MacroAgain, MacroUnknown}
+use Rattle.std.proofs.lemmas.{List.{reverse-append, map-append, take-append-drop, take_at, take_all, drop_more}, Grind.{flat_map-append, fold-append}}
+use Rattle.std.specs.{List.{fold, flat_map}, Option.{option_or}}
+use Rattle.pc_common.specs.{declared.fault.FaultKind.TheVariants.{MacroAgain, MacroUnknown}, Names.{same_name}}
 use Rattle.pc_syntax.specs.declared.model.Item.{Item}
-use Rattle.pc_common.specs.Names.{same_name}
 use Rattle.pc_syntax.specs.Written.{Written, not_, and_, or_, implies_, forall_, exists_, expand_, bind_, MacroAt, WrittenItem, axiom_, macro_, written_item}
-use Rattle.pc_syntax.specs.Observable.{macro_of}
-use Rattle.pc_syntax.specs.Fault.{Fault}
+use Rattle.pc_syntax.specs.{Observable.{macro_of}, Fault.{Fault}}
 use Rattle.pc_syntax.specs.MacroFaults.{macro_with_name, macro_again, parameters_fault, count_fault, body_fault, macro_fault, items_fault}
-use Rattle.pc_syntax.proofs.NoFault.{none_first}
-use Rattle.pc_syntax.proofs.ExpandedLaws.{NewNames, called_reversed}
-use Rattle.macro_expand.specs.Tables.{before, with_macro, first_of_names, AreNew, item_fault}
-use Rattle.macro_expand.proofs.Tables.{macro_called_after, new_more}
-use Rattle.macro_expand.proofs.Names.{same_is}
+use Rattle.pc_syntax.proofs.{NoFault.{none_first}, ExpandedLaws.{NewNames, called_reversed}}
+use Rattle.macro_expand.{specs.Tables.{before, with_macro, first_of_names, AreNew, item_fault}, proofs.{Tables.{macro_called_after, new_more}, Names.{same_is}}}
 use Rattle.macro_expand.proofs.Walks.{flat_map_more}
 
 -- a body has the same fault wherever names call the same macros

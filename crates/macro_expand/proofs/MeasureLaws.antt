@@ -1,18 +1,11 @@
 -- Measures of expansions and of limits.
 use Rattle.std.proofs.Common.{◌≡◌, ℕ, ◌+◌, ◌<◌, Bool, true, false, List, [], ◌∷◌, ◌++◌, length, min, slice_get, Option, Some, None, cond, refl, sym, ap, ◌∙◌, arith}
-use borrow.Author.Count.{below_more}
 use Rattle.std.proofs.lemmas.List.{length_push}
-use Rattle.pc_common.specs.declared.place.Place.{Place}
-use Rattle.pc_syntax.specs.declared.term.Word.{Word}
-use Rattle.pc_syntax.specs.declared.term.Arg.{Arg}
-use Rattle.pc_common.specs.Names.{same_name}
-use Rattle.pc_common.proofs.Places.{get_before, get_last}
-use Rattle.pc_syntax.specs.Written.{expand_, bind_, MacroAt}
-use Rattle.pc_syntax.specs.Expansion.{parameter_names, expansion_of}
+use Rattle.pc_common.{specs.{declared.place.Place.{Place}, Names.{same_name}}, proofs.Places.{get_before, get_last}}
+use Rattle.pc_syntax.specs.{declared.term.{Word.{Word}, Arg.{Arg}}, Written.{expand_, bind_, MacroAt}, Expansion.{parameter_names, expansion_of}}
 use Rattle.pc_syntax.specs.Sizes.{expanded_size, expanded_height}
-use Rattle.macro_expand.specs.declared.measure.Measure.{Measure}
-use Rattle.macro_expand.specs.Tables.{callee_of, before}
-use Rattle.macro_expand.specs.Measures.{capped_measure, measure_of, AreMeasures}
+use Rattle.macro_expand.specs.{declared.measure.Measure.{Measure}, Tables.{callee_of, before}, Measures.{capped_measure, measure_of, AreMeasures}}
+use borrow.Author.Count.{below_more}
 
 module _ (at : Place) (name : Word) (args : List Arg) where
   -- what goes down the macros as the look-up of the one called does

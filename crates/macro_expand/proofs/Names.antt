@@ -1,6 +1,5 @@
 -- Names that are compared in either order.
-use Rattle.std.proofs.Common.{◌≡◌, ℕ, Bool, true, false, List, refl, sym, ◌∙◌, true≢false}
-use Rattle.std.proofs.lemmas.Slice.Eq.{bytes_eq-Decides}
+use Rattle.std.proofs.{Common.{◌≡◌, ℕ, Bool, true, false, List, refl, sym, ◌∙◌, true≢false}, lemmas.Slice.Eq.{bytes_eq-Decides}}
 use Rattle.pc_common.specs.Names.{same_name}
 
 pub same_is : (a b : List ℕ) → same_name a b ≡ true → a ≡ b

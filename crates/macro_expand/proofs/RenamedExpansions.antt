@@ -1,14 +1,10 @@
 -- The expansion of a renamed formula is the renamed expansion, and its size and height are those of the formula.
-use Rattle.std.proofs.Common.{◌≡◌, ◌+◌, max, Bool, List, [], ◌∷◌, cond, map, refl, ap, ◌∙◌}
-use Rattle.std.proofs.lemmas.List.{length-map}
+use Rattle.std.proofs.{Common.{◌≡◌, ◌+◌, max, Bool, List, [], ◌∷◌, cond, map, refl, ap, ◌∙◌}, lemmas.List.{length-map}}
 use Rattle.pc_common.specs.Names.{same_name}
 use Rattle.pc_syntax.specs.Written.{Written, not_, and_, or_, implies_, forall_, exists_, static_, nodes_, edges_, expand_, bind_, MacroAt, WrittenModel}
-use Rattle.pc_syntax.specs.Observable.{axioms_of, macros_of}
-use Rattle.pc_syntax.specs.Expansion.{parameter_names, expansion_of}
-use Rattle.pc_syntax.specs.Sizes.{expanded_size, expanded_height}
+use Rattle.pc_syntax.specs.{Observable.{axioms_of, macros_of}, Expansion.{parameter_names, expansion_of}, Sizes.{expanded_size, expanded_height}}
 use Rattle.pc_syntax.specs.Renaming.{Renaming, KeepsApart, renamed_arg, renamed_node, renamed_edge, renamed, renamed_macro, renamed_model}
-use Rattle.pc_syntax.proofs.RenamedItems.{names_renamed, axioms_renamed, macros_renamed}
-use Rattle.pc_syntax.proofs.ExpansionLaws.{choose}
+use Rattle.pc_syntax.proofs.{RenamedItems.{names_renamed, axioms_renamed, macros_renamed}, ExpansionLaws.{choose}}
 
 -- the parameters' names are the new ones
 pub parameter_names_renamed : (ρ : Renaming) (m : MacroAt)

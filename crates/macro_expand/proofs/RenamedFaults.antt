@@ -1,18 +1,12 @@
 -- A renamed model has the faults of the model: faults carry places and numbers, which renaming keeps.
 use Rattle.std.proofs.Common.{◌≡◌, ℕ, ◌+◌, ◌==◌, Bool, true, false, List, [], ◌∷◌, ◌++◌, Option, Some, None, cond, map, option_map, if◌then◌else◌, refl, sym, ap, ◌∙◌}
-use Rattle.std.specs.Option.{option_or}
-use Rattle.std.proofs.lemmas.List.{length-map, map-append}
-use Rattle.pc_common.specs.declared.fault.FaultKind.TheVariants.{MacroAgain, ParameterAgain, MacroUnknown, MacroArguments, StageAgain}
-use Rattle.pc_common.specs.Names.{same_name}
-use Rattle.pc_syntax.specs.declared.term.Word.{Word}
-use Rattle.pc_syntax.specs.declared.term.Arg.{Arg}
-use Rattle.pc_syntax.specs.declared.model.StageItem.{StageItem}
+use Rattle.std.{proofs.lemmas.List.{length-map, map-append}, specs.Option.{option_or}}
+use Rattle.pc_common.specs.{declared.fault.FaultKind.TheVariants.{MacroAgain, ParameterAgain, MacroUnknown, MacroArguments, StageAgain}, Names.{same_name}}
+use Rattle.pc_syntax.specs.declared.{term.{Word.{Word}, Arg.{Arg}}, model.StageItem.{StageItem}}
 use Rattle.pc_syntax.specs.Written.{Written, not_, and_, or_, implies_, forall_, exists_, static_, nodes_, edges_, expand_, bind_, MacroAt, WrittenItem, axiom_, macro_, WrittenModel}
-use Rattle.pc_syntax.specs.Observable.{macros_in_order, macros_of}
-use Rattle.pc_syntax.specs.Fault.{Fault}
+use Rattle.pc_syntax.specs.{Observable.{macros_in_order, macros_of}, Fault.{Fault}}
 use Rattle.pc_syntax.specs.MacroFaults.{macro_with_name, word_with_name, macro_again, parameters_fault, count_fault, call_fault, body_fault, macro_fault, items_fault, first_macro_fault}
-use Rattle.pc_syntax.specs.Sizes.{depth_fault, total_fault, sizes_fault, first_size_fault}
-use Rattle.pc_syntax.specs.Stages.{stage_with_number, stage_with_name}
+use Rattle.pc_syntax.specs.{Sizes.{depth_fault, total_fault, sizes_fault, first_size_fault}, Stages.{stage_with_number, stage_with_name}}
 use Rattle.pc_syntax.specs.StageFaults.{number_fault, number_again, name_again, stage_fault, stages_fault, first_stage_fault}
 use Rattle.pc_syntax.specs.Renaming.{Renaming, KeepsApart, renamed_word, renamed_arg, renamed, renamed_macro, renamed_item, renamed_stage, renamed_model}
 use Rattle.pc_syntax.proofs.RenamedItems.{stage_renamed, macros_in_order_renamed, macros_renamed}

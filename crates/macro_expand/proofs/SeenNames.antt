@@ -1,15 +1,10 @@
 -- Parameters that are looked up by name.
 use Rattle.std.proofs.Common.{◌≡◌, ℕ, Bool, true, false, List, [], ◌∷◌, ◌++◌, map, Option, Some, None, cond, Bor, refl, sym, ap, ◌∙◌, option_map}
-use Rattle.std.specs.Map.{lookup}
-use Rattle.std.proofs.lemmas.List.{map-append}
-use Rattle.indexmap.specs.IndexMap.{IndexMap, insert_entry}
-use Rattle.indexmap.proofs.CallerLemmas.{insert_entry-new}
-use Rattle.pc_common.specs.declared.place.Place.{Place}
-use Rattle.pc_syntax.specs.declared.term.Word.{Word}
-use Rattle.pc_common.specs.Names.{same_name}
-use Rattle.pc_syntax.specs.MacroFaults.{word_with_name}
-use Rattle.macro_expand.specs.Tables.{word_at}
-use Rattle.macro_expand.proofs.Names.{same_either}
+use Rattle.std.{proofs.lemmas.List.{map-append}, specs.Map.{lookup}}
+use Rattle.indexmap.{specs.IndexMap.{IndexMap, insert_entry}, proofs.CallerLemmas.{insert_entry-new}}
+use Rattle.pc_common.specs.{declared.place.Place.{Place}, Names.{same_name}}
+use Rattle.pc_syntax.specs.{declared.term.Word.{Word}, MacroFaults.{word_with_name}}
+use Rattle.macro_expand.{specs.Tables.{word_at}, proofs.Names.{same_either}}
 
 pub place_of : (es : List (Bor (List ℕ) × Place)) (name : List ℕ)
     → lookup (λ k. same_name name k.now) es ≡ option_map (λ w. w.at) (word_with_name (map word_at es) name)

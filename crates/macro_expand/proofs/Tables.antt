@@ -1,15 +1,10 @@
 -- What a look-up by name finds among macros in the text's order, of which each may name the earlier ones.
 use Rattle.std.proofs.Common.{◌≡◌, ℕ, zero, suc, ◌+◌, ◌<◌, ◌≤◌, Bool, true, false, List, [], ◌∷◌, ◌++◌, length, map, take, slice_get, Option, Some, None, MatchOption, cond, option_copied, Bor, refl, sym, ap, subst, ◌∙◌, option_map, arith}
-use Rattle.std.specs.Map.{lookup}
-use Rattle.std.specs.Option.{option_or, is_some}
-use Rattle.std.proofs.lemmas.List.{reverse-append, map-append}
-use Rattle.indexmap.specs.IndexMap.{IndexMap, insert_entry}
-use Rattle.indexmap.proofs.CallerLemmas.{insert_entry-new}
+use Rattle.std.{proofs.lemmas.List.{reverse-append, map-append}, specs.{Map.{lookup}, Option.{option_or, is_some}}}
+use Rattle.indexmap.{specs.IndexMap.{IndexMap, insert_entry}, proofs.CallerLemmas.{insert_entry-new}}
 use Rattle.pc_common.specs.Names.{same_name}
-use Rattle.pc_syntax.specs.Written.{MacroAt}
-use Rattle.pc_syntax.specs.MacroFaults.{macro_with_name}
-use Rattle.macro_expand.specs.declared.macros.Macro.{Macro}
-use Rattle.macro_expand.specs.Tables.{callee_of, before, with_macro, AreNew, macro_at, plain_macros, AreNumbered}
+use Rattle.pc_syntax.specs.{Written.{MacroAt}, MacroFaults.{macro_with_name}}
+use Rattle.macro_expand.specs.{declared.macros.Macro.{Macro}, Tables.{callee_of, before, with_macro, AreNew, macro_at, plain_macros, AreNumbered}}
 use Rattle.macro_expand.proofs.Names.{same_is, is_same, same_either}
 
 -- the macros of entries

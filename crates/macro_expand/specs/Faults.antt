@@ -1,16 +1,9 @@
 -- What an answer of this crate says of a model.
-use Rattle.std.specs.Prelude.{◌≡◌, List, map, Option, Some, None, Result, Ok, Err, MatchOption}
-use Rattle.std.specs.Option.{option_or}
+use Rattle.std.specs.{Prelude.{◌≡◌, List, map, Option, Some, None, Result, Ok, Err, MatchOption}, Option.{option_or}}
 use Rattle.pc_common.specs.declared.fault.FaultKind.TheVariants.{MacroAgain, ParameterAgain as parameter_again, MacroUnknown, MacroArguments, TooDeep as too_deep, TooBig as too_big}
-use Rattle.pc_syntax.specs.Written.{written, WrittenModel}
-use Rattle.pc_syntax.specs.Observable.{axioms_of, macros_of}
-use Rattle.pc_syntax.specs.Expansion.{expansion_of}
-use Rattle.pc_syntax.specs.Fault.{Fault}
-use Rattle.pc_syntax.specs.MacroFaults.{first_macro_fault}
-use Rattle.pc_syntax.specs.Sizes.{first_size_fault}
-use Rattle.pc_syntax.specs.declared.expanded.Expanded.{Expanded}
-use Rattle.macro_expand.specs.declared.fault.MacroFault.{MacroFault}
-use Rattle.macro_expand.specs.declared.fault.MacroFault.TheVariants.{Again, ParameterAgain, Unknown, Arguments, TooDeep, TooBig, Memory}
+use Rattle.pc_syntax.specs.{Written.{written, WrittenModel}, Observable.{axioms_of, macros_of}, Expansion.{expansion_of}, Fault.{Fault}}
+use Rattle.pc_syntax.specs.{MacroFaults.{first_macro_fault}, Sizes.{first_size_fault}, declared.expanded.Expanded.{Expanded}}
+use Rattle.macro_expand.specs.declared.fault.MacroFault.{MacroFault, TheVariants.{Again, ParameterAgain, Unknown, Arguments, TooDeep, TooBig, Memory}}
 
 -- the fault that an answer tells of, with its place
 abbrev pub macro_fault_of : MacroFault → Option Fault

@@ -1,15 +1,9 @@
 -- What expansion keeps, and what renaming keeps.
 use Rattle.std.specs.Prelude.{◌≡◌, List, [], map}
-use Rattle.pc_common.specs.Case.{Case}
-use Rattle.pc_common.specs.World.{Node, World}
-use Rattle.pc_syntax.specs.declared.expanded.Expanded.{Expanded}
-use Rattle.pc_syntax.specs.Written.{Written, written, MacroAt, WrittenModel}
-use Rattle.pc_syntax.specs.Truth.{Environment, Setting, is_true, are_true}
-use Rattle.pc_syntax.specs.Observable.{axioms_of, macros_of, setting, satisfies}
-use Rattle.pc_syntax.specs.Expansion.{expansion_of}
-use Rattle.pc_syntax.specs.MacroFaults.{first_macro_fault}
-use Rattle.pc_syntax.specs.Sizes.{first_size_fault}
-use Rattle.pc_syntax.specs.StageFaults.{first_stage_fault}
+use Rattle.pc_common.specs.{Case.{Case}, World.{Node, World}}
+use Rattle.pc_syntax.specs.{declared.expanded.Expanded.{Expanded}, Written.{Written, written, MacroAt, WrittenModel}}
+use Rattle.pc_syntax.specs.{Truth.{Environment, Setting, is_true, are_true}, Observable.{axioms_of, macros_of, setting, satisfies}, Expansion.{expansion_of}}
+use Rattle.pc_syntax.specs.{MacroFaults.{first_macro_fault}, Sizes.{first_size_fault}, StageFaults.{first_stage_fault}}
 use Rattle.pc_syntax.specs.Renaming.{Renaming, KeepsApart, renamed, renamed_macro, renamed_model}
 use Rattle.macro_expand.specs.Faults.{AreExpansions}
 

@@ -1,12 +1,8 @@
 -- Sizes and heights that are exact up to the limits.
-use Rattle.std.specs.Prelude.{◌≡◌, ℕ, ◌+◌, ◌<◌, List, Option, Some, None, length, min, slice_get}
-use Rattle.std.specs.Option.{option_or}
-use Rattle.pc_syntax.specs.declared.limits.TheConstants.{MAX_HEIGHT, MAX_SIZE}
-use Rattle.pc_syntax.specs.Written.{Written, MacroAt, WrittenItem, axiom_, macro_}
-use Rattle.pc_syntax.specs.Fault.{Fault}
+use Rattle.std.specs.{Prelude.{◌≡◌, ℕ, ◌+◌, ◌<◌, List, Option, Some, None, length, min, slice_get}, Option.{option_or}}
+use Rattle.pc_syntax.specs.{declared.limits.TheConstants.{MAX_HEIGHT, MAX_SIZE}, Written.{Written, MacroAt, WrittenItem, axiom_, macro_}, Fault.{Fault}}
 use Rattle.pc_syntax.specs.Sizes.{expanded_size, expanded_height, depth_fault, total_fault}
-use Rattle.macro_expand.specs.declared.measure.Measure.{Measure}
-use Rattle.macro_expand.specs.Tables.{before}
+use Rattle.macro_expand.specs.{declared.measure.Measure.{Measure}, Tables.{before}}
 
 abbrev pub capped_measure : ℕ → ℕ → Measure
 capped_measure size height = record { size = min size (MAX_SIZE + 1); height = min height (MAX_HEIGHT + 1) }

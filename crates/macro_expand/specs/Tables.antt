@@ -1,18 +1,10 @@
 -- Macros in the text's order, of which each may name the earlier ones.
 use Rattle.std.specs.Prelude.{◌≡◌, ℕ, suc, List, [], ◌∷◌, ◌++◌, Option, Some, None, length, map, take, reverse, option_map, if◌then◌else◌}
-use Rattle.std.specs.List.{fold, flat_map}
-use Rattle.std.specs.Borrow.{Bor}
-use Rattle.pc_common.specs.declared.place.Place.{Place}
-use Rattle.pc_syntax.specs.declared.term.Word.{Word}
-use Rattle.pc_syntax.specs.declared.formula.Formula.{Formula}
-use Rattle.pc_syntax.specs.declared.model.Item.{Item}
-use Rattle.pc_syntax.specs.declared.expanded.Expanded.{Expanded}
-use Rattle.pc_common.specs.Names.{same_name}
-use Rattle.pc_syntax.specs.Written.{Written, written, written_item, MacroAt, WrittenItem, axiom_, macro_}
-use Rattle.pc_syntax.specs.Observable.{axiom_of}
-use Rattle.pc_syntax.specs.Expansion.{expansion_of}
-use Rattle.pc_syntax.specs.Fault.{Fault}
-use Rattle.pc_syntax.specs.MacroFaults.{macro_with_name, word_with_name, body_fault, macro_fault}
+use Rattle.std.specs.{List.{fold, flat_map}, Borrow.{Bor}}
+use Rattle.pc_common.specs.{declared.place.Place.{Place}, Names.{same_name}}
+use Rattle.pc_syntax.specs.declared.{term.Word.{Word}, formula.Formula.{Formula}, model.Item.{Item}, expanded.Expanded.{Expanded}}
+use Rattle.pc_syntax.specs.{Written.{Written, written, written_item, MacroAt, WrittenItem, axiom_, macro_}, Observable.{axiom_of}, Expansion.{expansion_of}}
+use Rattle.pc_syntax.specs.{Fault.{Fault}, MacroFaults.{macro_with_name, word_with_name, body_fault, macro_fault}}
 use Rattle.macro_expand.specs.declared.macros.Macro.{Macro}
 
 -- the macro that a name calls, with those that its body may name; macros are listed latest first

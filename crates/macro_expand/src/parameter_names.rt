@@ -15,7 +15,7 @@ fn names_of(alloc: Global, parameters: &Words) -> Result<Names, Memory>
     for word in parameters.as_slice() {
         names.push(word.name.share()?)?;
     }
-    Shared::of(names)
+    Shared::from_listed(names)
 }
 
 /// The names of each macro's parameters, by the macros' numbers. Each expansion of a macro shares them.

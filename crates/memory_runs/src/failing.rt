@@ -157,7 +157,7 @@ fn is_cut_short_by_each_step(
 }
 
 /// The words after the first, each with what the file of that name holds.
-fn named<'a>(
+fn name_contents<'a>(
     alloc: Global,
     words: &'a [String],
     contents: &[&'a str],
@@ -180,6 +180,6 @@ pub fn are_failures_reported(
     (command, contents, end, pieces): Plan<'_>,
 ) -> Result<bool, Memory> {
     let words = words(alloc, command)?;
-    let contents = named(alloc, &words, contents)?;
+    let contents = name_contents(alloc, &words, contents)?;
     is_cut_short_by_each_step(alloc, &words, &contents, end, pieces)
 }

@@ -9,6 +9,6 @@ mod runs;
 mod texts;
 
 pub use failing::{Plan, are_failures_reported};
-pub use outside::{calls, files, held, sink};
-pub use runs::{End, ends_in, ends_over, words, written};
-pub use texts::joined;
+pub use outside::{calls, files, hold_files, sink};
+pub use runs::{End, ends_in, ends_over, output_of, words};
+pub use texts::join_pieces;

@@ -20,7 +20,7 @@ fn held_file(alloc: Global, name: &str, content: &str) -> Result<HeldFile, Memor
 }
 
 /// Files of these names and contents.
-pub fn held(alloc: Global, contents: &[(&str, &str)]) -> Result<Held, Memory> {
+pub fn hold_files(alloc: Global, contents: &[(&str, &str)]) -> Result<Held, Memory> {
     let mut held = Held::new(alloc);
     for (name, content) in contents {
         held.push(held_file(alloc, name, content)?)?;
@@ -31,7 +31,7 @@ pub fn held(alloc: Global, contents: &[(&str, &str)]) -> Result<Held, Memory> {
 /// The same, of which these calls fail.
 pub fn files(alloc: Global, contents: &[(&str, &str)], fails: &[u64]) -> Result<MemFiles, Memory> {
     let fails = calls(alloc, fails)?;
-    MemFiles::new(alloc, held(alloc, contents)?, fails)
+    MemFiles::new(alloc, hold_files(alloc, contents)?, fails)
 }
 
 /// A sink of 64 KiB, of which these calls fail.

@@ -56,7 +56,11 @@ pub fn ends_over(
 }
 
 /// What the command writes over files of these names and contents.
-pub fn written(alloc: Global, command: &str, contents: &[(&str, &str)]) -> Result<Vec<u8>, Memory> {
+pub fn output_of(
+    alloc: Global,
+    command: &str,
+    contents: &[(&str, &str)],
+) -> Result<Vec<u8>, Memory> {
     let words = words(alloc, command)?;
     let mut files = files(alloc, contents, &[])?;
     let mut sink = sink(alloc, &[])?;

@@ -3,7 +3,7 @@ use pc_common::Memory;
 use std::alloc::Global;
 
 /// The pieces in this order, each as often as it says.
-pub fn joined(alloc: Global, pieces: &[(&str, usize)]) -> Result<String, Memory> {
+pub fn join_pieces(alloc: Global, pieces: &[(&str, usize)]) -> Result<String, Memory> {
     let mut text = String::new(alloc);
     for (piece, times) in pieces {
         for _ in 0..*times {

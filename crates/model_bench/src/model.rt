@@ -10,7 +10,7 @@ use uspec_lexer::{Tokens, tokens};
 use uspec_parser::parse_model;
 
 /// The tree of the tokens, or None where they have none or memory was refused.
-fn parsed(alloc: Global, tokens: &Tokens<'_>) -> Option<ModelFile>
+fn parse_tokens(alloc: Global, tokens: &Tokens<'_>) -> Option<ModelFile>
     ensures { IfSome result (λ m. DerivesModel tokens.now (written_model m)) }
 {
     match parse_model(alloc, tokens) {
@@ -35,7 +35,7 @@ pub fn is_model(alloc: Global, bytes: &[u8]) -> bool
     requires { length bytes.now < 2 ^ 32 }
 {
     match tokens(alloc, bytes) {
-        Ok(tokens) => parsed(alloc, &tokens).is_some(),
+        Ok(tokens) => parse_tokens(alloc, &tokens).is_some(),
         Err(_) => false,
     }
 }

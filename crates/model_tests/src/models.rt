@@ -1,5 +1,5 @@
 //! Whole models: the first fault by line and column, the limits, and names that are not captured.
-use formula_texts::{Pieces, Told, joined, put, put_number, show_closed, told};
+use formula_texts::{Pieces, Told, join_pieces, put, put_number, show_closed, tell_fault};
 use pc_common::{FaultKind, InputFault, Memory, Place, Which, line_col};
 use pc_front::{FrontEnd, ModelFront, read_model};
 use std::alloc::Global;
@@ -119,12 +119,12 @@ fn fault(alloc: Global, text: &[u8]) -> Result<Option<Placed>, Memory> {
     match read_model(alloc, text) {
         Ok(_) => Ok(None),
         Err(FrontEnd::Memory) => Err(Memory),
-        Err(FrontEnd::Refused(fault)) => Ok(placed(text, fault)),
+        Err(FrontEnd::Refused(fault)) => Ok(place_fault(text, fault)),
     }
 }
 
 /// None where the fault does not stand in the model.
-fn placed(text: &[u8], fault: InputFault) -> Option<Placed> {
+fn place_fault(text: &[u8], fault: InputFault) -> Option<Placed> {
     if fault.file != Which::Model || fault.place.offset as usize > text.len() {
         return None;
     }
@@ -132,7 +132,7 @@ fn placed(text: &[u8], fault: InputFault) -> Option<Placed> {
         return None;
     }
     let (line, column) = line_col(text, fault.place);
-    Some((line, column, told(fault.kind)))
+    Some((line, column, tell_fault(fault.kind)))
 }
 
 /// Whether this is the first fault of the model, or it has none.
@@ -143,7 +143,7 @@ fn has_fault(
 ) -> Result<bool, Memory> {
     let found = fault(alloc, text)?;
     match want {
-        Some((line, column, kind)) => Ok(found == Some((line, column, told(kind)))),
+        Some((line, column, kind)) => Ok(found == Some((line, column, tell_fault(kind)))),
         None => Ok(found == None),
     }
 }
@@ -287,7 +287,7 @@ const LIMITS: &[(Pieces, Option<(u32, u32, FaultKind)>)] = &[
 #[test]
 fn a_model_may_reach_a_limit_and_not_pass_it(rt: HostRuntime) -> Result<(), Fail> {
     for (pieces, want) in LIMITS {
-        let text = joined(rt.alloc(), pieces)?;
+        let text = join_pieces(rt.alloc(), pieces)?;
         assert!(rt; has_fault(rt.alloc(), &text, *want)?, "{pieces:?}");
     }
     Ok(())

@@ -1,6 +1,6 @@
 //! What several tables need: texts read as far as a test asks.
 use example_texts::EMPTY;
-use formula_texts::told;
+use formula_texts::tell_fault;
 use pc_common::{FaultKind, InputFault, Place, Which};
 use pc_front::{FrontEnd, front};
 use pc_ground::Front;
@@ -15,12 +15,12 @@ pub(crate) fn written_model(alloc: Global, text: &[u8]) -> Option<ModelFile> {
         return None;
     }
     match tokens(alloc, text) {
-        Ok(tokens) => parsed(alloc, &tokens),
+        Ok(tokens) => parse_tokens(alloc, &tokens),
         Err(_) => None,
     }
 }
 
-fn parsed(alloc: Global, tokens: &Tokens<'_>) -> Option<ModelFile> {
+fn parse_tokens(alloc: Global, tokens: &Tokens<'_>) -> Option<ModelFile> {
     match parse_model(alloc, tokens) {
         Ok(model) => Some(model),
         Err(_) => None,
@@ -45,7 +45,9 @@ pub(crate) fn are_refused(alloc: Global, model: &str, test: &str, fault: InputFa
 }
 
 fn is_same(one: InputFault, other: InputFault) -> bool {
-    one.file == other.file && one.place == other.place && told(one.kind) == told(other.kind)
+    one.file == other.file
+        && one.place == other.place
+        && tell_fault(one.kind) == tell_fault(other.kind)
 }
 
 /// Whether the model is refused, its first fault being this.

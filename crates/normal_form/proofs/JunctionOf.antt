@@ -1,16 +1,8 @@
 -- What folding makes of two parts, and which rows.
 use Rattle.std.proofs.Common.{◌≡◌, ◌≢◌, ℕ, ◌+◌, Bool, true, false, List, [], ◌∷◌, ◌++◌, length, take, refl, ap, sym, ◌∙◌, append_assoc}
-use Rattle.std.specs.Prelude.{reverse}
-use Rattle.std.proofs.lemmas.List.{reverse-append, length-reverse, take_at, append-nil}
-use Rattle.std.proofs.lemmas.Grind.{reverse_onto}
-use Rattle.pc_ground.specs.Tree.{Tree, always, never, leaf, both, either, size_of}
-use Rattle.pc_ground.specs.Rows.{rows_of}
-use Rattle.pc_ground.specs.declared.row.Row.{Row}
-use Rattle.pc_ground.proofs.FlatRows.{length_rows}
-use Rattle.normal_form.specs.declared.joint.Junction.{Junction}
-use Rattle.normal_form.specs.declared.joint.Junction.TheVariants.{And, Or}
-use Rattle.normal_form.specs.declared.part.Part.TheVariants.{Constant, Rows}
-use Rattle.normal_form.specs.Parts.{part_of, backward}
+use Rattle.std.{proofs.lemmas.{List.{reverse-append, length-reverse, take_at, append-nil}, Grind.{reverse_onto}}, specs.Prelude.{reverse}}
+use Rattle.pc_ground.{specs.{Tree.{Tree, always, never, leaf, both, either, size_of}, Rows.{rows_of}, declared.row.Row.{Row}}, proofs.FlatRows.{length_rows}}
+use Rattle.normal_form.specs.{declared.{joint.Junction.{Junction, TheVariants.{And, Or}}, part.Part.TheVariants.{Constant, Rows}}, Parts.{part_of, backward}}
 use Rattle.normal_form.specs.Spine.{constant_tree, neutral, junction_of, row_kind}
 
 -- a constant part

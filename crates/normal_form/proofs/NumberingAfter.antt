@@ -1,14 +1,9 @@
 -- Numbering the nodes of one row after the other numbers the nodes of the tree.
 use Rattle.std.proofs.Common.{◌≡◌, ◌<◌, ℕ, ◌+◌, Bool, true, false, ◌||◌, List, [], ◌∷◌, ◌++◌, length, drop, slice_get, Some, refl, ap, sym, ◌∙◌, append_assoc}
+use Rattle.std.proofs.lemmas.{List.{append-nil, drop_more, Folds.{list_any-append}}, Option.{get_or_from_slice_get}, Grind.{flat_map-append}}
 use Rattle.std.specs.List.{flat_map, list_any}
-use Rattle.std.proofs.lemmas.List.{append-nil, drop_more}
-use Rattle.std.proofs.lemmas.Option.{get_or_from_slice_get}
-use Rattle.std.proofs.lemmas.Grind.{flat_map-append}
-use Rattle.std.proofs.lemmas.List.Folds.{list_any-append}
 use Rattle.pc_common.specs.World.{Node, same_node}
-use Rattle.pc_ground.specs.Tree.{Tree, always, never, leaf, both, either}
-use Rattle.pc_ground.specs.Rows.{rows_of}
-use Rattle.pc_ground.specs.declared.row.Row.{Row}
+use Rattle.pc_ground.specs.{Tree.{Tree, always, never, leaf, both, either}, Rows.{rows_of}, declared.row.Row.{Row}}
 use Rattle.pc_ground.specs.Numbers.{nodes_of_literal, nodes_of_tree, first_seen, numbered, seen}
 use Rattle.normal_form.specs.RowNodes.{nodes_of_row, numbering_after}
 

@@ -2,11 +2,8 @@
 -- comes first.
 use Rattle.std.specs.Prelude.{◌≡◌, true, false, List, [], ◌++◌, reverse}
 use Rattle.pc_common.specs.World.{Node}
-use Rattle.pc_ground.specs.Tree.{Tree, always, never, leaf, both, either}
-use Rattle.pc_ground.specs.Rows.{rows_of}
-use Rattle.pc_ground.specs.declared.row.Row.{Row}
-use Rattle.normal_form.specs.declared.part.Part.{Part}
-use Rattle.normal_form.specs.declared.part.Part.TheVariants.{Constant, Rows}
+use Rattle.pc_ground.specs.{Tree.{Tree, always, never, leaf, both, either}, Rows.{rows_of}, declared.row.Row.{Row}}
+use Rattle.normal_form.specs.declared.part.Part.{Part, TheVariants.{Constant, Rows}}
 
 abbrev pub part_of : {N : Type 0} → Tree N → Part
 part_of always = Constant true

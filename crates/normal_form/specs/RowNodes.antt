@@ -1,10 +1,7 @@
 -- The nodes of rows, and the numbers that they get one after the other.
 use Rattle.std.specs.Prelude.{List, [], ◌∷◌}
 use Rattle.pc_common.specs.World.{Node}
-use Rattle.pc_ground.specs.declared.row.RowKind.{RowKind}
-use Rattle.pc_ground.specs.declared.row.RowKind.TheVariants.{True, False, Lit, And, Or}
-use Rattle.pc_ground.specs.declared.row.Row.{Row}
-use Rattle.pc_ground.specs.Numbers.{nodes_of_literal, seen}
+use Rattle.pc_ground.specs.{declared.row.{RowKind.{RowKind, TheVariants.{True, False, Lit, And, Or}}, Row.{Row}}, Numbers.{nodes_of_literal, seen}}
 
 abbrev pub nodes_of_kind : {N : Type 0} → RowKind N → List N
 nodes_of_kind True = []

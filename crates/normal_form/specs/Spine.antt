@@ -1,16 +1,9 @@
 -- A formula as its right side: the connectives from the root on, each with its left part, and the end.
 use Rattle.std.specs.Prelude.{Bool, true, false, List, [], ◌∷◌}
 use Rattle.pc_common.specs.World.{Node}
-use Rattle.pc_ground.specs.Tree.{Tree, always, never, leaf}
-use Rattle.pc_ground.specs.Keys.{literal_node}
-use Rattle.pc_ground.specs.PlainGround.{plain_ground, pushed, folded, conjoined, disjoined}
-use Rattle.pc_ground.specs.declared.row.RowKind.{RowKind}
-use Rattle.pc_ground.specs.declared.row.RowKind.TheVariants.{And as KindAnd, Or as KindOr}
-use Rattle.normal_form.specs.declared.joint.Junction.{Junction}
-use Rattle.normal_form.specs.declared.joint.Junction.TheVariants.{And, Or}
-use Rattle.normal_form.specs.declared.joint.Joint.{Joint}
-use Rattle.normal_form.specs.declared.spine.End.{End}
-use Rattle.normal_form.specs.declared.spine.End.TheVariants.{Constant, Lit}
+use Rattle.pc_ground.specs.{Tree.{Tree, always, never, leaf}, Keys.{literal_node}, PlainGround.{plain_ground, pushed, folded, conjoined, disjoined}}
+use Rattle.pc_ground.specs.declared.row.RowKind.{RowKind, TheVariants.{And as KindAnd, Or as KindOr}}
+use Rattle.normal_form.specs.declared.{joint.{Junction.{Junction, TheVariants.{And, Or}}, Joint.{Joint}}, spine.End.{End, TheVariants.{Constant, Lit}}}
 
 -- the connective itself (true), or under a negation the other one
 abbrev pub under : Bool → Junction → Junction

@@ -1,18 +1,11 @@
 -- What the bit rows tell of one literal more.
 use Rattle.std.proofs.Common.{◌≡◌, ◌↔◌, ℕ, ◌*◌, ◌<◌, ◌≤◌, inl, Bool, true, false, List, refl, arith, MatchBool, MatchOption, Option, Some, None}
-use Rattle.std.specs.Prelude.{Contains, All}
-use Rattle.std.proofs.lemmas.Bool.{iff_false, both_ways}
-use Rattle.std.proofs.lemmas.List.Elements.{All-contains}
+use Rattle.std.{proofs.lemmas.{Bool.{iff_false, both_ways}, List.Elements.{All-contains}}, specs.Prelude.{Contains, All}}
 use Rattle.pc_common.specs.Chain.{Chain, Reach}
-use Rattle.pc_ground.specs.declared.literal.Literal.{Literal}
-use Rattle.pc_ground.specs.declared.literal.Literal.TheVariants.{Node, Edge, NoNode, NoEdge}
-use Rattle.pc_ground.specs.Literals.{Joins, IsPresent, IsConsistent}
+use Rattle.pc_ground.specs.{declared.literal.Literal.{Literal, TheVariants.{Node, Edge, NoNode, NoEdge}}, Literals.{Joins, IsPresent, IsConsistent}}
 use Rattle.undo_trail.specs.BitTable.{BitTable, bit_now}
-use Rattle.order_graph.specs.declared.clash.Clash.{Clash}
-use Rattle.order_graph.specs.declared.clash.Clash.TheVariants.{Absent}
-use Rattle.order_graph.specs.Ways.{IsBelow}
-use Rattle.order_graph.specs.Rows.{pair_row, present_row, missing_row, Represents, leads_to, IsOver, JoinsDenied, JoinsNoneFrom}
-use Rattle.order_graph.specs.Clashes.{JoinsNone, IsClash}
+use Rattle.order_graph.specs.{declared.clash.Clash.{Clash, TheVariants.{Absent}}, Ways.{IsBelow}}
+use Rattle.order_graph.specs.{Rows.{pair_row, present_row, missing_row, Represents, leads_to, IsOver, JoinsDenied, JoinsNoneFrom}, Clashes.{JoinsNone, IsClash}}
 use Rattle.order_graph.proofs.OneMore.{more, older, edge_chain, consistent_node, consistent_no_node, consistent_no_edge, consistent_edge}
 use Rattle.order_graph.proofs.Represents.{leads_reach}
 

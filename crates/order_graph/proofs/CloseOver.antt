@@ -2,8 +2,7 @@
 use Rattle.std.proofs.Common.{◌≡◌, ℕ, zero, suc, ◌+◌, ◌*◌, ◌<◌, ◌≤◌, inl, inr, Bool, true, false, ◌&&◌, ◌||◌, ◌==◌, if◌then◌else◌, refl, sym, ◌∙◌, ap, arith, eq-eqb, ne_eqb, not, add-one}
 use Rattle.std.proofs.lemmas.Bool.{cases_eq, cases_lt, and_parts}
 use Rattle.pc_common.proofs.Bools.{or_false}
-use Rattle.undo_trail.specs.BitTable.{BitTable, bit_now, Extends}
-use Rattle.undo_trail.proofs.ExtendsLaws.{extends_then, extends_more}
+use Rattle.undo_trail.{specs.BitTable.{BitTable, bit_now, Extends}, proofs.ExtendsLaws.{extends_then, extends_more}}
 use Rattle.order_graph.specs.Rows.{leads_to, with_edge, gains, words_gained, IsSized, TakesEdge}
 
 -- the rows below k took the edge from a to b

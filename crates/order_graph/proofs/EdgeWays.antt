@@ -1,11 +1,8 @@
 -- Ways a node at a time, and what levels say of them.
 use Rattle.std.proofs.Common.{◌≡◌, ◌≢◌, ℕ, ◌+◌, ◌<◌, inl, inr, List, [], ◌∷◌, ◌++◌, length, get_or, refl, sym, ◌∙◌, ap, subst, arith}
 use Rattle.std.specs.Prelude.{slice_index, Contains}
-use Rattle.pc_ground.specs.declared.literal.Literal.{Literal}
-use Rattle.pc_ground.specs.Literals.{Joins}
-use Rattle.pc_ground.specs.declared.literal.Literal.TheVariants.{Edge}
-use Rattle.order_graph.specs.Ways.{Follows, IsWay}
-use Rattle.order_graph.specs.Levels.{HasNext, far}
+use Rattle.pc_ground.specs.{declared.literal.Literal.{Literal, TheVariants.{Edge}}, Literals.{Joins}}
+use Rattle.order_graph.specs.{Ways.{Follows, IsWay}, Levels.{HasNext, far}}
 
 follows_more : (R : ℕ → ℕ → Type 0) (a : ℕ) (via : List ℕ) (b c : ℕ) → Follows R a via b → R b c → Follows R a (via ++ c ∷ []) c
 follows_more R a [] b c e r = (let P : ℕ → Type 0 = λ x. R x c in subst P (sym e) r, refl)

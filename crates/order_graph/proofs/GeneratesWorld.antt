@@ -1,9 +1,7 @@
 -- What consistent literals generate.
-use Rattle.std.proofs.Common.{List, [], ◌∷◌, ◌++◌}
-use Rattle.std.specs.Prelude.{Contains}
+use Rattle.std.{proofs.Common.{List, [], ◌∷◌, ◌++◌}, specs.Prelude.{Contains}}
 use Rattle.pc_common.specs.Chain.{Leads, Chain}
-use Rattle.pc_ground.specs.declared.literal.Literal.{Literal}
-use Rattle.pc_ground.specs.declared.literal.Literal.TheVariants.{Node, Edge, NoNode, NoEdge}
+use Rattle.pc_ground.specs.declared.literal.Literal.{Literal, TheVariants.{Node, Edge, NoNode, NoEdge}}
 use Rattle.pc_ground.specs.Literals.{Joins, IsPresent, IsConsistent, Holds, as_node, as_start, as_end}
 use Rattle.order_graph.specs.Law.{GeneratesWorld}
 

@@ -1,17 +1,10 @@
 -- The clashes that one literal more has, and that a clash is an inconsistency.
-use Rattle.std.proofs.Common.{ℕ, List, [], ◌∷◌, ◌++◌, sym, subst}
-use Rattle.std.specs.Prelude.{Contains}
-use Rattle.pc_common.specs.Chain.{Leads, Chain}
-use Rattle.pc_common.specs.Steps.{Leaf, cycle, path, absent}
-use Rattle.pc_ground.specs.declared.literal.Literal.{Literal}
-use Rattle.pc_ground.specs.declared.literal.Literal.TheVariants.{Node, Edge, NoNode, NoEdge}
-use Rattle.pc_ground.specs.Literals.{Joins, IsPresent, IsConsistent, as_node, as_start, as_end}
-use Rattle.pc_ground.specs.Refutes.{IsContradiction, a_cycle, a_path, an_absence}
-use Rattle.order_graph.specs.Ways.{Follows, IsWay}
-use Rattle.order_graph.specs.Clashes.{leaf_of}
-use Rattle.order_graph.specs.Law.{ClashesRefute}
-use Rattle.order_graph.proofs.Chains.{follows_map, follows_leads, follows_join, step_chain}
-use Rattle.order_graph.proofs.OneMore.{more, older, newest, joins_older, present_older}
+use Rattle.std.{proofs.Common.{ℕ, List, [], ◌∷◌, ◌++◌, sym, subst}, specs.Prelude.{Contains}}
+use Rattle.pc_common.specs.{Chain.{Leads, Chain}, Steps.{Leaf, cycle, path, absent}}
+use Rattle.pc_ground.specs.declared.literal.Literal.{Literal, TheVariants.{Node, Edge, NoNode, NoEdge}}
+use Rattle.pc_ground.specs.{Literals.{Joins, IsPresent, IsConsistent, as_node, as_start, as_end}, Refutes.{IsContradiction, a_cycle, a_path, an_absence}}
+use Rattle.order_graph.specs.{Ways.{Follows, IsWay}, Clashes.{leaf_of}, Law.{ClashesRefute}}
+use Rattle.order_graph.proofs.{Chains.{follows_map, follows_leads, follows_join, step_chain}, OneMore.{more, older, newest, joins_older, present_older}}
 
 pub node_clash : (ls : List (Literal ℕ)) (p : ℕ) → Contains ls (NoNode p) → IsContradiction (more ls (Node p)) (absent p)
 node_clash ls p h = an_absence p (older ls (Node p) (NoNode p) h) (as_node (newest ls (Node p)))

@@ -1,18 +1,11 @@
 -- The search backwards, an edge at a time.
 use Rattle.std.proofs.Common.{◌≡◌, ◌≢◌, ℕ, ◌+◌, ◌<◌, ◌≤◌, ◌⊎◌, inl, inr, List, [], ◌∷◌, ◌++◌, length, get_or, set, replicate, refl, sym, ◌∙◌, ap, subst, arith, get_or-set_same, get_or-set_other}
+use Rattle.std.proofs.lemmas.{Bool.{cases_lt, ne_eqb}, List.{get_or-replicate, length-replicate, length-set, length_push, get_or_at, get_or_append_left}}
+use Rattle.std.proofs.lemmas.List.{Sums.{sum_by-set}, Folds.{sum_by-replicate}, Elements.{Contains-append_left, Contains-push, All-contains}}
 use Rattle.std.specs.Prelude.{Contains, All}
-use Rattle.std.proofs.lemmas.Bool.{cases_lt, ne_eqb}
-use Rattle.std.proofs.lemmas.List.{get_or-replicate, length-replicate, length-set, length_push, get_or_at, get_or_append_left}
-use Rattle.std.proofs.lemmas.List.Sums.{sum_by-set}
-use Rattle.std.proofs.lemmas.List.Folds.{sum_by-replicate}
-use Rattle.std.proofs.lemmas.List.Elements.{Contains-append_left, Contains-push, All-contains}
-use Rattle.order_graph.proofs.Decide.{same_or_not}
-use Rattle.order_graph.proofs.OnList.{same_read, on_cases, on_none}
-use Rattle.pc_ground.specs.declared.literal.Literal.{Literal}
-use Rattle.pc_ground.specs.declared.literal.Literal.TheVariants.{Node, Edge, NoNode, NoEdge}
-use Rattle.order_graph.specs.Ways.{IsBelow}
+use Rattle.order_graph.{proofs.{Decide.{same_or_not}, OnList.{same_read, on_cases, on_none}, EdgeWays.{IsClosed}}, specs.Ways.{IsBelow}}
 use Rattle.order_graph.specs.Levels.{far, far_count, one_if_far, OnList, HasRaised, fresh, nearer, known, found, HasFollowed, IsSearched}
-use Rattle.order_graph.proofs.EdgeWays.{IsClosed}
+use Rattle.pc_ground.specs.declared.literal.Literal.{Literal, TheVariants.{Node, Edge, NoNode, NoEdge}}
 
 one_if_near : (d : ℕ) → d ≢ far → one_if_far d ≡ 0
 one_if_near d h = rw (ne_eqb d far h) refl

@@ -1,13 +1,9 @@
 -- Linked lists of edges, a literal more at a time.
 use Rattle.std.proofs.Common.{◌≡◌, ℕ, ◌+◌, ◌<◌, ◌≤◌, ◌⊎◌, inl, inr, List, [], ◌∷◌, ◌++◌, length, get_or, set, refl, sym, ◌∙◌, ap, subst, arith, get_or-set_same, get_or-set_other}
-use Rattle.std.proofs.lemmas.Bool.{cases_lt}
-use Rattle.std.proofs.lemmas.List.{get_or_past, length-set, length_push, get_or_at, get_or_append_left}
+use Rattle.std.proofs.lemmas.{Bool.{cases_lt}, List.{get_or_past, length-set, length_push, get_or_at, get_or_append_left}}
 use Rattle.std.proofs.lemmas.Option.{get_or_from_slice_get, slice_get-get_or}
-use Rattle.order_graph.proofs.Decide.{same_or_not}
-use Rattle.pc_ground.specs.declared.literal.Literal.{Literal}
-use Rattle.pc_ground.specs.declared.literal.Literal.TheVariants.{Node, Edge, NoNode, NoEdge}
-use Rattle.order_graph.specs.Ways.{IsBelow}
-use Rattle.order_graph.specs.Levels.{OnList, here, later, AreLists, HasListed}
+use Rattle.order_graph.{proofs.Decide.{same_or_not}, specs.{Ways.{IsBelow}, Levels.{OnList, here, later, AreLists, HasListed}}}
+use Rattle.pc_ground.specs.declared.literal.Literal.{Literal, TheVariants.{Node, Edge, NoNode, NoEdge}}
 
 -- an edge stays on its list where links are put after the others
 stays : (links : List ℕ) (more e k : ℕ) → ((j : ℕ) → get_or links j 0 ≤ j) → e ≤ length links → OnList links e k → OnList (links ++ more ∷ []) e k

@@ -1,11 +1,8 @@
 -- What one literal more makes of a list.
 use Rattle.std.proofs.Common.{◌≡◌, ℕ, ◌⊎◌, inl, inr, List, [], ◌∷◌, ◌++◌, sym, subst}
-use Rattle.std.specs.Prelude.{Contains}
-use Rattle.std.proofs.lemmas.List.Elements.{Contains-append_left, Contains-push, Contains-push_cases}
-use Rattle.pc_common.specs.Chain.{Chain, Reach}
-use Rattle.pc_common.proofs.Chains.{chain_more, chain_with, chain_reach, IsWithStep}
-use Rattle.pc_ground.specs.declared.literal.Literal.{Literal}
-use Rattle.pc_ground.specs.declared.literal.Literal.TheVariants.{Node, Edge, NoNode, NoEdge}
+use Rattle.std.{proofs.lemmas.List.Elements.{Contains-append_left, Contains-push, Contains-push_cases}, specs.Prelude.{Contains}}
+use Rattle.pc_common.{specs.Chain.{Chain, Reach}, proofs.Chains.{chain_more, chain_with, chain_reach, IsWithStep}}
+use Rattle.pc_ground.specs.declared.literal.Literal.{Literal, TheVariants.{Node, Edge, NoNode, NoEdge}}
 use Rattle.pc_ground.specs.Literals.{Joins, IsPresent, IsConsistent, as_node, as_start, as_end}
 
 -- the list with one literal more

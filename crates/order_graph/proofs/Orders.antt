@@ -1,27 +1,15 @@
 -- The parts of an order graph: at first, with one literal more, with a mark more, and cut.
 use Rattle.std.proofs.Common.{◌≡◌, ℕ, zero, suc, ◌+◌, ◌-◌, ◌*◌, ◌<◌, ◌≤◌, inl, inr, Bool, true, false, List, [], ◌∷◌, ◌++◌, length, take, get_or, set, replicate, refl, sym, ◌∙◌, ap, subst, arith, take-take, suc-mul}
-use Rattle.std.specs.Prelude.{Contains, MatchOption, Option, Some, None}
 use Rattle.std.proofs.lemmas.Bool.{cases_eq, both_ways}
 use Rattle.std.proofs.lemmas.List.{take_all, take_at, take-append-le, get_or_at, get_or_append_left, get_or-take, length_push, length-take-le, take_more_set}
-use Rattle.std.proofs.lemmas.List.Elements.{All-nil}
-use Rattle.pc_common.specs.Chain.{Leads, Chain}
-use Rattle.pc_common.specs.declared.limits.TheConstants.{MAX_NODES}
-use Rattle.pc_ground.specs.declared.literal.Literal.{Literal}
-use Rattle.pc_ground.specs.declared.literal.Literal.TheVariants.{Node, Edge, NoNode, NoEdge}
+use Rattle.std.{proofs.lemmas.List.Elements.{All-nil}, specs.Prelude.{Contains, MatchOption, Option, Some, None}}
+use Rattle.pc_common.specs.{Chain.{Leads, Chain}, declared.limits.TheConstants.{MAX_NODES}}
+use Rattle.pc_ground.specs.declared.literal.Literal.{Literal, TheVariants.{Node, Edge, NoNode, NoEdge}}
 use Rattle.pc_ground.specs.Literals.{Joins, IsPresent, IsConsistent, as_node, as_start, as_end}
-use Rattle.undo_trail.specs.Bits.{has}
-use Rattle.undo_trail.specs.BitTable.{BitTable, tables, Extends}
-use Rattle.undo_trail.proofs.ExtendsLaws.{table_last, table_kept}
-use Rattle.undo_trail.proofs.BitWords.{has-clear}
-use Rattle.order_graph.specs.Ways.{IsBelow}
-use Rattle.order_graph.specs.declared.clash.Clash.{Clash}
-use Rattle.order_graph.specs.Clashes.{IsClash}
-use Rattle.order_graph.specs.State.{words_for, most_words, IsPushed}
-use Rattle.order_graph.specs.Rows.{pair_row, present_row, missing_row, Represents, Enters, IsSized}
-use Rattle.order_graph.specs.Marks.{marks_from}
-use Rattle.order_graph.specs.Order.{IsOrder}
-use Rattle.order_graph.proofs.Represents.{represents_more}
-use Rattle.order_graph.proofs.MarkLists.{marks_none, IsCutAt}
+use Rattle.undo_trail.{specs.{Bits.{has}, BitTable.{BitTable, tables, Extends}}, proofs.{ExtendsLaws.{table_last, table_kept}, BitWords.{has-clear}}}
+use Rattle.order_graph.specs.{Ways.{IsBelow}, declared.clash.Clash.{Clash}, Clashes.{IsClash}, State.{words_for, most_words, IsPushed}}
+use Rattle.order_graph.specs.{Rows.{pair_row, present_row, missing_row, Represents, Enters, IsSized}, Marks.{marks_from}, Order.{IsOrder}}
+use Rattle.order_graph.proofs.{Represents.{represents_more}, MarkLists.{marks_none, IsCutAt}}
 
 nothing : (x : Literal ℕ) → Contains [] x → ⊥
 nothing x h = let l = h.1 in omega arith

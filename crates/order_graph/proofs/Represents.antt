@@ -1,15 +1,12 @@
 -- Bit rows that stand for a list of literals, and for the list with one literal more.
 use Rattle.std.proofs.Common.{◌≡◌, ◌↔◌, ℕ, ◌*◌, ◌<◌, ◌≤◌, ◌⊎◌, inl, inr, Bool, true, ◌&&◌, ◌||◌, ◌==◌, List, sym, ◌∙◌, subst, arith, eq-eqb, eqb-true, not}
-use Rattle.std.specs.Prelude.{Contains}
 use Rattle.std.proofs.lemmas.Bool.{both_ways, not-true, not_from_false, false_from_ne_true, or_cases, or_left, or_right, and_parts, and_from}
-use Rattle.std.proofs.lemmas.List.Elements.{All-push}
+use Rattle.std.{proofs.lemmas.List.Elements.{All-push}, specs.Prelude.{Contains}}
 use Rattle.pc_common.specs.Chain.{Reach}
-use Rattle.pc_ground.specs.declared.literal.Literal.{Literal}
-use Rattle.pc_ground.specs.declared.literal.Literal.TheVariants.{Node, Edge, NoNode, NoEdge}
+use Rattle.pc_ground.specs.declared.literal.Literal.{Literal, TheVariants.{Node, Edge, NoNode, NoEdge}}
 use Rattle.pc_ground.specs.Literals.{Joins, IsPresent, IsConsistent, as_node, as_start, as_end}
 use Rattle.undo_trail.specs.BitTable.{BitTable, bit_now}
-use Rattle.order_graph.specs.Ways.{IsBelow}
-use Rattle.order_graph.specs.Rows.{pair_row, present_row, missing_row, denier_row, Represents, leads_to, Enters}
+use Rattle.order_graph.specs.{Ways.{IsBelow}, Rows.{pair_row, present_row, missing_row, denier_row, Represents, leads_to, Enters}}
 use Rattle.order_graph.proofs.OneMore.{more, older, newest, which, node_is_none, no_node_is_none, no_edge_is_none, chain_older, chain_newer, chain_edge, edge_chain, Brings, present_older, present_which, node_brings, edge_brings, no_node_brings, no_edge_brings}
 
 -- a bit that is another, which says P, says what P says

@@ -1,18 +1,10 @@
 -- An edge that a chain goes over already, and what the rows can take.
-use Rattle.std.proofs.Common.{ℕ, ◌*◌, ◌≤◌, List, arith}
-use Rattle.std.proofs.lemmas.Bool.{false_from_ne_true}
-use Rattle.pc_common.specs.Chain.{Chain}
-use Rattle.pc_common.proofs.Chains.{chain_reach, reach_chain}
-use Rattle.pc_ground.specs.declared.literal.Literal.{Literal}
-use Rattle.pc_ground.specs.declared.literal.Literal.TheVariants.{Edge}
-use Rattle.pc_ground.specs.Literals.{Joins, IsConsistent}
+use Rattle.std.proofs.{Common.{ℕ, ◌*◌, ◌≤◌, List, arith}, lemmas.Bool.{false_from_ne_true}}
+use Rattle.pc_common.{specs.Chain.{Chain}, proofs.Chains.{chain_reach, reach_chain}}
+use Rattle.pc_ground.specs.{declared.literal.Literal.{Literal, TheVariants.{Edge}}, Literals.{Joins, IsConsistent}}
 use Rattle.undo_trail.specs.BitTable.{BitTable}
-use Rattle.order_graph.specs.Ways.{IsBelow}
-use Rattle.order_graph.specs.Rows.{Represents, leads_to, Takes}
-use Rattle.order_graph.proofs.OneMore.{more, consistent_edge}
-use Rattle.order_graph.proofs.Represents.{leads_reach}
-use Rattle.order_graph.proofs.ClashOf.{back_refutes}
-use Rattle.order_graph.proofs.GeneratesWorld.{consistent_generate}
+use Rattle.order_graph.{specs.{Ways.{IsBelow}, Rows.{Represents, leads_to, Takes}}, proofs.{OneMore.{more, consistent_edge}, Represents.{leads_reach}}}
+use Rattle.order_graph.proofs.{ClashOf.{back_refutes}, GeneratesWorld.{consistent_generate}}
 
 -- an edge that a chain goes over is consistent with the others
 pub known_consistent : (ls : List (Literal ℕ)) (p q : ℕ) → IsConsistent ls → Chain (Joins ls) p q → IsConsistent (more ls (Edge p q))

@@ -1,9 +1,7 @@
 -- What came of a literal that was asserted.
 use Rattle.std.specs.Prelude.{ℕ, ◌≡◌, [], ◌∷◌, ◌++◌}
 use Rattle.pc_ground.specs.declared.literal.Literal.{Literal}
-use Rattle.order_graph.specs.State.{Graph, IsPushed}
-use Rattle.order_graph.specs.Clashes.{IsClash, IsConsistentWith, ClashesWith}
-use Rattle.order_graph.specs.declared.clash.Added.{Added}
+use Rattle.order_graph.specs.{State.{Graph, IsPushed}, Clashes.{IsClash, IsConsistentWith, ClashesWith}, declared.clash.Added.{Added}}
 use Rattle.order_graph.specs.declared.clash.Added.TheVariants.{Kept, Clash}
 
 -- it is the last literal, or the literals with it have this clash and the graph is as it was

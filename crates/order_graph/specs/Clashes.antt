@@ -1,15 +1,9 @@
 -- What a clash tells of a list of literals that can't stand together.
 use Rattle.std.specs.Prelude.{ℕ, Bool, List, [], ◌∷◌, ◌++◌, Option, Contains, MatchBool, MatchOption}
-use Rattle.pc_common.specs.Chain.{Reach}
-use Rattle.pc_common.specs.Steps.{Leaf, cycle, path, absent}
-use Rattle.pc_ground.specs.declared.literal.Literal.{Literal}
-use Rattle.pc_ground.specs.declared.literal.Literal.TheVariants.{NoEdge}
-use Rattle.pc_ground.specs.Literals.{Joins, IsConsistent}
-use Rattle.pc_ground.specs.Refutes.{IsContradiction}
+use Rattle.pc_common.specs.{Chain.{Reach}, Steps.{Leaf, cycle, path, absent}}
+use Rattle.pc_ground.specs.{declared.literal.Literal.{Literal, TheVariants.{NoEdge}}, Literals.{Joins, IsConsistent}, Refutes.{IsContradiction}}
 use Rattle.undo_trail.specs.BitTable.{BitTable}
-use Rattle.order_graph.specs.Rows.{Represents}
-use Rattle.order_graph.specs.declared.clash.Clash.{Clash}
-use Rattle.order_graph.specs.declared.clash.Clash.TheVariants.{Cycle, Path, Absent}
+use Rattle.order_graph.specs.{Rows.{Represents}, declared.clash.Clash.{Clash, TheVariants.{Cycle, Path, Absent}}}
 
 -- an edge from p to q would join no denied pair
 abbrev pub JoinsNone : List (Literal ℕ) → ℕ → ℕ → Type 0

@@ -1,10 +1,8 @@
 -- Two laws of lists of literals: what consistent ones generate, and that a clash leaves none.
 use Rattle.std.specs.Prelude.{ℕ, List}
 use Rattle.pc_common.specs.Chain.{Chain, Acyclic}
-use Rattle.pc_ground.specs.declared.literal.Literal.{Literal}
-use Rattle.pc_ground.specs.Literals.{Joins, IsPresent, IsConsistent, AreMet}
-use Rattle.order_graph.specs.declared.clash.Clash.{Clash}
-use Rattle.order_graph.specs.Clashes.{IsClash}
+use Rattle.pc_ground.specs.{declared.literal.Literal.{Literal}, Literals.{Joins, IsPresent, IsConsistent, AreMet}}
+use Rattle.order_graph.specs.{declared.clash.Clash.{Clash}, Clashes.{IsClash}}
 
 -- the nodes that the literals assert, in the order of the chains of their edges, are a world where each literal is true
 pub record GeneratesWorld {N : Type 0} (ls : List (Literal N)) : Type 0 where

@@ -1,7 +1,6 @@
 -- Levels of nodes: how many edges away a target is, found backwards from it.
 use Rattle.std.specs.Prelude.{ℕ, ◌≡◌, ◌≢◌, ◌+◌, ◌<◌, ◌≤◌, ◌⊎◌, List, [], ◌∷◌, ◌++◌, length, slice_index, slice_index_or, slice_set, Contains, sum_by, ◌==◌, if◌then◌else◌}
-use Rattle.pc_ground.specs.declared.literal.Literal.{Literal}
-use Rattle.pc_ground.specs.declared.literal.Literal.TheVariants.{Node, Edge, NoNode, NoEdge}
+use Rattle.pc_ground.specs.declared.literal.Literal.{Literal, TheVariants.{Node, Edge, NoNode, NoEdge}}
 
 -- the level of a node from which the target was not reached
 abbrev pub far : ℕ

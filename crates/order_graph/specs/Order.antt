@@ -4,9 +4,7 @@ use Rattle.std.specs.Prelude.{ℕ, ◌≡◌, ◌≤◌, ◌<◌, ◌+◌, ◌*�
 use Rattle.pc_common.specs.declared.limits.TheConstants.{MAX_NODES}
 use Rattle.pc_ground.specs.declared.literal.Literal.{Literal}
 use Rattle.undo_trail.specs.BitTable.{BitTable, tables}
-use Rattle.order_graph.specs.State.{words_for, most_words}
-use Rattle.order_graph.specs.Rows.{Represents}
-use Rattle.order_graph.specs.Marks.{marks_from}
+use Rattle.order_graph.specs.{State.{words_for, most_words}, Rows.{Represents}, Marks.{marks_from}}
 
 pub record IsOrder (n : ℕ) (v : BitTable) (ls : List (Literal ℕ)) (moments counts : List ℕ) (live : ℕ) : Type 0 where
   pub few : n ≤ MAX_NODES

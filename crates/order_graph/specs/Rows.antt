@@ -1,13 +1,9 @@
 -- The bit rows of a list of literals over n nodes: what each node reaches, the pairs denied from each node, the present
 -- nodes, the denied nodes, and the nodes from which a pair is denied.
 use Rattle.std.specs.Prelude.{ℕ, Bool, true, false, ◌≡◌, ◌↔◌, ◌<◌, ◌≤◌, ◌+◌, ◌*◌, ◌&&◌, ◌||◌, ◌==◌, not, zero, suc, if◌then◌else◌, List, Contains, All}
-use Rattle.pc_common.specs.Chain.{Chain}
-use Rattle.pc_common.specs.declared.limits.TheConstants.{MAX_NODES}
-use Rattle.pc_ground.specs.declared.literal.Literal.{Literal}
-use Rattle.pc_ground.specs.declared.literal.Literal.TheVariants.{Node, Edge, NoNode, NoEdge}
-use Rattle.pc_ground.specs.Literals.{Joins, IsPresent, IsConsistent, Holds}
-use Rattle.undo_trail.specs.Bits.{has}
-use Rattle.undo_trail.specs.BitTable.{BitTable, bit_now}
+use Rattle.pc_common.specs.{Chain.{Chain}, declared.limits.TheConstants.{MAX_NODES}}
+use Rattle.pc_ground.specs.{declared.literal.Literal.{Literal, TheVariants.{Node, Edge, NoNode, NoEdge}}, Literals.{Joins, IsPresent, IsConsistent, Holds}}
+use Rattle.undo_trail.specs.{Bits.{has}, BitTable.{BitTable, bit_now}}
 use Rattle.order_graph.specs.Ways.{IsBelow}
 
 -- row n + x: the nodes that x is denied to come before

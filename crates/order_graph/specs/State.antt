@@ -1,7 +1,6 @@
 -- What an order graph is seen as: its literals, its marks, and how many words were recorded for them.
 use Rattle.std.specs.Prelude.{ℕ, ◌≡◌, ◌≤◌, ◌+◌, ◌-◌, ◌*◌, ◌/◌, List, [], ◌∷◌, ◌++◌, length, take, slice_index, All}
-use Rattle.pc_ground.specs.declared.literal.Literal.{Literal}
-use Rattle.pc_ground.specs.Literals.{IsConsistent}
+use Rattle.pc_ground.specs.{declared.literal.Literal.{Literal}, Literals.{IsConsistent}}
 use Rattle.order_graph.specs.Ways.{IsBelow}
 
 pub record Graph : Type 0 where

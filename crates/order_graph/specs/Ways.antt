@@ -1,7 +1,6 @@
 -- Ways over the asserted edges of a list of literals, which may have no step.
 use Rattle.std.specs.Prelude.{ℕ, ◌≡◌, ◌<◌, List, [], ◌∷◌}
-use Rattle.pc_ground.specs.declared.literal.Literal.{Literal}
-use Rattle.pc_ground.specs.declared.literal.Literal.TheVariants.{Node, Edge, NoNode, NoEdge}
+use Rattle.pc_ground.specs.declared.literal.Literal.{Literal, TheVariants.{Node, Edge, NoNode, NoEdge}}
 
 -- the nodes of the literal are below n
 abbrev pub IsBelow : ℕ → Literal ℕ → Type 0

@@ -145,7 +145,7 @@ impl OrderGraph {
 
     /// To which nodes a chain of asserted edges leads from `a`: the columns that are set, by their numbers. Takes no
     /// memory.
-    pub fn reached(&self, a: u32) -> &[u64]
+    pub fn descendants(&self, a: u32) -> &[u64]
         requires { a < self.now.nodes }
         ensures { (b : ℕ) → b < self.now.nodes
             → (column result.now b ≡ true) ↔ Chain (Joins self.now.literals) a b }

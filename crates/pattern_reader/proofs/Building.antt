@@ -1,25 +1,14 @@
 -- The reads of a pattern as they are gathered from its open values.
 use Rattle.std.proofs.Common.{◌≡◌, ℕ, zero, suc, ◌<◌, ◌≤◌, ◌+◌, ◌*◌, List, [], ◌∷◌, ◌++◌, Some, length, map, take, get_or, refl, sym, ◌∙◌, ap, subst, arith}
-use Rattle.std.specs.Prelude.{All}
-use Rattle.std.specs.List.{slice_get}
-use Rattle.std.proofs.lemmas.List.{map-append, length-map, take_more, take_all, take-map}
-use Rattle.std.proofs.lemmas.List.Elements.{All-append}
-use Rattle.std.proofs.lemmas.Option.{slice_get_within, get_or_from_slice_get, slice_get-map}
+use Rattle.std.proofs.lemmas.List.{map-append, length-map, take_more, take_all, take-map, Elements.{All-append}}
+use Rattle.std.{proofs.{lemmas.Option.{slice_get_within, get_or_from_slice_get, slice_get-map}, Math.Nat.{mul_assoc}}, specs.{Prelude.{All}, List.{slice_get}}}
 use Rattle.std.specs.Option.{option_map}
-use Rattle.std.proofs.Math.Nat.{mul_assoc}
 use Rattle.pc_common.specs.Case.{Value, Case}
 use Rattle.pc_case.specs.Plain.{plain_value}
-use Rattle.litmus_reader.specs.declared.fault.CaseFault.{CaseFault}
-use Rattle.pattern_reader.specs.Opens.{Open, plain_open}
-use Rattle.pattern_reader.specs.Answer.{IsTooMany, pattern_with}
-use Rattle.pattern_reader.specs.declared.opens.Open.{Open as CodeOpen}
-use Rattle.pattern_reader.proofs.ReadableValues.{values_some}
-use Rattle.litmus_reader.specs.Lists.{case_by, AreLists}
-use Rattle.litmus_reader.specs.declared.lists.CaseLists.{CaseLists}
-use Rattle.pattern_reader.specs.Rows.{Pattern, values_of, choices_of, combinations, rows_of}
-use Rattle.pattern_reader.specs.Reads.{values_in, op_in, HasValues, AddsRead, IsTooManyAt, IsPattern, pattern_by}
-use Rattle.pattern_reader.specs.declared.rows.OpenRead.{OpenRead}
-use Rattle.pattern_reader.specs.declared.pattern.TheConstants.{MAX_ROWS}
+use Rattle.litmus_reader.specs.{declared.{fault.CaseFault.{CaseFault}, lists.CaseLists.{CaseLists}}, Lists.{case_by, AreLists}}
+use Rattle.pattern_reader.specs.{Opens.{Open, plain_open}, Answer.{IsTooMany, pattern_with}, declared.{opens.Open.{Open as CodeOpen}, rows.OpenRead.{OpenRead}}}
+use Rattle.pattern_reader.specs.{declared.pattern.TheConstants.{MAX_ROWS}, Rows.{Pattern, values_of, choices_of, combinations, rows_of}}
+use Rattle.pattern_reader.{specs.Reads.{values_in, op_in, HasValues, AddsRead, IsTooManyAt, IsPattern, pattern_by}, proofs.ReadableValues.{values_some}}
 
 abbrev pub ops_of : List Open → List ℕ
 ops_of opens = map (λ (o : Open). o.op) opens

@@ -1,14 +1,9 @@
 -- The values of a row, read by read.
 use Rattle.std.proofs.Common.{◌≡◌, ℕ, zero, suc, ◌<◌, ◌+◌, ◌%◌, Bool, true, false, cond, List, [], ◌∷◌, Option, Some, None, length, map, drop, get_or, refl, sym, ◌∙◌, ap, arith}
-use Rattle.std.specs.Prelude.{unwrap_or, ◌==◌}
-use Rattle.std.specs.List.{slice_get}
-use Rattle.std.proofs.lemmas.List.{length-map}
-use Rattle.pc_common.specs.Case.{Value, number}
-use Rattle.pc_common.specs.declared.value.Value.{Value as CodeValue}
+use Rattle.std.{proofs.lemmas.List.{length-map}, specs.{Prelude.{unwrap_or, ◌==◌}, List.{slice_get}}}
+use Rattle.pc_common.specs.{Case.{Value, number}, declared.value.Value.{Value as CodeValue}}
 use Rattle.pc_case.specs.Plain.{plain_value}
-use Rattle.pattern_reader.specs.Rows.{left_by, row_values, value_for}
-use Rattle.pattern_reader.specs.Reads.{values_in, op_in, value_at_place}
-use Rattle.pattern_reader.specs.declared.rows.OpenRead.{OpenRead}
+use Rattle.pattern_reader.specs.{Rows.{left_by, row_values, value_for}, Reads.{values_in, op_in, value_at_place}, declared.rows.OpenRead.{OpenRead}}
 
 -- the value that a row has for a micro-op, by the reads from one on
 abbrev pub value_among : List OpenRead → ℕ → ℕ → Option Value

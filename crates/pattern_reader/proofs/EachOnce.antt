@@ -1,12 +1,8 @@
 -- What an open read may read stands once among its values.
 use Rattle.std.proofs.Common.{◌≡◌, ℕ, zero, suc, ◌⊎◌, inl, inr, ⊎_elim, Bool, true, false, cond, List, [], ◌∷◌, ◌++◌, Option, Some, None, length, refl, sym, ◌∙◌, ap, subst, eq-eqb}
-use Rattle.std.specs.Prelude.{unwrap_or}
-use Rattle.std.specs.List.{fold, list_any, slice_get}
-use Rattle.std.proofs.lemmas.Bool.{true≢false, or_left, or_right}
-use Rattle.pc_common.specs.Case.{Address, Value, number, entry, Touch, MicroOp, Case}
-use Rattle.pc_common.specs.Addresses.{same_value, initial_at}
-use Rattle.pattern_reader.specs.Rows.{written_at, once_more, values_touched, touch_of_op, values_of, choices_of}
-use Rattle.pattern_reader.specs.Combinations.{IsEachOnce}
+use Rattle.std.{proofs.lemmas.Bool.{true≢false, or_left, or_right}, specs.{Prelude.{unwrap_or}, List.{fold, list_any, slice_get}}}
+use Rattle.pc_common.specs.{Case.{Address, Value, number, entry, Touch, MicroOp, Case}, Addresses.{same_value, initial_at}}
+use Rattle.pattern_reader.specs.{Rows.{written_at, once_more, values_touched, touch_of_op, values_of, choices_of}, Combinations.{IsEachOnce}}
 use Rattle.pattern_reader.proofs.ReadableValues.{add_written}
 
 same_self : (v : Value) → same_value v v ≡ true

@@ -1,13 +1,9 @@
 -- Micro-ops with other values stay the micro-ops of a case.
 use Rattle.std.proofs.Common.{◌≡◌, ℕ, zero, suc, ◌<◌, ◌≤◌, ◌+◌, List, [], ◌∷◌, ◌++◌, Option, Some, None, length, take, refl, sym, ◌∙◌, ap, subst, arith}
-use Rattle.std.specs.Prelude.{IsNone, unwrap_or, ◌↔◌}
-use Rattle.std.specs.List.{slice_get}
-use Rattle.std.specs.Option.{option_map}
-use Rattle.pc_common.specs.Case.{Value, Touch, fence, MicroOp}
-use Rattle.pc_common.specs.declared.limits.TheConstants.{MAX_CORE, MAX_OPS}
+use Rattle.std.specs.{Prelude.{IsNone, unwrap_or, ◌↔◌}, List.{slice_get}, Option.{option_map}}
+use Rattle.pc_common.specs.{Case.{Value, Touch, fence, MicroOp}, declared.limits.TheConstants.{MAX_CORE, MAX_OPS}}
 use Rattle.pc_case.specs.MicroOps.{AreMicroOps}
-use Rattle.pattern_reader.specs.Rows.{reading, filled, touch_reading}
-use Rattle.pattern_reader.proofs.Digits.{plus_one}
+use Rattle.pattern_reader.{specs.Rows.{reading, filled, touch_reading}, proofs.Digits.{plus_one}}
 
 pub length_filled : (value : ℕ → Option Value) (k : ℕ) (os : List MicroOp) → length (filled value k os) ≡ length os
 length_filled value k [] = refl

@@ -1,27 +1,13 @@
 -- Bytes say one pattern or have one first fault.
-use Rattle.std.proofs.Common.{◌≡◌, ◌≢◌, ℕ, ◌≤◌, ◌<◌, ◌⊎◌, inl, inr, ⊎_elim, List, length, refl, sym, ◌∙◌, ap, subst}
-use Rattle.std.proofs.Math.Seq.{take-length}
-use Rattle.pc_common.specs.Case.{Case}
-use Rattle.pc_common.specs.declared.fault.FaultKind.{FaultKind}
-use Rattle.pc_common.specs.declared.place.Place.{Place}
-use Rattle.uspec_lexer.proofs.SpellsLaws.{spells-unique, spells-no_fault, lexical_fault-unique}
-use Rattle.uspec_lexer.proofs.Totality.{spells-or_fault}
-use Rattle.litmus_reader.specs.Answer.{CaseOf}
-use Rattle.litmus_reader.specs.declared.fault.CaseFault.{CaseFault}
-use Rattle.litmus_reader.specs.declared.fault.CaseFault.TheVariants.{Lexical, Content, Memory}
-use Rattle.uspec_lexer.specs.Fault.{IsLexicalRefusal}
-use Rattle.uspec_lexer.specs.declared.fault.LexFault.{LexFault}
-use Rattle.uspec_lexer.specs.declared.fault.LexFault.TheVariants.{Lexical as a_lexical_fault, Memory as no_room}
-use Rattle.litmus_reader.specs.Rows.{fault_from}
-use Rattle.litmus_reader.proofs.Exclusive.{one_case, no_fault}
-use Rattle.litmus_reader.proofs.OneFault.{one_fault}
-use Rattle.litmus_reader.proofs.Totality.{case_or_fault}
-use Rattle.pattern_reader.specs.Opens.{Open, opens_in}
-use Rattle.pattern_reader.specs.Closing.{closed_bytes}
-use Rattle.pattern_reader.specs.Rows.{Pattern, rows_of}
+use Rattle.std.proofs.{Common.{◌≡◌, ◌≢◌, ℕ, ◌≤◌, ◌<◌, ◌⊎◌, inl, inr, ⊎_elim, List, length, refl, sym, ◌∙◌, ap, subst}, Math.Seq.{take-length}}
+use Rattle.pc_common.specs.{Case.{Case}, declared.{fault.FaultKind.{FaultKind}, place.Place.{Place}}}
+use Rattle.uspec_lexer.{proofs.{SpellsLaws.{spells-unique, spells-no_fault, lexical_fault-unique}, Totality.{spells-or_fault}}, specs.Fault.{IsLexicalRefusal}}
+use Rattle.uspec_lexer.specs.declared.fault.LexFault.{LexFault, TheVariants.{Lexical as a_lexical_fault, Memory as no_room}}
+use Rattle.litmus_reader.specs.{Answer.{CaseOf}, declared.fault.CaseFault.{CaseFault, TheVariants.{Lexical, Content, Memory}}, Rows.{fault_from}}
+use Rattle.litmus_reader.proofs.{Exclusive.{one_case, no_fault}, OneFault.{one_fault}, Totality.{case_or_fault}}
+use Rattle.pattern_reader.specs.{Opens.{Open, opens_in}, Closing.{closed_bytes}, Rows.{Pattern, rows_of}}
 use Rattle.pattern_reader.specs.Answer.{pattern_with, ClosesTo, IsTooMany, IsClosedFault, in_test, too_many, PatternOf, IsPatternFault, lexical, closed}
-use Rattle.pattern_reader.specs.declared.pattern.TheConstants.{MAX_ROWS}
-use Rattle.pattern_reader.proofs.RowCounts.{compare, too_many_above, too_many_once, first_above}
+use Rattle.pattern_reader.{specs.declared.pattern.TheConstants.{MAX_ROWS}, proofs.RowCounts.{compare, too_many_above, too_many_once, first_above}}
 
 lexical_no_memory : {place : Place} → Lexical place ≡ Memory → ⊥
 lexical_no_memory e = cc

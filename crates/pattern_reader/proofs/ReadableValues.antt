@@ -1,8 +1,7 @@
 -- What an open read may read, as it is gathered.
 use Rattle.std.proofs.Common.{ℕ, ◌≤◌, Bool, true, false, cond, List, [], ◌∷◌, ◌++◌, Option, Some, None, length, arith, length-append}
 use Rattle.std.specs.List.{fold, slice_get}
-use Rattle.pc_common.specs.Case.{Address, Value, Touch, MicroOp, Case}
-use Rattle.pc_common.specs.Addresses.{initial_at}
+use Rattle.pc_common.specs.{Case.{Address, Value, Touch, MicroOp, Case}, Addresses.{initial_at}}
 use Rattle.pattern_reader.specs.Rows.{written_at, once_more, values_touched, touch_of_op, values_of}
 
 abbrev pub add_written : Address → List Value → MicroOp → List Value

@@ -1,20 +1,12 @@
 -- The lists of a row's case, and the bytes of a closed pattern.
 use Rattle.std.proofs.Common.{◌≡◌, ℕ, ◌<◌, ◌+◌, List, [], ◌∷◌, ◌++◌, Option, Some, length, map, take, set, refl, sym, ◌∙◌, ap, subst, arith}
-use Rattle.std.specs.List.{fold, slice_get}
+use Rattle.std.{proofs.lemmas.{List.{map-append, length-map, take-map, length-set}, Option.{slice_get-map}}, specs.List.{fold, slice_get}}
 use Rattle.std.specs.Option.{option_map}
-use Rattle.std.proofs.lemmas.List.{map-append, length-map, take-map, length-set}
-use Rattle.std.proofs.lemmas.Option.{slice_get-map}
-use Rattle.pc_common.specs.Case.{Value}
-use Rattle.pc_common.specs.declared.value.Value.{Value as CodeValue}
-use Rattle.pc_case.specs.declared.op.Op.{Op}
-use Rattle.pc_case.specs.Plain.{plain_value, micro_op, dependency, stated_value}
-use Rattle.pc_case.specs.MicroOps.{AreMicroOps}
+use Rattle.pc_common.specs.{Case.{Value}, declared.value.Value.{Value as CodeValue}}
+use Rattle.pc_case.specs.{declared.op.Op.{Op}, Plain.{plain_value, micro_op, dependency, stated_value}, MicroOps.{AreMicroOps}}
 use Rattle.pc_case.specs.Stated.{IsStatedOnce, AreWithin}
-use Rattle.litmus_reader.specs.Lists.{AreLists}
-use Rattle.litmus_reader.specs.declared.lists.CaseLists.{CaseLists}
-use Rattle.pattern_reader.specs.Opens.{Open}
-use Rattle.pattern_reader.specs.Closing.{with_zero, closed_bytes}
-use Rattle.pattern_reader.specs.Rows.{reading, filled}
+use Rattle.litmus_reader.specs.{Lists.{AreLists}, declared.lists.CaseLists.{CaseLists}}
+use Rattle.pattern_reader.specs.{Opens.{Open}, Closing.{with_zero, closed_bytes}, Rows.{reading, filled}}
 use Rattle.pattern_reader.proofs.Filling.{length_filled, filled_kept, filled_more}
 
 -- one micro-op more of a row

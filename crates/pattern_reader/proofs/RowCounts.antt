@@ -1,20 +1,11 @@
 -- How the number of rows grows with the open values, and where it is too large.
 use Rattle.std.proofs.Common.{◌≡◌, ℕ, zero, suc, ◌<◌, ◌≤◌, ◌+◌, ◌*◌, ◌⊎◌, inl, inr, ⊎_elim, List, [], ◌∷◌, ◌++◌, length, take, drop, refl, sym, ◌∙◌, ap, subst, arith}
-use Rattle.std.specs.List.{slice_get}
-use Rattle.std.specs.Prelude.{unwrap_or}
-use Rattle.std.proofs.lemmas.List.{take-append-drop, take-take, take_all}
-use Rattle.std.proofs.lemmas.Option.{slice_get_cases}
-use Rattle.std.proofs.Math.Nat.{mul_assoc, le-mul_of_pos_right}
-use Rattle.pc_common.specs.Case.{Case}
-use Rattle.pc_common.specs.declared.fault.FaultKind.TheVariants.{TooManyRows}
-use Rattle.litmus_reader.specs.declared.fault.CaseFault.{CaseFault}
-use Rattle.litmus_reader.specs.declared.fault.CaseFault.TheVariants.{Content}
-use Rattle.pattern_reader.specs.Opens.{Open}
-use Rattle.pattern_reader.specs.Rows.{values_of, rows_of}
-use Rattle.pattern_reader.specs.Answer.{pattern_with, IsTooMany}
-use Rattle.pattern_reader.specs.declared.pattern.TheConstants.{MAX_ROWS}
-use Rattle.pattern_reader.proofs.Digits.{plus_one}
-use Rattle.pattern_reader.proofs.ReadableValues.{values_some}
+use Rattle.std.proofs.{lemmas.{List.{take-append-drop, take-take, take_all}, Option.{slice_get_cases}}, Math.Nat.{mul_assoc, le-mul_of_pos_right}}
+use Rattle.std.specs.{List.{slice_get}, Prelude.{unwrap_or}}
+use Rattle.pc_common.specs.{Case.{Case}, declared.fault.FaultKind.TheVariants.{TooManyRows}}
+use Rattle.litmus_reader.specs.declared.fault.CaseFault.{CaseFault, TheVariants.{Content}}
+use Rattle.pattern_reader.specs.{Opens.{Open}, Rows.{values_of, rows_of}, Answer.{pattern_with, IsTooMany}, declared.pattern.TheConstants.{MAX_ROWS}}
+use Rattle.pattern_reader.proofs.{Digits.{plus_one}, ReadableValues.{values_some}}
 
 pub compare : (a b : ℕ) → (a ≤ b) ⊎ (b < a)
 compare zero b = inl (omega arith)

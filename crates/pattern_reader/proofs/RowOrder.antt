@@ -1,15 +1,12 @@
 -- The rows are all combinations, each once, in order.
 use Rattle.std.proofs.Common.{◌≡◌, ℕ, ◌<◌, ◌≤◌, ◌+◌, ◌*◌, ◌/◌, ◌%◌, ◌⊎◌, inl, inr, ⊎_elim, List, [], ◌∷◌, Some, length, get_or, refl, sym, ◌∙◌, ap, subst, subst₂, arith, add-mul, mul_assoc, mul_comm, mul-pos, mul-le-mul_right, mod-eq_of_lt, le_antisymm, div-one}
-use Rattle.std.specs.Prelude.{⊤}
 use Rattle.std.proofs.lemmas.Option.{slice_get-get_or, slice_get_within, get_or_from_slice_get}
 use Rattle.std.proofs.lemmas.Nat.{div-mul-add, mul-add-lt, div_below, mod_below, div-add-mod'}
-use Rattle.std.proofs.Math.Nat.{div-div-eq-div-mul, mul-add-div_right, mul-add-mod_self_right}
+use Rattle.std.{proofs.Math.Nat.{div-div-eq-div-mul, mul-add-div_right, mul-add-mod_self_right}, specs.Prelude.{⊤}}
 use Rattle.pc_common.specs.Case.{Value, number, Case}
 use Rattle.pattern_reader.specs.Rows.{Pattern, choices_of, combinations, left_by, row_values}
 use Rattle.pattern_reader.specs.Combinations.{IsEachOnce, AreChosen, IsBefore, earlier, alike, choices_in, HasRowsOfValues, HasEachCombination, HasEachRowOnce, HasRowsInOrder}
-use Rattle.pattern_reader.proofs.ReadableValues.{values_some}
-use Rattle.pattern_reader.proofs.EachOnce.{each_value_once}
-use Rattle.pattern_reader.proofs.RowCounts.{compare}
+use Rattle.pattern_reader.proofs.{ReadableValues.{values_some}, EachOnce.{each_value_once}, RowCounts.{compare}}
 
 -- each list has a value
 abbrev HaveSome : List (List Value) → Type 0

@@ -1,9 +1,7 @@
 -- What is seen of one token more.
-use Rattle.std.proofs.Common.{◌≡◌, ℕ, ◌+◌, true, false, cond, List, ◌++◌, sym, ◌∙◌, ap, arith}
-use Rattle.std.specs.Prelude.{codes}
+use Rattle.std.{proofs.Common.{◌≡◌, ℕ, ◌+◌, true, false, cond, List, ◌++◌, sym, ◌∙◌, ap, arith}, specs.Prelude.{codes}}
 use Rattle.uspec_lexer.specs.Token.{Token}
-use Rattle.pattern_reader.specs.Opens.{stands, opens_access, reads, accesses, AreSeen, open_at, opens_among}
-use Rattle.pattern_reader.specs.declared.opens.Accesses.{Accesses}
+use Rattle.pattern_reader.specs.{Opens.{stands, opens_access, reads, accesses, AreSeen, open_at, opens_among}, declared.opens.Accesses.{Accesses}}
 use Rattle.pattern_reader.proofs.Digits.{plus_one}
 
 -- a micro-op opens

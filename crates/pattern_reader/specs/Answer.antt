@@ -1,19 +1,10 @@
 -- What a pattern's bytes say: a pattern, or the first fault. The bytes are a pattern where they close to a test, and
 -- their faults are those of that test; where it has none, there may be too many rows.
 use Rattle.std.specs.Prelude.{◌≡◌, ◌≤◌, ◌<◌, ◌+◌, ℕ, List, map, take, Some, slice_get}
-use Rattle.pc_common.specs.Case.{Case}
-use Rattle.pc_common.specs.declared.place.Place.{Place}
-use Rattle.pc_common.specs.declared.fault.FaultKind.TheVariants.{TooManyRows}
-use Rattle.uspec_lexer.specs.Token.{Token}
-use Rattle.uspec_lexer.specs.Spells.{Spells, IsLexicalFault}
-use Rattle.litmus_reader.specs.Answer.{CaseOf}
-use Rattle.litmus_reader.specs.Laws.{IsFault as IsTestFault}
-use Rattle.litmus_reader.specs.declared.fault.CaseFault.{CaseFault}
-use Rattle.litmus_reader.specs.declared.fault.CaseFault.TheVariants.{Lexical, Content}
-use Rattle.pattern_reader.specs.Opens.{Open, opens_in}
-use Rattle.pattern_reader.specs.Closing.{closed_bytes}
-use Rattle.pattern_reader.specs.Rows.{Pattern, rows_of}
-use Rattle.pattern_reader.specs.declared.pattern.TheConstants.{MAX_ROWS}
+use Rattle.pc_common.specs.{Case.{Case}, declared.{place.Place.{Place}, fault.FaultKind.TheVariants.{TooManyRows}}}
+use Rattle.uspec_lexer.specs.{Token.{Token}, Spells.{Spells, IsLexicalFault}}
+use Rattle.litmus_reader.specs.{Answer.{CaseOf}, Laws.{IsFault as IsTestFault}, declared.fault.CaseFault.{CaseFault, TheVariants.{Lexical, Content}}}
+use Rattle.pattern_reader.specs.{Opens.{Open, opens_in}, Closing.{closed_bytes}, Rows.{Pattern, rows_of}, declared.pattern.TheConstants.{MAX_ROWS}}
 
 -- the case with these open values
 abbrev pub pattern_with : Case → List Open → Pattern

@@ -1,6 +1,5 @@
 -- A pattern closes to a test: a 0 stands in place of each `Any`, with two blanks, so that all else stays where it was.
-use Rattle.std.specs.Prelude.{ℕ, ◌+◌, List, slice_set}
-use Rattle.std.specs.List.{fold}
+use Rattle.std.specs.{Prelude.{ℕ, ◌+◌, List, slice_set}, List.{fold}}
 use Rattle.pattern_reader.specs.Opens.{Open}
 
 abbrev pub with_zero : List ℕ → Open → List ℕ

@@ -1,8 +1,7 @@
 -- What holds of the bytes of every pattern.
 use Rattle.std.specs.Prelude.{◌≡◌, ◌⊎◌, ℕ, List}
 use Rattle.litmus_reader.specs.declared.fault.CaseFault.{CaseFault}
-use Rattle.pattern_reader.specs.Rows.{Pattern}
-use Rattle.pattern_reader.specs.Answer.{PatternOf, IsPatternFault}
+use Rattle.pattern_reader.specs.{Rows.{Pattern}, Answer.{PatternOf, IsPatternFault}}
 
 abbrev pub HasPatternOrFault : List ℕ → Type 0
 HasPatternOrFault bytes = ((p : Pattern) × PatternOf bytes p) ⊎ ((f : CaseFault) × IsPatternFault bytes f)

@@ -2,8 +2,7 @@
 use Rattle.std.specs.Prelude.{ℕ, zero, suc, ◌+◌, ◌-◌, ◌≡◌, ◌≤◌, Bool, false, ◌&&◌, ◌||◌, List, [], ◌∷◌, ◌++◌, Option, Some, None, codes, length, slice_get, if◌then◌else◌}
 use Rattle.std.specs.Str.{bytes_eq}
 use Rattle.uspec_lexer.specs.Token.{Token, place_or}
-use Rattle.pattern_reader.specs.declared.opens.Open.{Open as CodeOpen}
-use Rattle.pattern_reader.specs.declared.opens.Accesses.{Accesses}
+use Rattle.pattern_reader.specs.declared.opens.{Open.{Open as CodeOpen}, Accesses.{Accesses}}
 
 abbrev pub is_spelled : List ℕ → Option Token → Bool
 is_spelled w None = false

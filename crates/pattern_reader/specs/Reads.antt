@@ -1,15 +1,9 @@
 -- What the code's open reads are as plain data, and what the type of a pattern keeps.
 use Rattle.std.specs.Prelude.{◌≡◌, ◌≤◌, ◌<◌, ◌*◌, ◌==◌, if◌then◌else◌, ℕ, zero, suc, List, [], ◌∷◌, ◌++◌, map, length, Option, Some, None, All}
-use Rattle.pc_common.specs.Case.{Value, Touch, Case}
-use Rattle.pc_common.specs.declared.fault.FaultKind.TheVariants.{TooManyRows}
+use Rattle.pc_common.specs.{Case.{Value, Touch, Case}, declared.fault.FaultKind.TheVariants.{TooManyRows}}
 use Rattle.pc_case.specs.Plain.{plain_value}
-use Rattle.litmus_reader.specs.Lists.{case_by, AreLists}
-use Rattle.litmus_reader.specs.declared.lists.CaseLists.{CaseLists}
-use Rattle.litmus_reader.specs.declared.fault.CaseFault.{CaseFault}
-use Rattle.litmus_reader.specs.declared.fault.CaseFault.TheVariants.{Content}
-use Rattle.pattern_reader.specs.declared.opens.Open.{Open}
-use Rattle.pattern_reader.specs.declared.rows.OpenRead.{OpenRead}
-use Rattle.pattern_reader.specs.declared.pattern.TheConstants.{MAX_ROWS}
+use Rattle.litmus_reader.specs.{Lists.{case_by, AreLists}, declared.{lists.CaseLists.{CaseLists}, fault.CaseFault.{CaseFault, TheVariants.{Content}}}}
+use Rattle.pattern_reader.specs.declared.{opens.Open.{Open}, rows.OpenRead.{OpenRead}, pattern.TheConstants.{MAX_ROWS}}
 use Rattle.pattern_reader.specs.Rows.{Pattern, values_of, choices_of, combinations, touch_reading}
 
 abbrev pub values_in : OpenRead → List Value

@@ -1,9 +1,7 @@
 -- What the open reads of a pattern may read, and the case of each row.
 use Rattle.std.specs.Prelude.{ℕ, ◌+◌, ◌*◌, ◌/◌, ◌%◌, ◌==◌, List, [], ◌∷◌, ◌++◌, Option, Some, None, map, length, slice_get, get_or, if◌then◌else◌}
-use Rattle.std.specs.List.{fold, list_any}
-use Rattle.std.specs.Option.{option_map}
-use Rattle.pc_common.specs.Case.{Address, Value, number, Touch, Kind, write, MicroOp, Case}
-use Rattle.pc_common.specs.Addresses.{same_address, same_value, initial_at}
+use Rattle.std.specs.{List.{fold, list_any}, Option.{option_map}}
+use Rattle.pc_common.specs.{Case.{Address, Value, number, Touch, Kind, write, MicroOp, Case}, Addresses.{same_address, same_value, initial_at}}
 
 -- the case with 0 in each open read, and the micro-ops of the open reads, by place in test order
 pub record Pattern : Type 0 where

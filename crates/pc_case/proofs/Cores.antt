@@ -1,10 +1,7 @@
 -- The greatest core of a list, one micro-op at a time from the end.
-use Rattle.std.proofs.Common.{◌≡◌, ℕ, ◌+◌, List, Some, map, drop, ap}
-use Rattle.std.specs.Prelude.{slice_get, max}
-use Rattle.pc_common.specs.Case.{cores_of}
-use Rattle.pc_common.proofs.Places.{drop_at}
-use Rattle.pc_case.specs.declared.op.Op.{Op}
-use Rattle.pc_case.specs.Plain.{micro_op}
+use Rattle.std.{proofs.Common.{◌≡◌, ℕ, ◌+◌, List, Some, map, drop, ap}, specs.Prelude.{slice_get, max}}
+use Rattle.pc_common.{specs.Case.{cores_of}, proofs.Places.{drop_at}}
+use Rattle.pc_case.specs.{declared.op.Op.{Op}, Plain.{micro_op}}
 
 -- the count at i is the greater of the micro-op's there and the count after it
 pub cores_more : (ops : List Op) (i : ℕ) (o : Op) → slice_get ops i ≡ Some o

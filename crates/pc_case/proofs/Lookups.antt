@@ -1,19 +1,10 @@
 -- Sets of names by their length, and kinds by their ends: what one more name changes.
 use Rattle.std.proofs.Common.{◌≡◌, ℕ, Bool, true, false, List, [], ◌∷◌, ◌==◌, ◌&&◌, ◌||◌, Option, Some, None, length, refl, sym, ap, ◌∙◌, true≢false, arith, Vec}
-use Rattle.std.specs.Prelude.{⊤, is_some, cond}
-use Rattle.std.specs.List.{list_any}
-use Rattle.std.specs.Map.{lookup, set_value, IsKeyTest, AreApart, KeepsOthers}
-use Rattle.std.specs.Cmp.Lexicographic.{bytes_decides}
-use Rattle.std.proofs.lemmas.Bool.{eqb-true, eq-eqb, false_from_ne_true}
-use Rattle.std.proofs.lemmas.Bool.Decides.{nat_tests}
-use Rattle.std.proofs.lemmas.Map.Made.{is_some-lookup}
-use Rattle.std.specs.declared.alloc.Global.{Global}
-use Rattle.std.specs.HashMap.{HashMap, keys, get_by, Updates}
-use Rattle.pc_common.specs.Names.{same_name}
-use Rattle.pc_common.proofs.Bools.{or_true, and_false}
-use Rattle.pc_case.specs.declared.dependency.Ends.{Ends}
-use Rattle.pc_case.specs.declared.name_set.NameSet.{NameSet}
-use Rattle.pc_case.specs.NameSets.{is_known, has_name}
+use Rattle.std.{proofs.lemmas.{Bool.{eqb-true, eq-eqb, false_from_ne_true, Decides.{nat_tests}}, Map.Made.{is_some-lookup}}, specs.Prelude.{⊤, is_some, cond}}
+use Rattle.std.specs.{List.{list_any}, Map.{lookup, set_value, IsKeyTest, AreApart, KeepsOthers}, Cmp.Lexicographic.{bytes_decides}}
+use Rattle.std.specs.{declared.alloc.Global.{Global}, HashMap.{HashMap, keys, get_by, Updates}}
+use Rattle.pc_common.{specs.Names.{same_name}, proofs.Bools.{or_true, and_false}}
+use Rattle.pc_case.specs.{declared.{dependency.Ends.{Ends}, name_set.NameSet.{NameSet}}, NameSets.{is_known, has_name}}
 use Rattle.pc_case.specs.Tables.{are_ends, has_kind, goes_between}
 
 pub none_some : {X : Type 0} {x : X} → None ≡ Some x → ⊥

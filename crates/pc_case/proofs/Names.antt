@@ -1,15 +1,10 @@
 -- A micro-op's place by its name.
 use Rattle.std.proofs.Common.{◌≡◌, ℕ, ◌+◌, ◌<◌, List, Some, Bool, true, false, ◌==◌, ◌&&◌, map, length, get_or, ap, ◌∙◌, refl, sym, true≢false}
-use borrow.Author.Count.{below_more}
-use Rattle.std.specs.Prelude.{slice_get}
-use Rattle.std.specs.Option.{option_map}
-use Rattle.std.proofs.lemmas.Option.{slice_get-map, slice_get-get_or, slice_get_within}
-use Rattle.std.proofs.lemmas.Bool.{eqb-true, eq-eqb}
-use Rattle.std.proofs.lemmas.List.{length-map}
+use Rattle.std.proofs.lemmas.{Option.{slice_get-map, slice_get-get_or, slice_get_within}, Bool.{eqb-true, eq-eqb}, List.{length-map}}
+use Rattle.std.specs.{Prelude.{slice_get}, Option.{option_map}}
 use Rattle.pc_common.specs.Case.{MicroOp}
-use Rattle.pc_case.specs.declared.op.Op.{Op}
-use Rattle.pc_case.specs.Plain.{micro_op}
-use Rattle.pc_case.specs.MicroOps.{IsNamed}
+use Rattle.pc_case.specs.{declared.op.Op.{Op}, Plain.{micro_op}, MicroOps.{IsNamed}}
+use borrow.Author.Count.{below_more}
 
 -- the micro-op that stands at a place
 pub stands_at : (ops items : List Op) (plain : List MicroOp) (i : ℕ) (o : Op) → map micro_op ops ≡ plain → items ≡ ops → i < length items

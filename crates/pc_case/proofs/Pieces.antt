@@ -1,15 +1,9 @@
 -- Lists that stand one after another in one list: one more of them, and the one at a place.
 use Rattle.std.proofs.Common.{◌≡◌, ◌≤◌, ◌<◌, ◌+◌, ◌-◌, ◌++◌, ◌∷◌, [], ◌||◌, ◌∙◌, Bool, false, sym, ap, refl, ℕ, zero, suc, List, Some, length, get_or, take, drop, arith}
-use Rattle.std.specs.Prelude.{slice_get}
-use Rattle.std.specs.List.{list_any}
-use Rattle.std.proofs.lemmas.List.{take-append-le, drop-append-le, take_all, take_more, drop_at, length-drop, length-append}
-use Rattle.std.proofs.lemmas.List.Folds.{list_any-append}
-use Rattle.std.proofs.lemmas.Option.{get_or_from_slice_get, slice_get_within}
+use Rattle.std.proofs.lemmas.List.{take-append-le, drop-append-le, take_all, take_more, drop_at, length-drop, length-append, Folds.{list_any-append}}
+use Rattle.std.{proofs.lemmas.Option.{get_or_from_slice_get, slice_get_within}, specs.{Prelude.{slice_get}, List.{list_any}}}
 use Rattle.pc_common.specs.Names.{same_name}
-use Rattle.pc_case.specs.declared.name_set.NameSet.{NameSet}
-use Rattle.pc_case.specs.NameSets.{has_name, AreNamesOf}
-use Rattle.pc_case.specs.Cuts.{cuts, Rises}
-use Rattle.pc_case.proofs.Lookups.{or_false}
+use Rattle.pc_case.{specs.{declared.name_set.NameSet.{NameSet}, NameSets.{has_name, AreNamesOf}, Cuts.{cuts, Rises}}, proofs.Lookups.{or_false}}
 
 pub length-cuts : (bytes : List ℕ) (from : ℕ) (ends : List ℕ) → length (cuts bytes from ends) ≡ length ends
 unfolding cuts

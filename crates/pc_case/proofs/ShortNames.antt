@@ -1,16 +1,10 @@
 -- Short names as keys of one length, and what one more name changes in a set of short and long ones.
 use Rattle.std.proofs.Common.{◌≡◌, ℕ, ◌+◌, ◌-◌, ◌≤◌, nat_le, ◌&&◌, ◌||◌, Bool, true, false, List, [], ◌∷◌, ◌++◌, Some, None, length, set, take, drop, replicate, get_or, refl, sym, ap, ◌∙◌, true≢false, arith, if◌then◌else◌}
-use Rattle.std.specs.Prelude.{is_some}
-use Rattle.std.specs.Map.{lookup}
-use Rattle.std.specs.Cmp.Lexicographic.{bytes_decides}
 use Rattle.std.proofs.lemmas.Bool.{leb-true, false_from_ne_true}
 use Rattle.std.proofs.lemmas.List.{take-append-le, take_all, length-append, length-replicate, drop-replicate, replicate_more, append_assoc}
-use Rattle.std.proofs.lemmas.Map.Made.{is_some-lookup}
-use Rattle.std.specs.HashMap.{Updates}
+use Rattle.std.{proofs.lemmas.Map.Made.{is_some-lookup}, specs.{Prelude.{is_some}, Map.{lookup}, Cmp.Lexicographic.{bytes_decides}, HashMap.{Updates}}}
 use Rattle.pc_common.specs.Names.{same_name}
-use Rattle.pc_case.specs.declared.name_set.NameSet.{NameSet}
-use Rattle.pc_case.specs.NameSets.{padded, is_short, has_long, has_name}
-use Rattle.pc_case.proofs.Lookups.{or_false, key_put}
+use Rattle.pc_case.{specs.{declared.name_set.NameSet.{NameSet}, NameSets.{padded, is_short, has_long, has_name}}, proofs.Lookups.{or_false, key_put}}
 
 -- the last of a list is written
 put_last : (xs : List ℕ) (x y : ℕ) → set (xs ++ x ∷ []) (length xs) y ≡ xs ++ y ∷ []

@@ -1,23 +1,12 @@
 -- Values by address: what a look-up finds, and one more line.
 use Rattle.std.proofs.Common.{◌≡◌, ℕ, ◌+◌, ◌<◌, Bool, true, false, List, [], ◌∷◌, ◌++◌, ◌==◌, ◌&&◌, Option, Some, None, map, take, cond, if◌then◌else◌, refl, sym, ap, ◌∙◌, length, get_or, true≢false, arith, suc, zero}
-use Rattle.std.specs.Prelude.{slice_get}
-use Rattle.std.proofs.lemmas.List.{take_more, map-append}
-use Rattle.std.proofs.lemmas.Bool.{eqb-true}
-use Rattle.std.proofs.lemmas.Option.{slice_get-map, slice_get-get_or}
-use Rattle.std.specs.Option.{option_map}
-use Rattle.std.specs.Map.{lookup}
-use Rattle.std.specs.HashMap.{HashMap, Updates}
-use Rattle.pc_common.specs.Case.{PageAt, Address as PlainAddress, page, entry_of, Value as PlainValue}
-use Rattle.pc_common.specs.declared.value.Value.{Value}
-use Rattle.pc_case.specs.declared.address.Address.{Address}
-use Rattle.pc_case.specs.declared.address.Address.TheVariants.{Page, Entry}
-use Rattle.pc_case.specs.declared.stated.Stated.{Stated}
-use Rattle.pc_case.specs.contracts.address.AddressPartialEq.TheImpl.{eq-value as address_eq}
-use Rattle.pc_case.specs.Plain.{address_at, plain_value, stated_value}
+use Rattle.std.{proofs.lemmas.{List.{take_more, map-append}, Bool.{eqb-true}, Option.{slice_get-map, slice_get-get_or}}, specs.Prelude.{slice_get}}
+use Rattle.std.specs.{Option.{option_map}, Map.{lookup}, HashMap.{HashMap, Updates}}
+use Rattle.pc_common.specs.{Case.{PageAt, Address as PlainAddress, page, entry_of, Value as PlainValue}, declared.value.Value.{Value}}
 use Rattle.pc_common.specs.Addresses.{same_page, same_address, stated_at}
-use Rattle.pc_case.specs.Stated.{IsStatedOnce}
-use Rattle.pc_case.specs.Tables.{AreValuesOf}
-use Rattle.pc_case.proofs.Lookups.{none_some, eqb_flip}
+use Rattle.pc_case.specs.declared.{address.Address.{Address, TheVariants.{Page, Entry}}, stated.Stated.{Stated}}
+use Rattle.pc_case.specs.{contracts.address.AddressPartialEq.TheImpl.{eq-value as address_eq}, Plain.{address_at, plain_value, stated_value}}
+use Rattle.pc_case.{specs.{Stated.{IsStatedOnce}, Tables.{AreValuesOf}}, proofs.Lookups.{none_some, eqb_flip}}
 
 -- what `==` says of two addresses
 abbrev Same : (Address → Address → Bool) → Type 0

@@ -1,7 +1,6 @@
 -- What holds of the micro-ops of a test.
 use Rattle.std.specs.Prelude.{ℕ, ◌≡◌, ◌+◌, ◌<◌, ◌≤◌, ◌↔◌, List, Some, length, slice_get, IsNone}
-use Rattle.pc_common.specs.Case.{MicroOp, fence}
-use Rattle.pc_common.specs.declared.limits.TheConstants.{MAX_CORE, MAX_OPS}
+use Rattle.pc_common.specs.{Case.{MicroOp, fence}, declared.limits.TheConstants.{MAX_CORE, MAX_OPS}}
 
 pub record AreMicroOps (ops : List MicroOp) : Type 0 where
   pub few : length ops ≤ MAX_OPS

@@ -1,12 +1,8 @@
 -- When a set of names has a name.
 use Rattle.std.specs.Prelude.{ℕ, ◌≡◌, ⊤, Bool, false, List, [], ◌∷◌, ◌++◌, ◌-◌, Some, None, ◌==◌, nat_le, if◌then◌else◌, length, replicate, Vec}
-use Rattle.std.specs.List.{list_any}
-use Rattle.std.specs.Map.{lookup}
-use Rattle.std.specs.declared.alloc.Global.{Global}
-use Rattle.std.specs.HashMap.{HashMap, keys}
+use Rattle.std.specs.{List.{list_any}, Map.{lookup}, declared.alloc.Global.{Global}, HashMap.{HashMap, keys}}
 use Rattle.pc_common.specs.Names.{same_name}
-use Rattle.pc_case.specs.declared.long_names.LongNames.{LongNames}
-use Rattle.pc_case.specs.declared.name_set.NameSet.{NameSet}
+use Rattle.pc_case.specs.declared.{long_names.LongNames.{LongNames}, name_set.NameSet.{NameSet}}
 
 -- one of these names is this one
 abbrev pub is_known : {S : Type 0} → HashMap (Vec ℕ Global) ⊤ S → List ℕ → Bool

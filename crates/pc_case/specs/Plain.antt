@@ -1,19 +1,10 @@
 -- What the code's micro-ops, dependencies, stated values and expectations are as plain data.
 use Rattle.std.specs.Prelude.{List, map, Option, Some, None}
 use Rattle.pc_common.specs.Case.{Case, PageAt, Address as PlainAddress, page, entry_of, Value as PlainValue, number, entry, Touch, Kind, read, write, fence, MicroOp, Dependency as PlainDependency, Expectation, permitted, forbidden, unstated}
-use Rattle.pc_common.specs.declared.value.Value.{Value}
-use Rattle.pc_common.specs.declared.value.Value.TheVariants.{Number, Entry as EntryValue}
-use Rattle.pc_case.specs.declared.address.Page.{Page}
-use Rattle.pc_case.specs.declared.address.Address.{Address}
-use Rattle.pc_case.specs.declared.address.Address.TheVariants.{Page as PageAddress, Entry as EntryAddress}
-use Rattle.pc_case.specs.declared.op.Memop.{Memop}
-use Rattle.pc_case.specs.declared.op.Access.{Access}
-use Rattle.pc_case.specs.declared.op.Access.TheVariants.{Read, Write, Fence}
-use Rattle.pc_case.specs.declared.op.Op.{Op}
-use Rattle.pc_case.specs.declared.dependency.Dependency.{Dependency}
-use Rattle.pc_case.specs.declared.stated.Stated.{Stated}
-use Rattle.pc_case.specs.declared.case.Expect.{Expect}
-use Rattle.pc_case.specs.declared.case.Expect.TheVariants.{Permitted, Forbidden, Unstated}
+use Rattle.pc_common.specs.declared.value.Value.{Value, TheVariants.{Number, Entry as EntryValue}}
+use Rattle.pc_case.specs.declared.{address.{Page.{Page}, Address.{Address, TheVariants.{Page as PageAddress, Entry as EntryAddress}}}, op.Memop.{Memop}}
+use Rattle.pc_case.specs.declared.{op.{Access.{Access, TheVariants.{Read, Write, Fence}}, Op.{Op}}, dependency.Dependency.{Dependency}, stated.Stated.{Stated}}
+use Rattle.pc_case.specs.declared.case.Expect.{Expect, TheVariants.{Permitted, Forbidden, Unstated}}
 
 abbrev pub page_at : Page → PageAt
 page_at p = record { tag = p.tag; index = p.index }

@@ -1,16 +1,8 @@
 -- What the tables of a case hold, as plain data.
-use Rattle.std.specs.Prelude.{ℕ, ◌≡◌, Bool, false, List, Some, None, ◌==◌, ◌&&◌}
-use Rattle.std.specs.Option.{option_map}
-use Rattle.std.specs.Map.{lookup}
-use Rattle.pc_common.specs.declared.value.Value.{Value}
-use Rattle.pc_common.specs.Case.{Address as PlainAddress, Value as PlainValue, Dependency}
-use Rattle.pc_common.specs.Names.{same_name}
-use Rattle.pc_common.specs.Addresses.{same_address, stated_at}
-use Rattle.pc_common.specs.Dependencies.{depends_by}
-use Rattle.pc_case.specs.declared.address.Address.{Address}
-use Rattle.pc_case.specs.declared.dependency.Ends.{Ends}
-use Rattle.pc_case.specs.declared.name_set.NameSet.{NameSet}
-use Rattle.pc_case.specs.NameSets.{has_name}
+use Rattle.std.specs.{Prelude.{ℕ, ◌≡◌, Bool, false, List, Some, None, ◌==◌, ◌&&◌}, Option.{option_map}, Map.{lookup}}
+use Rattle.pc_common.specs.{declared.value.Value.{Value}, Case.{Address as PlainAddress, Value as PlainValue, Dependency}, Names.{same_name}}
+use Rattle.pc_common.specs.{Addresses.{same_address, stated_at}, Dependencies.{depends_by}}
+use Rattle.pc_case.specs.{declared.{address.Address.{Address}, dependency.Ends.{Ends}, name_set.NameSet.{NameSet}}, NameSets.{has_name}}
 use Rattle.pc_case.specs.Plain.{address_at, plain_value}
 
 -- the value at an address is the one that the list states for it

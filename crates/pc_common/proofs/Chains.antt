@@ -1,6 +1,5 @@
 -- Chains joined end to end, chains of a wider relation, and chains once a step is added.
-use Rattle.std.proofs.Common.{◌≡◌, ◌⊎◌, inl, inr, List, [], ◌∷◌, ◌++◌, refl, sym, subst}
-use Rattle.std.specs.Prelude.{◌↔◌}
+use Rattle.std.{proofs.Common.{◌≡◌, ◌⊎◌, inl, inr, List, [], ◌∷◌, ◌++◌, refl, sym, subst}, specs.Prelude.{◌↔◌}}
 use Rattle.pc_common.specs.Chain.{Leads, Chain, Reach}
 
 -- of a wider relation

@@ -1,10 +1,8 @@
 -- Elements of lists by recursion: what maps and flat maps have, and tests of all elements.
 use Rattle.std.proofs.Common.{◌≡◌, ℕ, zero, suc, ◌+◌, ◌<◌, ◌≤◌, ◌⊎◌, inl, inr, Bool, true, List, [], ◌∷◌, ◌++◌, map, length, get_or, refl, sym, ap, subst, arith, ◌∙◌}
-use Rattle.std.specs.Prelude.{Contains}
-use Rattle.std.specs.List.{list_all, list_any, flat_map, range_with_len, filter}
-pub use Rattle.pc_common.specs.Elements.{In}
-use Rattle.std.proofs.lemmas.Bool.{or_left, or_right}
+use Rattle.std.{proofs.lemmas.Bool.{or_left, or_right}, specs.{Prelude.{Contains}, List.{list_all, list_any, flat_map, range_with_len, filter}}}
 use Rattle.pc_common.proofs.Bools.{true_or_false, and_first, and_second, or_second}
+pub use Rattle.pc_common.specs.Elements.{In}
 
 pub in_from_contains : {X : Type 0} (x : X) (xs : List X) → Contains xs x → In x xs
 in_from_contains x xs has = at x xs has.0 has.1 has.2

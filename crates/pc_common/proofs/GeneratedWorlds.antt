@@ -1,13 +1,9 @@
 -- The world that a graph without a cycle generates, over any things that a test tells apart.
-use Rattle.std.proofs.Common.{◌≡◌, ◌⊎◌, inl, inr, Bool, true, List, [], ◌∷◌, ◌++◌, map, refl, sym, ◌∙◌, ap, subst}
-use Rattle.std.specs.Prelude.{Contains, ◌↔◌}
+use Rattle.std.{proofs.Common.{◌≡◌, ◌⊎◌, inl, inr, Bool, true, List, [], ◌∷◌, ◌++◌, map, refl, sym, ◌∙◌, ap, subst}, specs.Prelude.{Contains, ◌↔◌}}
 use Rattle.std.specs.List.{flat_map, filter}
-use Rattle.pc_common.specs.World.{same_node, World, IsWorld}
-use Rattle.pc_common.specs.Chain.{Leads, Chain, Reach, Acyclic}
-use Rattle.pc_common.specs.Generated.{IsListed, HasEnds, IsGenerated}
+use Rattle.pc_common.specs.{World.{same_node, World, IsWorld}, Chain.{Leads, Chain, Reach, Acyclic}, Generated.{IsListed, HasEnds, IsGenerated}}
 use Rattle.pc_common.proofs.Elements.{In, in_from_contains, contains_from_in, in_front, in_back, in_either, in_map, from_map, in_flat, from_flat, in_filter, from_filter}
-use Rattle.pc_common.proofs.Nodes.{same_node-true, same_node-self}
-use Rattle.pc_common.proofs.Chains.{chain_join, chain_with}
+use Rattle.pc_common.proofs.{Nodes.{same_node-true, same_node-self}, Chains.{chain_join, chain_with}}
 
 -- a test of equality, and that it is one
 pub record Tells {N : Type 0} (same : N → N → Bool) : Type 0 where

@@ -1,12 +1,7 @@
 -- The file at a place, where its name is the one that is looked for.
-use Rattle.std.proofs.Common.{◌≡◌, ◌<◌, ◌∙◌, sym, refl, ap, suc, [], Some, true, length, drop, get_or, ℕ, List, ◌∷◌}
-use Rattle.std.specs.Prelude.{slice_get}
-use Rattle.std.specs.Option.{option_map_or}
-use Rattle.std.specs.Str.{bytes_eq}
-use Rattle.std.proofs.Math.Seq.{drop-cons}
-use Rattle.std.proofs.lemmas.Option.{slice_get_read}
-use Rattle.pc_common.specs.Held.{held_bytes, bytes_at}
-use Rattle.pc_common.specs.declared.held.HeldFile.{HeldFile}
+use Rattle.std.proofs.{Common.{◌≡◌, ◌<◌, ◌∙◌, sym, refl, ap, suc, [], Some, true, length, drop, get_or, ℕ, List, ◌∷◌}, Math.Seq.{drop-cons}}
+use Rattle.std.{proofs.lemmas.Option.{slice_get_read}, specs.{Prelude.{slice_get}, Option.{option_map_or}, Str.{bytes_eq}}}
+use Rattle.pc_common.specs.{Held.{held_bytes, bytes_at}, declared.held.HeldFile.{HeldFile}}
 
 pub found_at : (files : List HeldFile) (k : ℕ) (name : List ℕ) (file : HeldFile) →
     k < length files → file ≡ get_or files k file → bytes_eq file.name name ≡ true →

@@ -1,9 +1,7 @@
 -- Nodes and edges are equal exactly where their tests say so, and a world has them exactly where its tests do.
-use Rattle.std.proofs.Common.{◌≡◌, ℕ, true, ◌&&◌, refl, ◌∙◌, ap, subst, nat_eq, eq-eqb, eqb-true}
-use Rattle.std.specs.Prelude.{IsTrue, Contains, ◌↔◌}
+use Rattle.std.{proofs.Common.{◌≡◌, ℕ, true, ◌&&◌, refl, ◌∙◌, ap, subst, nat_eq, eq-eqb, eqb-true}, specs.Prelude.{IsTrue, Contains, ◌↔◌}}
 use Rattle.pc_common.specs.World.{Node, Edge, World, same_node, same_edge, has_node, has_edge}
-use Rattle.pc_common.proofs.Elements.{In, in_from_contains, contains_from_in, any_holds, holds_any}
-use Rattle.pc_common.proofs.Bools.{and_first, and_second}
+use Rattle.pc_common.proofs.{Elements.{In, in_from_contains, contains_from_in, any_holds, holds_any}, Bools.{and_first, and_second}}
 
 abbrev node_with : ℕ → ℕ → ℕ → Node
 node_with o c s = record { op = o; core = c; stage = s }

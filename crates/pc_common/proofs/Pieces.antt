@@ -1,6 +1,5 @@
 -- Several pieces written one after another, as one piece.
-use Rattle.std.proofs.Common.{◌≡◌, ◌+◌, ◌++◌, ◌∙◌, List, ℕ, length, take, arith, ap, sym, append_assoc, length-append}
-use Rattle.std.proofs.lemmas.List.{take-append-le}
+use Rattle.std.proofs.{Common.{◌≡◌, ◌+◌, ◌++◌, ◌∙◌, List, ℕ, length, take, arith, ap, sym, append_assoc, length-append}, lemmas.List.{take-append-le}}
 use Rattle.std.proofs.Math.Seq.{take-append-add}
 use Rattle.pc_common.specs.Pieces.{IsCutShort}
 

@@ -1,9 +1,6 @@
 -- What stands at a place of a list, of more of it and of a part of it.
 use Rattle.std.proofs.Common.{◌≡◌, ℕ, zero, suc, List, [], ◌∷◌, ◌++◌, Some, slice_get, ◌+◌, ◌<◌, length, refl, arith, drop, map, ◌∙◌, ap, take, inl, inr, ◌⊎◌}
-use Rattle.std.proofs.lemmas.List.{drop_more}
-use Rattle.std.proofs.lemmas.Option.{slice_get_within, get_or_from_slice_get}
-use Rattle.std.specs.Prelude.{All, unwrap_or}
-use Rattle.std.proofs.lemmas.List.Elements.{All-contains}
+use Rattle.std.{proofs.lemmas.{List.{drop_more, Elements.{All-contains}}, Option.{slice_get_within, get_or_from_slice_get}}, specs.Prelude.{All, unwrap_or}}
 use Rattle.pc_common.proofs.Elements.{In, contains_from_in}
 
 pub slice_get-more : {A : Type 0} (xs ys : List A) (k : ℕ) (x : A) → slice_get xs k ≡ Some x → slice_get (xs ++ ys) k ≡ Some x

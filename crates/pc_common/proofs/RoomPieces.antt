@@ -1,15 +1,8 @@
 -- Pieces put into a room one after another, as one text.
 use Rattle.std.proofs.Common.{◌≡◌, ℕ, ◌+◌, ◌<◌, List, ◌∷◌, ◌++◌, Result, length, get_or, take, drop, refl, sym, ◌∙◌, ap}
-use Rattle.std.specs.Prelude.{IsOk, IsErr}
-use Rattle.std.specs.List.{flat_map}
-use Rattle.std.proofs.lemmas.List.{take-append-drop, drop_more, append-nil}
-use Rattle.std.proofs.lemmas.List.Concat.{flat_map-append}
-use Rattle.pc_common.specs.Outside.{SinkView}
-use Rattle.pc_common.specs.Writes.{success}
-use Rattle.pc_common.specs.Room.{Puts}
-use Rattle.pc_common.specs.declared.room.Room.{Room}
-use Rattle.pc_common.proofs.Rooms.{puts_then, puts_stop, puts_nothing, puts_text}
-use Rattle.pc_common.proofs.Writes.{flat_more}
+use Rattle.std.{proofs.lemmas.List.{take-append-drop, drop_more, append-nil, Concat.{flat_map-append}}, specs.{Prelude.{IsOk, IsErr}, List.{flat_map}}}
+use Rattle.pc_common.specs.{Outside.{SinkView}, Writes.{success}, Room.{Puts}, declared.room.Room.{Room}}
+use Rattle.pc_common.proofs.{Rooms.{puts_then, puts_stop, puts_nothing, puts_text}, Writes.{flat_more}}
 
 flat_split : {X : Type 0} (f : X → List ℕ) (xs : List X) (k : ℕ) (d : X) → k < length xs
     → flat_map f (take k xs) ++ (f (get_or xs k d) ++ flat_map f (drop (k + 1) xs)) ≡ flat_map f xs

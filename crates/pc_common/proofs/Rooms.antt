@@ -1,16 +1,9 @@
 -- Texts put into a room by several calls, and what of them the sink took.
 use Rattle.std.proofs.Common.{◌≡◌, ◌<◌, ◌≤◌, ◌+◌, ◌-◌, ℕ, Bool, List, [], ◌++◌, Result, Ok, Err, length, take, drop, refl, sym, ◌∙◌, ap, subst, arith, append_assoc, length-append}
-use Rattle.std.specs.Prelude.{IsOk, IsErr, IsTrue, OnErr, OnOk}
 use Rattle.std.proofs.lemmas.List.{append_cancel_left, take_at, take-take, take_all, drop_all, length-take-le, length-drop, append-nil}
-use Rattle.std.proofs.Math.Seq.{take-add, take-length}
-use Rattle.pc_common.specs.Faults.{Rose}
-use Rattle.pc_common.specs.Pieces.{IsCutShort}
-use Rattle.pc_common.specs.Outside.{SinkView}
-use Rattle.pc_common.specs.Writes.{Went, Writes, success}
-use Rattle.pc_common.specs.Waiting.{waiting_bytes}
-use Rattle.pc_common.specs.Room.{waits, room_view, Puts, Flushes}
-use Rattle.pc_common.specs.declared.room.Room.{Room}
-use Rattle.pc_common.specs.declared.waiting.Waiting.{Waiting}
+use Rattle.std.{proofs.Math.Seq.{take-add, take-length}, specs.Prelude.{IsOk, IsErr, IsTrue, OnErr, OnOk}}
+use Rattle.pc_common.specs.{Faults.{Rose}, Pieces.{IsCutShort}, Outside.{SinkView}, Writes.{Went, Writes, success}, Waiting.{waiting_bytes}}
+use Rattle.pc_common.specs.{Room.{waits, room_view, Puts, Flushes}, declared.{room.Room.{Room}, waiting.Waiting.{Waiting}}}
 use Rattle.pc_common.proofs.Writes.{writes_then, writes_stop, on_more}
 
 still : (b c : Bool) → c ≡ b → IsTrue b → IsTrue c

@@ -1,14 +1,8 @@
 -- Texts written by several calls, as one text.
 use Rattle.std.proofs.Common.{◌≡◌, ◌<◌, ◌≤◌, ◌+◌, ℕ, Bool, List, [], ◌∷◌, ◌++◌, Result, Ok, Err, length, get_or, take, drop, refl, sym, ◌∙◌, ap, subst, arith, add-one}
-use Rattle.std.specs.Prelude.{IsOk, IsErr, IsTrue, OnErr}
-use Rattle.std.specs.List.{flat_map}
-use Rattle.std.proofs.Math.Seq.{take-suc}
-use Rattle.std.proofs.lemmas.List.{take-append-drop, take_all, append-nil}
-use Rattle.std.proofs.lemmas.List.Concat.{flat_map-append}
-use Rattle.pc_common.specs.Faults.{Rose}
-use Rattle.pc_common.specs.Outside.{SinkView}
-use Rattle.pc_common.specs.Writes.{Went, Writes, success}
-use Rattle.pc_common.proofs.Pieces.{cut_in_first, cut_in_next, both_whole}
+use Rattle.std.proofs.{Math.Seq.{take-suc}, lemmas.List.{take-append-drop, take_all, append-nil, Concat.{flat_map-append}}}
+use Rattle.std.specs.{Prelude.{IsOk, IsErr, IsTrue, OnErr}, List.{flat_map}}
+use Rattle.pc_common.{specs.{Faults.{Rose}, Outside.{SinkView}, Writes.{Went, Writes, success}}, proofs.Pieces.{cut_in_first, cut_in_next, both_whole}}
 use Rattle.pc_common.proofs.Rises.{rose_after}
 
 -- all of the first text went out, and then the next call wrote

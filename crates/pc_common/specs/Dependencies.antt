@@ -1,8 +1,6 @@
 -- Whether a dependency of a kind goes from one micro-op to another, by their places in test order.
-use Rattle.std.specs.Prelude.{ℕ, Bool, List, ◌==◌, ◌&&◌}
-use Rattle.std.specs.List.{list_any}
-use Rattle.pc_common.specs.Case.{Dependency}
-use Rattle.pc_common.specs.Names.{same_name}
+use Rattle.std.specs.{Prelude.{ℕ, Bool, List, ◌==◌, ◌&&◌}, List.{list_any}}
+use Rattle.pc_common.specs.{Case.{Dependency}, Names.{same_name}}
 
 -- d says that a dependency of this kind goes from i to j
 abbrev pub says : Dependency → List ℕ → ℕ → ℕ → Bool

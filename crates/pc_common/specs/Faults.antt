@@ -1,6 +1,5 @@
 -- Counts of calls and faults, which stay at the greatest u64.
-use Rattle.std.specs.Prelude.{◌≢◌, ◌<◌, ◌+◌, ◌==◌, min, ℕ, Bool, true, false, List, [], ◌∷◌}
-use Rattle.std.specs.List.{list_any}
+use Rattle.std.specs.{Prelude.{◌≢◌, ◌<◌, ◌+◌, ◌==◌, min, ℕ, Bool, true, false, List, [], ◌∷◌}, List.{list_any}}
 
 -- a count rose in a call, or stands at its greatest when the call ends
 abbrev pub Rose : ℕ → ℕ → Type 0

@@ -1,7 +1,6 @@
 -- The world that a graph generates: its nodes, with all pairs that a chain of its edges joins.
 use Rattle.std.specs.Prelude.{◌≡◌, ◌↔◌, List, Contains}
-use Rattle.pc_common.specs.World.{World}
-use Rattle.pc_common.specs.Chain.{Chain}
+use Rattle.pc_common.specs.{World.{World}, Chain.{Chain}}
 
 -- the edge from a to b is listed
 abbrev pub IsListed : {N : Type 0} → List (N × N) → N → N → Type 0

@@ -1,6 +1,5 @@
 -- Files kept in memory, the first of two equal names counting.
-use Rattle.std.specs.Prelude.{ℕ, ◌≡◌, List, [], ◌∷◌, Option, Some, None, if◌then◌else◌, slice_get, unwrap_or, MatchOption}
-use Rattle.std.specs.Option.{option_map_or}
+use Rattle.std.specs.{Prelude.{ℕ, ◌≡◌, List, [], ◌∷◌, Option, Some, None, if◌then◌else◌, slice_get, unwrap_or, MatchOption}, Option.{option_map_or}}
 use Rattle.std.specs.Str.{bytes_eq}
 use Rattle.pc_common.specs.declared.held.HeldFile.{HeldFile}
 

@@ -1,6 +1,5 @@
 -- Line and column of a place in a file, both from 1.
-use Rattle.std.specs.Prelude.{ℕ, List, ◌+◌, ◌==◌, take, count_by, not}
-use Rattle.std.specs.List.{suffix_len}
+use Rattle.std.specs.{Prelude.{ℕ, List, ◌+◌, ◌==◌, take, count_by, not}, List.{suffix_len}}
 
 -- one more than the LF bytes before the place
 abbrev pub line_of : List ℕ → ℕ → ℕ

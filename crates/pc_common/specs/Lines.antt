@@ -1,9 +1,7 @@
 -- The lines of a certificate, over plain nodes, and the text of each.
-use Rattle.std.specs.Prelude.{ℕ, Bool, true, false, List, [], ◌∷◌, ◌++◌, Option, Some, None, codes, slice_get, ◌==◌, if◌then◌else◌}
-use Rattle.std.specs.List.{flat_map}
+use Rattle.std.specs.{Prelude.{ℕ, Bool, true, false, List, [], ◌∷◌, ◌++◌, Option, Some, None, codes, slice_get, ◌==◌, if◌then◌else◌}, List.{flat_map}}
 use Rattle.std.specs.Fmt.{decimal}
-use Rattle.pc_common.specs.Case.{MicroOp, Expectation, permitted, forbidden, unstated}
-use Rattle.pc_common.specs.World.{Node}
+use Rattle.pc_common.specs.{Case.{MicroOp, Expectation, permitted, forbidden, unstated}, World.{Node}}
 use Rattle.pc_common.specs.Steps.{Leaf, cycle, path, absent, false_step, Step, split, close}
 
 pub data Verdict : Type 0 where

@@ -1,10 +1,6 @@
 -- What waits in a room in front of a sink, and what a call that puts a text into it keeps.
 use Rattle.std.specs.Prelude.{◌≡◌, ◌<◌, ℕ, List, [], Result, ◌++◌, length, OnOk, OnErr, IsTrue}
-use Rattle.pc_common.specs.Faults.{Rose}
-use Rattle.pc_common.specs.Outside.{SinkView}
-use Rattle.pc_common.specs.Waiting.{waiting_bytes}
-use Rattle.pc_common.specs.Writes.{Writes, success}
-use Rattle.pc_common.specs.declared.room.Room.{Room}
+use Rattle.pc_common.specs.{Faults.{Rose}, Outside.{SinkView}, Waiting.{waiting_bytes}, Writes.{Writes, success}, declared.room.Room.{Room}}
 
 -- the bytes that were put and did not go out
 abbrev pub waits : {K : Type 0} → Room K → List ℕ

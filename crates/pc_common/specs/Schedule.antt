@@ -1,7 +1,6 @@
 -- What a call makes of an object's counts, and whether it is to fail.
 use Rattle.std.specs.Prelude.{Bool, if◌then◌else◌}
-use Rattle.pc_common.specs.Faults.{is_listed, one_more}
-use Rattle.pc_common.specs.declared.schedule.Schedule.{Schedule}
+use Rattle.pc_common.specs.{Faults.{is_listed, one_more}, declared.schedule.Schedule.{Schedule}}
 
 -- the next call is among those that fail
 abbrev pub is_next_listed : Schedule → Bool

@@ -1,8 +1,5 @@
 -- The items of a shared list.
-use Rattle.std.specs.Prelude.{List, [], Option, Some, None}
-use Rattle.std.specs.declared.alloc.Global.{Global}
-use Rattle.std.specs.declared.rc.RcSlice.{RcSlice}
-use Rattle.std.specs.Rc.{rc_slice_items}
+use Rattle.std.specs.{Prelude.{List, [], Option, Some, None}, declared.{alloc.Global.{Global}, rc.RcSlice.{RcSlice}}, Rc.{rc_slice_items}}
 
 -- none of an empty list is kept
 abbrev pub owned_items : {T : Type 0} → Option (RcSlice T Global) → List T

@@ -1,6 +1,5 @@
 -- A node is a micro-op at a stage of a core; a world is finitely many nodes with a strict order.
-use Rattle.std.specs.Prelude.{ℕ, Bool, List, ◌&&◌, ◌==◌, Contains}
-use Rattle.std.specs.List.{list_any}
+use Rattle.std.specs.{Prelude.{ℕ, Bool, List, ◌&&◌, ◌==◌, Contains}, List.{list_any}}
 
 -- micro-op (its place in test order, from 0), core (0 to 63), stage (its number)
 pub record Node : Type 0 where

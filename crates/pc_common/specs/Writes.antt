@@ -1,8 +1,6 @@
 -- What a call that writes a text keeps of a sink, and how much of the text went out.
 use Rattle.std.specs.Prelude.{◌≡◌, ◌≤◌, ◌++◌, ℕ, List, Result, Ok, Err, OnErr, IsTrue}
-use Rattle.pc_common.specs.Outside.{SinkView}
-use Rattle.pc_common.specs.Faults.{Rose}
-use Rattle.pc_common.specs.Pieces.{IsCutShort}
+use Rattle.pc_common.specs.{Outside.{SinkView}, Faults.{Rose}, Pieces.{IsCutShort}}
 
 -- all of the text stands after what was there, or, where a call failed, its first bytes
 abbrev pub Went : {T E : Type 0} → Result T E → List ℕ → List ℕ → List ℕ → Type 0

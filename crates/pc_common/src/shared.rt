@@ -42,7 +42,7 @@ impl<T> Shared<T> {
     }
 
     /// The items of a list, which are moved and not copied.
-    pub fn of(items: Listed<T>) -> Result<Shared<T>, Memory>
+    pub fn from_listed(items: Listed<T>) -> Result<Shared<T>, Memory>
     where
         T: Drop,
         ensures { IfOk result (λ shared. shared ≡ items) }
@@ -109,7 +109,7 @@ impl<T> Shared<T> {
             items.push(y.clone()?)?;
         }
         items.push(x)?;
-        *self = Shared::of(items)?;
+        *self = Shared::from_listed(items)?;
         Ok(())
     }
 }

@@ -1,41 +1,21 @@
 -- What a whole model's stages, expansions and closings say of the model.
 use Rattle.std.proofs.Common.{◌≡◌, ℕ, ◌<◌, zero, suc, ◌&&◌, List, [], ◌∷◌, ◌++◌, Option, Some, None, map, length, get_or, nat_lt, ltb-false, refl, sym, ◌∙◌, ap, subst, arith}
-use Rattle.std.specs.Option.{option_or}
-use Rattle.std.specs.Prelude.{MatchOption}
-use Rattle.pc_common.specs.Case.{Case}
-use Rattle.pc_common.specs.World.{Node, World}
-use Rattle.pc_syntax.specs.declared.model.StageItem.{StageItem}
-use Rattle.pc_syntax.specs.declared.expanded.Expanded.{Expanded}
-use Rattle.pc_syntax.specs.Written.{Written, written, WrittenModel}
-use Rattle.pc_syntax.specs.Fault.{Fault, first_fault}
-use Rattle.pc_syntax.specs.StageFaults.{number_fault, number_again, name_again, stage_fault, stages_fault, first_stage_fault}
-use Rattle.pc_syntax.specs.MacroFaults.{first_macro_fault}
-use Rattle.pc_syntax.specs.Sizes.{first_size_fault}
-use Rattle.pc_syntax.specs.NameFaults.{name_fault, first_name_fault}
-use Rattle.pc_syntax.specs.ModelFault.{first_model_fault}
-use Rattle.pc_syntax.specs.Observable.{axioms_of, macros_of, setting, satisfies}
-use Rattle.pc_syntax.specs.Truth.{are_true}
-use Rattle.pc_syntax.specs.Expansion.{expansion_of}
-use Rattle.pc_syntax.specs.Closed.{closed_satisfies}
-use Rattle.pc_syntax.specs.Closing.{closing_of}
-use Rattle.pc_syntax.proofs.ExpansionLaws.{expansion_true, expansion_faults}
-use Rattle.pc_syntax.proofs.ClosingTruth.{closing_true}
-use Rattle.pc_syntax.proofs.NoFault.{none_first, none_second, none_where}
-use Rattle.uspec_lexer.specs.Fault.{IsLexicalRefusal}
-use Rattle.uspec_lexer.specs.declared.fault.LexFault.{LexFault}
-use Rattle.uspec_lexer.specs.declared.fault.LexFault.TheVariants.{Lexical as a_lexical_fault, Memory as no_memory}
-use Rattle.uspec_lexer.specs.Token.{Token}
-use Rattle.uspec_lexer.specs.Spells.{Spells}
-use Rattle.uspec_parser.specs.Marks.{IsMarkedModel}
-use Rattle.uspec_parser.specs.Answers.{terminals, IsParseRefusal}
-use Rattle.uspec_parser.specs.declared.fault.ParseFault.{ParseFault}
+use Rattle.std.specs.{Option.{option_or}, Prelude.{MatchOption}}
+use Rattle.pc_common.specs.{Case.{Case}, World.{Node, World}}
+use Rattle.pc_syntax.specs.{declared.{model.StageItem.{StageItem}, expanded.Expanded.{Expanded}}, Written.{Written, written, WrittenModel}}
+use Rattle.pc_syntax.specs.{Fault.{Fault, first_fault}, StageFaults.{number_fault, number_again, name_again, stage_fault, stages_fault, first_stage_fault}}
+use Rattle.pc_syntax.specs.{MacroFaults.{first_macro_fault}, Sizes.{first_size_fault}, NameFaults.{name_fault, first_name_fault}}
+use Rattle.pc_syntax.specs.{ModelFault.{first_model_fault}, Observable.{axioms_of, macros_of, setting, satisfies}, Truth.{are_true}, Expansion.{expansion_of}}
+use Rattle.pc_syntax.{specs.{Closed.{closed_satisfies}, Closing.{closing_of}}, proofs.ExpansionLaws.{expansion_true, expansion_faults}}
+use Rattle.pc_syntax.proofs.{ClosingTruth.{closing_true}, NoFault.{none_first, none_second, none_where}}
+use Rattle.uspec_lexer.specs.{Fault.{IsLexicalRefusal}, declared.fault.LexFault.{LexFault, TheVariants.{Lexical as a_lexical_fault, Memory as no_memory}}}
+use Rattle.uspec_lexer.specs.{Token.{Token}, Spells.{Spells}}
+use Rattle.uspec_parser.specs.{Marks.{IsMarkedModel}, Answers.{terminals, IsParseRefusal}, declared.fault.ParseFault.{ParseFault}}
 use Rattle.uspec_parser.specs.declared.fault.ParseFault.TheVariants.{Syntax as a_syntax_fault, Depth as a_depth_fault, Memory as no_memory_to_parse}
 use Rattle.macro_expand.specs.Faults.{AreExpansions}
 use Rattle.scope_check.specs.FirstFault.{IsNoneOr}
-use Rattle.pc_front.specs.ModelFront.{ModelOf, lexical, syntax, depth, of_tree, closed_axiom, IsModelEnd}
-use Rattle.pc_front.specs.Ends.{end_of, lexical_end, parse_end}
-use Rattle.pc_front.specs.ModelSteps.{axiom_fault, closing_of_axiom, IsFirstEnd}
-use Rattle.pc_front.specs.declared.model_front.FrontEnd.{FrontEnd}
+use Rattle.pc_front.specs.{ModelFront.{ModelOf, lexical, syntax, depth, of_tree, closed_axiom, IsModelEnd}, Ends.{end_of, lexical_end, parse_end}}
+use Rattle.pc_front.specs.{ModelSteps.{axiom_fault, closing_of_axiom, IsFirstEnd}, declared.model_front.FrontEnd.{FrontEnd}}
 
 -- a stage that is not refused has a number of one byte
 numbers_below : (earlier stages : List StageItem) (k : ℕ) (s : StageItem) → stages_fault earlier stages ≡ None → k < length stages

@@ -1,22 +1,12 @@
 -- The bytes of a model say one without a fault, or have a first fault.
 use Rattle.std.proofs.Common.{◌≡◌, ℕ, ⊎_elim, inl, inr, List, Option, Some, None, refl}
 use Rattle.pc_common.specs.declared.fault.FaultKind.TheVariants.{Lexical, Syntax, Depth}
-use Rattle.ll_grammar.specs.FirstFault.{IsAnswer}
-use Rattle.ll_grammar.specs.declared.fault.Fault.{Fault as TokenFault}
-use Rattle.ll_grammar.specs.declared.fault.Fault.TheVariants.{Syntax as a_syntax_fault, Depth as a_depth_fault}
-use Rattle.uspec_lexer.specs.Token.{Token, token_place}
-use Rattle.uspec_lexer.specs.Spells.{Spells}
-use Rattle.uspec_lexer.proofs.Totality.{spells-or_fault}
-use Rattle.uspec_parser.specs.declared.level.TheConstants.{MAX_OPENERS}
-use Rattle.uspec_parser.specs.Marks.{IsMarkedModel}
-use Rattle.uspec_parser.specs.Answers.{terminals}
-use Rattle.uspec_parser.proofs.Existence.{model_answer}
+use Rattle.ll_grammar.specs.{FirstFault.{IsAnswer}, declared.fault.Fault.{Fault as TokenFault, TheVariants.{Syntax as a_syntax_fault, Depth as a_depth_fault}}}
+use Rattle.uspec_lexer.{specs.{Token.{Token, token_place}, Spells.{Spells}}, proofs.Totality.{spells-or_fault}}
+use Rattle.uspec_parser.{specs.{declared.level.TheConstants.{MAX_OPENERS}, Marks.{IsMarkedModel}, Answers.{terminals}}, proofs.Existence.{model_answer}}
 use Rattle.uspec_parser.proofs.Trees.{text_model}
-use Rattle.pc_syntax.specs.Fault.{Fault}
-use Rattle.pc_syntax.specs.Written.{WrittenModel}
-use Rattle.pc_syntax.specs.ModelFault.{first_model_fault}
-use Rattle.pc_front.specs.ModelFront.{ModelOf, lexical, syntax, depth, of_tree}
-use Rattle.pc_front.specs.Laws.{HasModelOrFault}
+use Rattle.pc_syntax.specs.{Fault.{Fault}, Written.{WrittenModel}, ModelFault.{first_model_fault}}
+use Rattle.pc_front.specs.{ModelFront.{ModelOf, lexical, syntax, depth, of_tree}, Laws.{HasModelOrFault}}
 
 -- of a model that they say
 of_model : (bytes : List ℕ) (m : WrittenModel) → ModelOf bytes m → (found : Option Fault) → first_model_fault m ≡ found → HasModelOrFault bytes

@@ -1,20 +1,11 @@
 -- Bytes are one whole model at most, and none where they have a fault; and they have one first fault at most.
 use Rattle.std.proofs.Common.{◌≡◌, ℕ, List, Some, None, unwrap_or, refl, sym, ◌∙◌, ap, subst}
-use Rattle.pc_common.specs.declared.place.Place.{Place}
-use Rattle.pc_common.specs.declared.fault.FaultKind.{FaultKind}
-use Rattle.ll_grammar.specs.FirstFault.{IsFirstTokenFault}
-use Rattle.ll_grammar.specs.declared.fault.Fault.{Fault as TokenFault}
-use Rattle.ll_grammar.specs.declared.fault.Fault.TheVariants.{Syntax as a_syntax_fault, Depth as a_depth_fault}
-use Rattle.ll_grammar.proofs.Faults.{one_answer}
-use Rattle.uspec_lexer.specs.Token.{Token, token_place}
-use Rattle.uspec_lexer.specs.Spells.{Spells}
-use Rattle.uspec_lexer.proofs.SpellsLaws.{spells-unique, spells-no_fault, lexical_fault-unique}
-use Rattle.uspec_parser.specs.Marks.{IsMarkedModel}
-use Rattle.uspec_parser.specs.Syntax.{DerivesModel}
-use Rattle.uspec_parser.specs.Answers.{terminals}
-use Rattle.uspec_parser.proofs.Trees.{one_model}
-use Rattle.pc_syntax.specs.Written.{WrittenModel}
-use Rattle.pc_syntax.specs.ModelFault.{first_model_fault}
+use Rattle.pc_common.specs.declared.{place.Place.{Place}, fault.FaultKind.{FaultKind}}
+use Rattle.ll_grammar.specs.{FirstFault.{IsFirstTokenFault}, declared.fault.Fault.{Fault as TokenFault}}
+use Rattle.ll_grammar.{specs.declared.fault.Fault.TheVariants.{Syntax as a_syntax_fault, Depth as a_depth_fault}, proofs.Faults.{one_answer}}
+use Rattle.uspec_lexer.{specs.{Token.{Token, token_place}, Spells.{Spells}}, proofs.SpellsLaws.{spells-unique, spells-no_fault, lexical_fault-unique}}
+use Rattle.uspec_parser.{specs.{Marks.{IsMarkedModel}, Syntax.{DerivesModel}, Answers.{terminals}}, proofs.Trees.{one_model}}
+use Rattle.pc_syntax.specs.{Written.{WrittenModel}, ModelFault.{first_model_fault}}
 use Rattle.pc_front.specs.ModelFront.{ModelOf, IsModelFault, lexical, syntax, depth, of_tree}
 
 pub one_whole_model : (bytes : List ℕ) (m n : WrittenModel) → ModelOf bytes m → ModelOf bytes n → m ≡ n

@@ -1,37 +1,18 @@
 -- What a whole model and a case give parts, and parts a front.
-use Rattle.std.proofs.Common.{◌≡◌, ℕ, List, [], ◌∷◌, None, map, refl, sym, ◌∙◌, ap, subst}
-use Rattle.std.specs.Option.{option_or}
-use Rattle.pc_syntax.specs.declared.model.StageItem.{StageItem}
-use Rattle.pc_syntax.specs.Written.{Written, WrittenModel, stage_numbers}
-use Rattle.pc_syntax.specs.Observable.{axioms_of, macros_of}
-use Rattle.pc_syntax.specs.Expansion.{expansion_of}
-use Rattle.pc_syntax.specs.Fault.{first_fault}
-use Rattle.pc_syntax.specs.StageFaults.{first_stage_fault}
-use Rattle.pc_syntax.specs.MacroFaults.{first_macro_fault}
-use Rattle.pc_syntax.specs.Sizes.{first_size_fault}
-use Rattle.pc_syntax.specs.NameFaults.{name_fault, first_name_fault}
-use Rattle.pc_syntax.specs.ModelFault.{first_model_fault}
-use Rattle.pc_syntax.proofs.NoFault.{none_first, none_second}
-use Rattle.pc_syntax.proofs.ClosingStages.{closing_within}
+use Rattle.std.{proofs.Common.{◌≡◌, ℕ, List, [], ◌∷◌, None, map, refl, sym, ◌∙◌, ap, subst}, specs.Option.{option_or}}
+use Rattle.pc_syntax.specs.{declared.model.StageItem.{StageItem}, Written.{Written, WrittenModel, stage_numbers}, Observable.{axioms_of, macros_of}}
+use Rattle.pc_syntax.specs.{Expansion.{expansion_of}, Fault.{first_fault}, StageFaults.{first_stage_fault}, MacroFaults.{first_macro_fault}}
+use Rattle.pc_syntax.specs.{Sizes.{first_size_fault}, NameFaults.{name_fault, first_name_fault}, ModelFault.{first_model_fault}}
+use Rattle.pc_syntax.proofs.{NoFault.{none_first, none_second}, ClosingStages.{closing_within}}
 use Rattle.uspec_parser.proofs.StageNames.{stage_is_named}
-use Rattle.pc_common.specs.Case.{Case}
-use Rattle.pc_common.specs.declared.fault.Which.{Which}
-use Rattle.litmus_reader.specs.Answer.{IsCaseFault}
-use Rattle.litmus_reader.specs.declared.fault.CaseFault.{CaseFault}
+use Rattle.pc_common.specs.{Case.{Case}, declared.fault.Which.{Which}}
+use Rattle.litmus_reader.specs.{Answer.{IsCaseFault}, declared.fault.CaseFault.{CaseFault}}
 use Rattle.litmus_reader.specs.declared.fault.CaseFault.TheVariants.{Lexical as a_lexical_fault, Syntax as a_syntax_fault, Content as a_fault_of_content, Memory as no_room}
-use Rattle.pc_ground.proofs.KeptTrees.{closed_tree}
-use Rattle.pc_ground.specs.declared.parts.Parts.{Parts}
-use Rattle.pc_ground.specs.declared.front.Front.{Front}
-use Rattle.pc_front.specs.declared.model_front.FrontEnd.{FrontEnd}
-use Rattle.pc_front.specs.declared.model_front.FrontEnd.TheVariants.{Refused, Memory}
-use Rattle.pc_front.specs.Front.{SaysModel, IsFirstFrontFault, in_model, in_test, ArePartsOf, IsFrontOf, IsEnd}
-use Rattle.pc_front.specs.Ends.{case_end}
-use Rattle.pc_ground.specs.Rows.{rows_of}
-use Rattle.pc_ground.specs.GroundTree.{closed_ground_tree}
-use Rattle.pc_ground.specs.Stages.{plain_stage, plain_axioms, numbers_of, AreStages, AxiomsWithin}
-use Rattle.pc_front.specs.declared.model_front.ModelFront.{ModelFront}
-use Rattle.pc_front.specs.ModelFront.{ModelOf, written_stage, closed_axiom, IsModelFrontOf, IsModelEnd}
-use Rattle.pc_front.proofs.FrontLaws.{names_expanded}
+use Rattle.pc_ground.{proofs.KeptTrees.{closed_tree}, specs.{declared.{parts.Parts.{Parts}, front.Front.{Front}}, Rows.{rows_of}}}
+use Rattle.pc_ground.specs.{GroundTree.{closed_ground_tree}, Stages.{plain_stage, plain_axioms, numbers_of, AreStages, AxiomsWithin}}
+use Rattle.pc_front.specs.declared.model_front.{FrontEnd.{FrontEnd, TheVariants.{Refused, Memory}}, ModelFront.{ModelFront}}
+use Rattle.pc_front.specs.{Front.{SaysModel, IsFirstFrontFault, in_model, in_test, ArePartsOf, IsFrontOf, IsEnd}, Ends.{case_end}}
+use Rattle.pc_front.{specs.ModelFront.{ModelOf, written_stage, closed_axiom, IsModelFrontOf, IsModelEnd}, proofs.FrontLaws.{names_expanded}}
 use Rattle.pc_front.proofs.StageTables.{are_stages_of}
 
 numbers_same : (ss : List StageItem) → numbers_of (map written_stage ss) ≡ stage_numbers ss

@@ -1,19 +1,11 @@
 -- A model with other names, of which two are one exactly where they were, has the faults and the closed axioms of the model.
-use Rattle.std.proofs.Common.{◌≡◌, List, [], ◌∷◌, map, refl, ◌∙◌, ap}
-use Rattle.std.specs.Option.{option_or}
-use Rattle.pc_syntax.specs.Written.{Written, WrittenModel}
-use Rattle.pc_syntax.specs.Observable.{axioms_of, macros_of}
-use Rattle.pc_syntax.specs.StageFaults.{first_stage_fault}
-use Rattle.pc_syntax.specs.NameFaults.{first_name_fault}
-use Rattle.pc_syntax.specs.ModelFault.{first_model_fault}
-use Rattle.pc_syntax.specs.Expansion.{expansion_of}
-use Rattle.pc_syntax.specs.Closing.{closing_of}
+use Rattle.std.{proofs.Common.{◌≡◌, List, [], ◌∷◌, map, refl, ◌∙◌, ap}, specs.Option.{option_or}}
+use Rattle.pc_syntax.specs.{Written.{Written, WrittenModel}, Observable.{axioms_of, macros_of}, StageFaults.{first_stage_fault}, NameFaults.{first_name_fault}}
+use Rattle.pc_syntax.specs.{ModelFault.{first_model_fault}, Expansion.{expansion_of}, Closing.{closing_of}}
 use Rattle.pc_syntax.specs.Renaming.{Renaming, KeepsApart, renamed, renamed_stage, renamed_model, IsRenamed}
 use Rattle.pc_syntax.proofs.RenamedItems.{axioms_renamed, macros_renamed}
-use Rattle.macro_expand.proofs.RenamedExpansions.{expansion_renamed}
-use Rattle.macro_expand.proofs.RenamedFaults.{stage_faults_renamed, macro_faults_renamed, size_faults_renamed}
-use Rattle.scope_check.proofs.RenamedClosings.{closing_renamed}
-use Rattle.scope_check.proofs.RenamedFaults.{first_fault_renamed}
+use Rattle.macro_expand.proofs.{RenamedExpansions.{expansion_renamed}, RenamedFaults.{stage_faults_renamed, macro_faults_renamed, size_faults_renamed}}
+use Rattle.scope_check.proofs.{RenamedClosings.{closing_renamed}, RenamedFaults.{first_fault_renamed}}
 use Rattle.pc_front.specs.ModelFront.{closed_axiom}
 
 module _ (ρ : Renaming) (apart : KeepsApart ρ) (m : WrittenModel) where

@@ -1,12 +1,8 @@
 -- The stages of a model without stage faults have numbers below 64 and names, and no two have one number or one name.
 use Rattle.std.proofs.Common.{◌≡◌, ℕ, zero, suc, ◌<◌, ◌⊎◌, inl, inr, Bool, true, false, cond, List, [], ◌∷◌, ◌++◌, Option, Some, None, map, slice_get, nat_lt, ltb-false, refl, sym, ◌∙◌, ap, subst, arith}
-use Rattle.std.specs.Prelude.{IsTrue, unwrap_or}
-use Rattle.std.specs.Option.{option_or, option_map}
-use Rattle.std.proofs.lemmas.Bool.{eq-eqb}
-use Rattle.pc_common.specs.Lines.{StageName}
-use Rattle.pc_syntax.specs.declared.model.StageItem.{StageItem}
-use Rattle.pc_common.specs.Names.{same_name}
-use Rattle.pc_syntax.specs.Stages.{stage_with_number, stage_with_name}
+use Rattle.std.{proofs.lemmas.Bool.{eq-eqb}, specs.{Prelude.{IsTrue, unwrap_or}, Option.{option_or, option_map}}}
+use Rattle.pc_common.specs.{Lines.{StageName}, Names.{same_name}}
+use Rattle.pc_syntax.specs.{declared.model.StageItem.{StageItem}, Stages.{stage_with_number, stage_with_name}}
 use Rattle.pc_syntax.specs.StageFaults.{number_fault, number_again, name_again, stage_fault, stages_fault}
 use Rattle.pc_syntax.proofs.NoFault.{none_first, none_second, none_where}
 use Rattle.macro_expand.proofs.Names.{is_same}

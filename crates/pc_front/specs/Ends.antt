@@ -1,24 +1,15 @@
 -- The ends of the readers' faults.
 use Rattle.std.specs.Prelude.{ℕ, List, Option, Some, None}
-use Rattle.pc_common.specs.declared.fault.FaultKind.TheVariants.{Lexical, Syntax, Depth}
-use Rattle.pc_common.specs.declared.fault.InputFault.{InputFault}
-use Rattle.pc_common.specs.declared.fault.Which.TheVariants.{Model}
+use Rattle.pc_common.specs.declared.fault.{FaultKind.TheVariants.{Lexical, Syntax, Depth}, InputFault.{InputFault}, Which.TheVariants.{Model}}
 use Rattle.pc_common.specs.declared.place.Place.{Place}
-use Rattle.uspec_lexer.specs.Token.{Token, token_place}
-use Rattle.uspec_lexer.specs.declared.fault.LexFault.{LexFault}
-use Rattle.uspec_lexer.specs.declared.fault.LexFault.TheVariants.{Lexical as a_lexical_fault, Memory as no_memory}
-use Rattle.uspec_parser.specs.declared.level.TheConstants.{MAX_OPENERS}
-use Rattle.uspec_parser.specs.declared.fault.ParseFault.{ParseFault}
+use Rattle.uspec_lexer.specs.{Token.{Token, token_place}, declared.fault.LexFault.{LexFault, TheVariants.{Lexical as a_lexical_fault, Memory as no_memory}}}
+use Rattle.uspec_parser.specs.declared.{level.TheConstants.{MAX_OPENERS}, fault.ParseFault.{ParseFault}}
 use Rattle.uspec_parser.specs.declared.fault.ParseFault.TheVariants.{Syntax as a_syntax_fault, Depth as a_depth_fault, Memory as no_memory_to_parse}
 use Rattle.pc_syntax.specs.Fault.{Fault}
-use Rattle.macro_expand.specs.Faults.{macro_fault_of}
-use Rattle.macro_expand.specs.declared.fault.MacroFault.{MacroFault}
-use Rattle.scope_check.specs.FirstFault.{name_fault_of}
-use Rattle.scope_check.specs.declared.fault.NameFault.{NameFault}
+use Rattle.macro_expand.specs.{Faults.{macro_fault_of}, declared.fault.MacroFault.{MacroFault}}
+use Rattle.scope_check.specs.{FirstFault.{name_fault_of}, declared.fault.NameFault.{NameFault}}
 use Rattle.litmus_reader.specs.declared.fault.CaseFault.{CaseFault}
-use Rattle.pc_front.specs.declared.model_front.FrontEnd.{FrontEnd}
-use Rattle.pc_front.specs.declared.model_front.FrontEnd.TheVariants.{Refused, Memory}
-use Rattle.pc_front.specs.Front.{fault_at, case_fault_of}
+use Rattle.pc_front.specs.{declared.model_front.FrontEnd.{FrontEnd, TheVariants.{Refused, Memory}}, Front.{fault_at, case_fault_of}}
 
 -- the first fault of a model; without one, memory was refused
 abbrev pub end_of : Option Fault → FrontEnd

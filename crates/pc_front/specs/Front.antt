@@ -1,26 +1,12 @@
 -- What the bytes of a model and of a test say together: a front, or the first fault of the two files.
 use Rattle.std.specs.Prelude.{◌≡◌, ⊤, ℕ, List, Option, Some, None}
-use Rattle.pc_common.specs.Case.{Case}
-use Rattle.pc_common.specs.declared.fault.FaultKind.{FaultKind}
-use Rattle.pc_common.specs.declared.fault.FaultKind.TheVariants.{Lexical, Syntax}
-use Rattle.pc_common.specs.declared.fault.InputFault.{InputFault}
-use Rattle.pc_common.specs.declared.fault.Which.{Which}
-use Rattle.pc_common.specs.declared.fault.Which.TheVariants.{Model, Test}
-use Rattle.pc_common.specs.declared.place.Place.{Place}
-use Rattle.pc_syntax.specs.Written.{WrittenModel}
-use Rattle.pc_syntax.specs.ModelFault.{first_model_fault}
-use Rattle.litmus_reader.specs.Answer.{CaseOf, IsCaseFault}
-use Rattle.litmus_reader.specs.declared.fault.CaseFault.{CaseFault}
+use Rattle.pc_common.specs.{Case.{Case}, declared.fault.{FaultKind.{FaultKind, TheVariants.{Lexical, Syntax}}, InputFault.{InputFault}, Which.{Which}}}
+use Rattle.pc_common.specs.declared.{fault.Which.TheVariants.{Model, Test}, place.Place.{Place}}
+use Rattle.pc_syntax.specs.{Written.{WrittenModel}, ModelFault.{first_model_fault}, declared.closed.Closed.{Closed}}
+use Rattle.litmus_reader.specs.{Answer.{CaseOf, IsCaseFault}, declared.fault.CaseFault.{CaseFault}}
 use Rattle.litmus_reader.specs.declared.fault.CaseFault.TheVariants.{Lexical as a_lexical_fault, Syntax as a_syntax_fault, Content as a_fault_of_content, Memory as no_memory}
-use Rattle.pc_syntax.specs.declared.closed.Closed.{Closed}
-use Rattle.pc_ground.specs.declared.stage.Stage.{Stage}
-use Rattle.pc_ground.specs.declared.parts.Parts.{Parts}
-use Rattle.pc_ground.specs.declared.front.Front.{Front}
-use Rattle.pc_ground.specs.Rows.{rows_of}
-use Rattle.pc_ground.specs.GroundTree.{ground_tree}
-use Rattle.pc_front.specs.declared.model_front.FrontEnd.{FrontEnd}
-use Rattle.pc_front.specs.declared.model_front.FrontEnd.TheVariants.{Refused, Memory}
-use Rattle.pc_front.specs.ModelFront.{ModelOf, IsModelFault, IsModelFrontOf}
+use Rattle.pc_ground.specs.{declared.{stage.Stage.{Stage}, parts.Parts.{Parts}, front.Front.{Front}}, Rows.{rows_of}, GroundTree.{ground_tree}}
+use Rattle.pc_front.specs.{declared.model_front.FrontEnd.{FrontEnd, TheVariants.{Refused, Memory}}, ModelFront.{ModelOf, IsModelFault, IsModelFrontOf}}
 
 abbrev pub fault_at : Which → FaultKind → Place → InputFault
 fault_at file kind place = record { file = file; place = place; kind = kind }

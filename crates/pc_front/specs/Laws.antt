@@ -1,10 +1,8 @@
 -- What holds of the bytes of every model.
 use Rattle.std.specs.Prelude.{◌≡◌, ◌⊎◌, ℕ, List}
-use Rattle.pc_common.specs.declared.place.Place.{Place}
-use Rattle.pc_common.specs.declared.fault.FaultKind.{FaultKind}
+use Rattle.pc_common.specs.declared.{place.Place.{Place}, fault.FaultKind.{FaultKind}}
 use Rattle.pc_syntax.specs.Written.{WrittenModel}
-use Rattle.pc_front.specs.ModelFront.{ModelOf, IsModelFault}
-use Rattle.pc_front.specs.Front.{SaysModel}
+use Rattle.pc_front.specs.{ModelFront.{ModelOf, IsModelFault}, Front.{SaysModel}}
 
 -- the bytes say a model without a fault, or have a first fault
 abbrev pub HasModelOrFault : List ℕ → Type 0

@@ -1,30 +1,14 @@
 -- What the bytes of a whole model say: its stages and its closed axioms, or its first fault.
 use Rattle.std.specs.Prelude.{◌≡◌, ℕ, ⊤, List, [], Some, None, map}
-use Rattle.pc_common.specs.Case.{Case}
-use Rattle.pc_common.specs.World.{Node, World}
-use Rattle.pc_common.specs.declared.place.Place.{Place}
-use Rattle.pc_common.specs.declared.fault.FaultKind.{FaultKind}
-use Rattle.pc_common.specs.declared.fault.FaultKind.TheVariants.{Lexical, Syntax, Depth}
+use Rattle.pc_common.specs.{Case.{Case}, World.{Node, World}, declared.{place.Place.{Place}, fault.FaultKind.{FaultKind, TheVariants.{Lexical, Syntax, Depth}}}}
 use Rattle.pc_common.specs.declared.fault.Which.TheVariants.{Model}
-use Rattle.ll_grammar.specs.FirstFault.{IsAccepted, IsFirstTokenFault}
-use Rattle.ll_grammar.specs.declared.fault.Fault.TheVariants.{Syntax as a_syntax_fault, Depth as a_depth_fault}
-use Rattle.uspec_lexer.specs.Token.{Token, token_place}
-use Rattle.uspec_lexer.specs.Spells.{Spells, IsLexicalFault}
-use Rattle.uspec_parser.specs.declared.level.TheConstants.{MAX_OPENERS}
-use Rattle.uspec_parser.specs.Marks.{IsMarkedModel}
-use Rattle.uspec_parser.specs.Syntax.{DerivesModel}
-use Rattle.uspec_parser.specs.Answers.{terminals}
-use Rattle.pc_syntax.specs.declared.model.StageItem.{StageItem}
-use Rattle.pc_syntax.specs.Written.{Written, WrittenModel}
-use Rattle.pc_syntax.specs.Observable.{axioms_of, macros_of, satisfies}
-use Rattle.pc_syntax.specs.Expansion.{expansion_of}
-use Rattle.pc_syntax.specs.Closed.{PlainClosed, closed_satisfies}
-use Rattle.pc_syntax.specs.Closing.{closing_of}
-use Rattle.pc_syntax.specs.ModelFault.{first_model_fault}
+use Rattle.ll_grammar.specs.{FirstFault.{IsAccepted, IsFirstTokenFault}, declared.fault.Fault.TheVariants.{Syntax as a_syntax_fault, Depth as a_depth_fault}}
+use Rattle.uspec_lexer.specs.{Token.{Token, token_place}, Spells.{Spells, IsLexicalFault}}
+use Rattle.uspec_parser.specs.{declared.level.TheConstants.{MAX_OPENERS}, Marks.{IsMarkedModel}, Syntax.{DerivesModel}, Answers.{terminals}}
+use Rattle.pc_syntax.specs.{declared.model.StageItem.{StageItem}, Written.{Written, WrittenModel}, Observable.{axioms_of, macros_of, satisfies}}
+use Rattle.pc_syntax.specs.{Expansion.{expansion_of}, Closed.{PlainClosed, closed_satisfies}, Closing.{closing_of}, ModelFault.{first_model_fault}}
 use Rattle.pc_ground.specs.Stages.{plain_stage, plain_axioms}
-use Rattle.pc_front.specs.declared.model_front.ModelFront.{ModelFront}
-use Rattle.pc_front.specs.declared.model_front.FrontEnd.{FrontEnd}
-use Rattle.pc_front.specs.declared.model_front.FrontEnd.TheVariants.{Refused, Memory}
+use Rattle.pc_front.specs.declared.model_front.{ModelFront.{ModelFront}, FrontEnd.{FrontEnd, TheVariants.{Refused, Memory}}}
 
 -- the bytes spell a model of this tree, and no opener of it stands too deep
 pub record ModelOf (bytes : List ℕ) (m : WrittenModel) : Type 0 where

@@ -1,16 +1,9 @@
 -- The steps of reading a whole model.
 use Rattle.std.specs.Prelude.{◌≡◌, List, [], Option, None, map}
-use Rattle.pc_syntax.specs.declared.expanded.Expanded.{Expanded}
-use Rattle.pc_syntax.specs.declared.model.StageItem.{StageItem}
-use Rattle.pc_syntax.specs.Written.{written, WrittenModel}
-use Rattle.pc_syntax.specs.Fault.{Fault, first_fault}
-use Rattle.pc_syntax.specs.NameFaults.{name_fault}
-use Rattle.pc_syntax.specs.ModelFault.{first_model_fault}
-use Rattle.pc_syntax.specs.Closed.{PlainClosed}
-use Rattle.pc_syntax.specs.Closing.{closing_of}
+use Rattle.pc_syntax.specs.{declared.{expanded.Expanded.{Expanded}, model.StageItem.{StageItem}}, Written.{written, WrittenModel}, Fault.{Fault, first_fault}}
+use Rattle.pc_syntax.specs.{NameFaults.{name_fault}, ModelFault.{first_model_fault}, Closed.{PlainClosed}, Closing.{closing_of}}
 use Rattle.scope_check.specs.FirstFault.{IsNoneOr}
-use Rattle.pc_front.specs.declared.model_front.FrontEnd.{FrontEnd}
-use Rattle.pc_front.specs.Ends.{end_of}
+use Rattle.pc_front.specs.{declared.model_front.FrontEnd.{FrontEnd}, Ends.{end_of}}
 
 -- of an expanded axiom, where these are the stages
 abbrev pub axiom_fault : List StageItem → Expanded → Option Fault

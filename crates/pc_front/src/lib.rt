@@ -10,9 +10,9 @@
 //! assert!(rt; front.tree.len() == 1 && front.tree.row(0).kind == RowKind::False);
 //! ```
 //!
-//! `read_model` joins the readers of a whole model: tokens, tree, stages, macros, names. `parsed` and `judged` are its two
-//! halves, for who needs the model as written too. `read_parts` adds the
-//! test, and `front` what search and checker work on: the ground tree, in flat rows, with its node numbers.
+//! `read_model` joins the readers of a whole model: tokens, tree, stages, macros, names. `parse_bytes` and
+//! `judge_model` are its two halves, for who needs the model as written too. `read_parts` adds the test, and `front`
+//! what search and checker work on: the ground tree, in flat rows, with its node numbers.
 #![tactic(auto)]
 
 mod faults;
@@ -25,5 +25,5 @@ mod two_files;
 pub use laws::{limits_are, model_or_fault, no_model_fault, one_model, one_model_fault};
 pub use limits::MAX_FILE;
 pub use model_front::{FrontEnd, ModelFront};
-pub use reading::{judged, parsed, read_model};
+pub use reading::{judge_model, parse_bytes, read_model};
 pub use two_files::{front, parts_of, read_parts};

@@ -40,12 +40,12 @@ pub fn read_model(alloc: Global, bytes: &[u8]) -> Result<ModelFront, FrontEnd>
     ensures ok { IfOk result (IsModelFront bytes.now) }
     ensures err { IfErr result (IsModelEnd bytes.now) }
 {
-    let model = parsed(alloc, bytes)?;
-    judged(alloc, &model)
+    let model = parse_bytes(alloc, bytes)?;
+    judge_model(alloc, &model)
 }
 
 /// The stages and the closed axioms of a model as written, or its first fault, which is that of each text that says it.
-pub fn judged(alloc: Global, model: &ModelFile) -> Result<ModelFront, FrontEnd>
+pub fn judge_model(alloc: Global, model: &ModelFile) -> Result<ModelFront, FrontEnd>
     ensures ok { IfOk result (IsModelFrontOf (written_model model.now)) }
     ensures err { IfErr result (λ end. (bytes : List ℕ) → ModelOf bytes (written_model model.now)
         → IsModelEnd bytes end) }
@@ -89,7 +89,7 @@ fn closings(alloc: Global, model: &ModelFile) -> Result<Axioms, FrontEnd>
 }
 
 /// The model as written, or the first fault of its bytes or tokens.
-pub fn parsed(alloc: Global, bytes: &[u8]) -> Result<ModelFile, FrontEnd>
+pub fn parse_bytes(alloc: Global, bytes: &[u8]) -> Result<ModelFile, FrontEnd>
     requires { length bytes.now < 2 ^ 32 }
     ensures ok { IfOk result (λ m. ModelOf bytes.now (written_model m)) }
     ensures err { IfErr result (IsModelEnd bytes.now) }

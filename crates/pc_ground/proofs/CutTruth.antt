@@ -1,16 +1,11 @@
 -- A tree's truth in a world is that in the world cut down to the nodes of its literals.
-use Rattle.std.proofs.Common.{◌≡◌, inl, inr, Bool, true, false, not, ◌&&◌, ◌||◌, List, [], ◌∷◌, ◌++◌, refl, sym, ◌∙◌, ap}
-use Rattle.std.specs.Prelude.{Contains, filter}
-use Rattle.std.specs.List.{list_any}
-use Rattle.std.proofs.lemmas.Bool.{and_from}
+use Rattle.std.proofs.{Common.{◌≡◌, inl, inr, Bool, true, false, not, ◌&&◌, ◌||◌, List, [], ◌∷◌, ◌++◌, refl, sym, ◌∙◌, ap}, lemmas.Bool.{and_from}}
+use Rattle.std.specs.{Prelude.{Contains, filter}, List.{list_any}}
 use Rattle.pc_common.specs.World.{Node, Edge, World, has_node, has_edge, same_node, same_edge, IsWorld}
 use Rattle.pc_common.proofs.Elements.{In, in_from_contains, contains_from_in, in_front, in_back, holds_any, in_filter, from_filter}
-use Rattle.pc_common.proofs.Nodes.{same_node-true, same_node-self, same_edge-true}
-use Rattle.pc_common.proofs.Bools.{true_or_false, and_first, and_second}
-use Rattle.pc_ground.specs.declared.literal.Literal.{Literal}
-use Rattle.pc_ground.specs.declared.literal.Literal.TheVariants.{Node as a_node, Edge as an_edge, NoNode, NoEdge}
-use Rattle.pc_ground.specs.Tree.{Tree, always, never, leaf, both, either, literal_true, tree_true}
-use Rattle.pc_ground.specs.Numbers.{nodes_of_literal, nodes_of_tree}
+use Rattle.pc_common.proofs.{Nodes.{same_node-true, same_node-self, same_edge-true}, Bools.{true_or_false, and_first, and_second}}
+use Rattle.pc_ground.specs.declared.literal.Literal.{Literal, TheVariants.{Node as a_node, Edge as an_edge, NoNode, NoEdge}}
+use Rattle.pc_ground.specs.{Tree.{Tree, always, never, leaf, both, either, literal_true, tree_true}, Numbers.{nodes_of_literal, nodes_of_tree}}
 use Rattle.pc_ground.specs.CutWorlds.{is_among, cut_to}
 
 -- by recursion over the nodes

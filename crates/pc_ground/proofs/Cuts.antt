@@ -1,21 +1,11 @@
 -- Words that are cut at a byte.
 use Rattle.std.proofs.Common.{◌≡◌, ℕ, ◌-◌, subst, Bool, true, false, ◌||◌, ◌==◌, List, [], ◌∷◌, ◌++◌, length, take, drop, refl, sym, ◌∙◌, ap, eq-eqb, append_assoc}
-use Rattle.std.specs.Prelude.{codes, IsTrue}
-use Rattle.std.specs.List.{list_any}
-use Rattle.std.specs.Str.{all_ascii_digits}
-use Rattle.std.specs.Char.{is_ascii_digit}
-use Rattle.std.proofs.lemmas.Bool.{ne_eqb}
-use Rattle.std.proofs.lemmas.List.{length-drop}
-use Rattle.std.proofs.Math.Seq.{take-length}
+use Rattle.std.{proofs.{lemmas.{Bool.{ne_eqb}, List.{length-drop}}, Math.Seq.{take-length}}, specs.{Prelude.{codes, IsTrue}, List.{list_any}}}
+use Rattle.std.specs.{Str.{all_ascii_digits}, Char.{is_ascii_digit}, Fmt.{decimal}}
 use Rattle.uspec_lexer.specs.Bytes.{is_name}
-use Rattle.pc_ground.specs.Decimals.{IsDecimal}
-use Rattle.pc_ground.specs.NodeForm.{IsNodeForm}
-use Rattle.pc_ground.specs.declared.node_words.NodeWords.{NodeWords}
-use Rattle.pc_ground.specs.NodeWords.{Lacks, IsCut, AreWords}
-use Rattle.std.specs.Fmt.{decimal}
+use Rattle.pc_ground.specs.{Decimals.{IsDecimal}, NodeForm.{IsNodeForm}, declared.node_words.NodeWords.{NodeWords}, NodeWords.{Lacks, IsCut, AreWords}}
+use Rattle.pc_ground.{specs.Words.{words}, proofs.Decimals.{decimal_digits}}
 use Rattle.pc_common.proofs.Bools.{and_first, and_second, or_none, not_both}
-use Rattle.pc_ground.proofs.Decimals.{decimal_digits}
-use Rattle.pc_ground.specs.Words.{words}
 
 pub lacks_head : (m c : ℕ) (cs : List ℕ) → Lacks m (c ∷ cs) → (c == m) ≡ false
 lacks_head m c cs h = or_left (c == m) (list_any (λ d. d == m) cs) h

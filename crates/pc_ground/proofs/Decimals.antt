@@ -1,13 +1,9 @@
 -- Digits read from the first on, and what a number is written as.
 use Rattle.std.proofs.Common.{◌≡◌, ℕ, ◌+◌, ◌-◌, ◌*◌, ◌<◌, ◌≤◌, ◌≢◌, true, false, zero, suc, Option, Some, None, eqb, List, [], ◌∷◌, length, get_or, drop, lit<, lit≤, sym, ◌∙◌, ap, arith, rules}
-use Rattle.std.specs.Prelude.{MatchOption}
-use Rattle.std.specs.Fmt.{decimal}
-use Rattle.std.proofs.lemmas.Bool.{eqb-false}
-use Rattle.std.specs.Str.{all_ascii_digits}
-use Rattle.std.specs.Char.{is_ascii_digit}
-use Rattle.std.proofs.lemmas.List.{drop_more}
+use Rattle.std.proofs.lemmas.{Bool.{eqb-false}, List.{drop_more}}
 use Rattle.std.proofs.lemmas.Fmt.{digits_decimal, digits_value-decimal, decimal-digits_value, decimal_digit, first_decimal, decimal_nonempty}
-use Rattle.std.proofs.lemmas.Str.Parse.{IsNumeralModel, numerals_by_fold, tells_all_ascii_digits}
+use Rattle.std.{proofs.lemmas.Str.Parse.{IsNumeralModel, numerals_by_fold, tells_all_ascii_digits}, specs.{Prelude.{MatchOption}, Fmt.{decimal}}}
+use Rattle.std.specs.{Str.{all_ascii_digits}, Char.{is_ascii_digit}}
 use Rattle.pc_common.proofs.Bools.{and_first, not_both}
 use Rattle.pc_ground.specs.Decimals.{IsDecimal, IsDigits, read_on}
 

@@ -1,24 +1,12 @@
 -- A small model on a test of two writes of one core: its ground tree, its rows, its numbers and a refutation.
-use Rattle.std.proofs.Common.{false, ◌≡◌, ℕ, List, [], ◌∷◌, Some, None, map, refl, lit<}
-use Rattle.std.specs.Prelude.{codes}
-use Rattle.pc_common.specs.Case.{PageAt, page, number, write, MicroOp, Case, forbidden}
-use Rattle.pc_common.specs.World.{Node}
-use Rattle.pc_common.specs.declared.place.Place.{Place}
-use Rattle.pc_syntax.specs.declared.term.Sort.TheVariants.{Microop}
-use Rattle.pc_syntax.specs.declared.term.Word.{Word}
-use Rattle.pc_syntax.specs.declared.term.Arg.TheVariants.{Word as word_arg}
-use Rattle.pc_syntax.specs.declared.term.NodeTerm.{NodeTerm}
-use Rattle.pc_syntax.specs.declared.model.StageItem.{StageItem}
-use Rattle.pc_syntax.specs.Predicates.{all_preds}
-use Rattle.pc_syntax.specs.Written.{Written, not_, and_, or_, implies_, forall_, static_, edges_, axiom_, WrittenModel}
-use Rattle.pc_ground.specs.declared.literal.Literal.TheVariants.{Edge, NoEdge}
-use Rattle.pc_ground.specs.Tree.{Tree, leaf, both, either}
-use Rattle.pc_ground.specs.Rows.{rows_of}
-use Rattle.pc_ground.specs.GroundTree.{ground_tree}
-use Rattle.pc_ground.specs.Numbers.{numbered}
+use Rattle.std.{proofs.Common.{false, ◌≡◌, ℕ, List, [], ◌∷◌, Some, None, map, refl, lit<}, specs.Prelude.{codes}}
+use Rattle.pc_common.specs.{Case.{PageAt, page, number, write, MicroOp, Case, forbidden}, World.{Node}, declared.place.Place.{Place}}
 use Rattle.pc_common.specs.Steps.{split, path, close}
-use Rattle.pc_ground.specs.declared.version.Version.TheVariants.{One, Two}
-use Rattle.pc_ground.specs.Refutes.{IsRefutation, a_path, a_contradiction}
+use Rattle.pc_syntax.specs.declared.term.{Sort.TheVariants.{Microop}, Word.{Word}, Arg.TheVariants.{Word as word_arg}, NodeTerm.{NodeTerm}}
+use Rattle.pc_syntax.specs.{declared.model.StageItem.{StageItem}, Predicates.{all_preds}}
+use Rattle.pc_syntax.specs.Written.{Written, not_, and_, or_, implies_, forall_, static_, edges_, axiom_, WrittenModel}
+use Rattle.pc_ground.specs.{declared.{literal.Literal.TheVariants.{Edge, NoEdge}, version.Version.TheVariants.{One, Two}}, Tree.{Tree, leaf, both, either}}
+use Rattle.pc_ground.specs.{Rows.{rows_of}, GroundTree.{ground_tree}, Numbers.{numbered}, Refutes.{IsRefutation, a_path, a_contradiction}}
 
 -- names without places, of which a tree says nothing
 abbrev at : Place

@@ -1,14 +1,9 @@
 -- The numbered nodes of a tree are the nodes of its literals, each once.
-use Rattle.std.proofs.Common.{◌≡◌, zero, suc, inl, inr, Bool, true, false, ◌||◌, List, [], ◌∷◌, refl, sym, ◌∙◌, ap, subst}
-use Rattle.std.specs.Prelude.{◌↔◌, Contains}
+use Rattle.std.{proofs.Common.{◌≡◌, zero, suc, inl, inr, Bool, true, false, ◌||◌, List, [], ◌∷◌, refl, sym, ◌∙◌, ap, subst}, specs.Prelude.{◌↔◌, Contains}}
 use Rattle.std.specs.List.{list_any}
-use Rattle.pc_common.specs.World.{Node, same_node}
-use Rattle.pc_common.proofs.Elements.{In, in_from_contains, contains_from_in}
-use Rattle.pc_common.proofs.Bools.{true_or_false, or_none, not_both}
-use Rattle.pc_common.proofs.Nodes.{same_node-true, same_node-self}
-use Rattle.pc_common.proofs.Places.{in_at}
-use Rattle.pc_ground.specs.Tree.{Tree}
-use Rattle.pc_ground.specs.Numbers.{nodes_of_tree, first_seen, numbered, AreDistinct}
+use Rattle.pc_common.{specs.World.{Node, same_node}, proofs.{Elements.{In, in_from_contains, contains_from_in}, Bools.{true_or_false, or_none, not_both}}}
+use Rattle.pc_common.proofs.{Nodes.{same_node-true, same_node-self}, Places.{in_at}}
+use Rattle.pc_ground.specs.{Tree.{Tree}, Numbers.{nodes_of_tree, first_seen, numbered, AreDistinct}}
 
 -- what is seen first is there
 from_first : (seen xs : List Node) (a : Node) → In a (first_seen seen xs) → In a xs

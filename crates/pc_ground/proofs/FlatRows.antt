@@ -1,19 +1,11 @@
 -- Rows and the trees that they spell: subtrees, sizes, children, literals, and that no two trees have the same rows.
 use Rattle.std.proofs.Common.{◌≡◌, ℕ, zero, suc, ◌+◌, ◌-◌, ◌<◌, ◌≤◌, inl, inr, false, List, [], ◌∷◌, ◌++◌, Some, None, length, drop, refl, sym, ◌∙◌, ap, subst, arith, append_assoc, length-append, length-drop}
-use Rattle.std.specs.Prelude.{slice_get, nat_lt, Option}
-use Rattle.std.specs.Option.{unwrap_or}
-use Rattle.std.proofs.lemmas.Bool.{ltb-true, ltb-false, false_from_ne_true}
-use Rattle.std.proofs.lemmas.Option.{slice_get_within, slice_get_past}
+use Rattle.std.proofs.lemmas.{Bool.{ltb-true, ltb-false, false_from_ne_true}, Option.{slice_get_within, slice_get_past}}
+use Rattle.std.specs.{Prelude.{slice_get, nat_lt, Option}, Option.{unwrap_or}}
 use Rattle.pc_common.proofs.Bools.{true_or_false}
-use Rattle.pc_ground.specs.declared.row.RowKind.TheVariants.{True, False, Lit, And, Or}
-use Rattle.pc_ground.specs.declared.row.Row.{Row}
-use Rattle.pc_ground.specs.Tree.{Tree, always, never, leaf, both, either, size_of}
-use Rattle.pc_ground.specs.Rows.{root_kind, rows_of, literals_of_kind}
-use Rattle.pc_ground.specs.Refutes.{subtree_at, literal_of}
-use Rattle.pc_ground.specs.declared.node_key.NodeKey.{NodeKey}
-use Rattle.pc_ground.specs.Keys.{key_node, renamed_kind}
-use Rattle.pc_ground.specs.declared.row.RowKind.{RowKind}
-use Rattle.pc_ground.specs.declared.literal.Literal.{Literal}
+use Rattle.pc_ground.specs.declared.{row.{RowKind.{TheVariants.{True, False, Lit, And, Or}, RowKind}, Row.{Row}}, node_key.NodeKey.{NodeKey}}
+use Rattle.pc_ground.specs.{declared.literal.Literal.{Literal}, Tree.{Tree, always, never, leaf, both, either, size_of}}
+use Rattle.pc_ground.specs.{Rows.{root_kind, rows_of, literals_of_kind}, Refutes.{subtree_at, literal_of}, Keys.{key_node, renamed_kind}}
 
 not_lt : (p n : ℕ) → n ≤ p → nat_lt p n ≡ false
 not_lt p n past = false_from_ne_true (nat_lt p n) (λ h. omega (arith, past, ltb-true p n h))

@@ -1,35 +1,18 @@
 -- Expansion and closing keep what a formula says of a test, connective by connective.
-use Rattle.std.proofs.Common.{◌≡◌, ℕ, List, [], ◌∷◌, ◌++◌, None, length, map, refl, sym, ◌∙◌, ap}
-use Rattle.pc_common.specs.Case.{Case, cores_of}
-use Rattle.pc_common.specs.Names.{same_name}
-use Rattle.pc_common.specs.World.{Node, World}
-use Rattle.pc_syntax.specs.declared.term.Sort.{Sort}
-use Rattle.pc_syntax.specs.declared.term.Sort.TheVariants.{Microop, Core}
-use Rattle.pc_syntax.specs.declared.term.NodeTerm.{NodeTerm}
-use Rattle.pc_syntax.specs.declared.term.EdgeTerm.{EdgeTerm}
-use Rattle.pc_syntax.specs.declared.model.StageItem.{StageItem}
+use Rattle.std.{proofs.Common.{◌≡◌, ℕ, List, [], ◌∷◌, ◌++◌, None, length, map, refl, sym, ◌∙◌, ap}, specs.Option.{option_or}}
+use Rattle.pc_common.specs.{Case.{Case, cores_of}, Names.{same_name}, World.{Node, World}}
+use Rattle.pc_syntax.specs.declared.{term.{Sort.{Sort, TheVariants.{Microop, Core}}, NodeTerm.{NodeTerm}, EdgeTerm.{EdgeTerm}}, model.StageItem.{StageItem}}
 use Rattle.pc_syntax.specs.Written.{Written, not_, and_, or_, implies_, forall_, exists_, static_, nodes_, edges_, expand_, bind_, MacroAt, WrittenModel}
-use Rattle.pc_syntax.specs.Truth.{Meaning, an_op, a_core, Environment, bound_to, node_of, below, range_of}
-use Rattle.pc_syntax.specs.Observable.{axioms_of, macros_of}
-use Rattle.pc_syntax.specs.Expansion.{parameter_names, expansion_of}
-use Rattle.pc_syntax.specs.Closed.{closed_value, closed_node}
-use Rattle.pc_syntax.specs.Closing.{closing_of_bound, closing_of_node, closing_of_edge, closing_of}
-use Rattle.pc_syntax.specs.Scope.{Scope, quantified_in, bound_in}
-use Rattle.pc_syntax.specs.Fits.{Fits, sort_of_meaning}
-use Rattle.pc_syntax.specs.Fault.{first_fault}
+use Rattle.pc_syntax.specs.{Truth.{Meaning, an_op, a_core, Environment, bound_to, node_of, below, range_of}, Observable.{axioms_of, macros_of}}
+use Rattle.pc_syntax.specs.{Expansion.{parameter_names, expansion_of}, Closed.{closed_value, closed_node}}
+use Rattle.pc_syntax.specs.{Closing.{closing_of_bound, closing_of_node, closing_of_edge, closing_of}, Scope.{Scope, quantified_in, bound_in}}
+use Rattle.pc_syntax.specs.{Fits.{Fits, sort_of_meaning}, Fault.{first_fault}}
 use Rattle.pc_syntax.specs.NameFaults.{node_fault, edge_fault, value_fault, scope_fault, binding_fault, name_fault, first_name_fault}
-use Rattle.pc_syntax.specs.ModelFault.{first_model_fault}
-use Rattle.pc_syntax.specs.StageFaults.{first_stage_fault}
-use Rattle.pc_syntax.specs.MacroFaults.{first_macro_fault}
-use Rattle.pc_syntax.specs.Sizes.{first_size_fault}
-use Rattle.std.specs.Option.{option_or}
-use Rattle.pc_syntax.proofs.NoFault.{none_first, none_second}
-use Rattle.pc_syntax.proofs.Slots.{Fits-quantified}
-use Rattle.pc_syntax.proofs.ExpansionLaws.{expansion_faults, choose}
+use Rattle.pc_syntax.specs.{ModelFault.{first_model_fault}, StageFaults.{first_stage_fault}, MacroFaults.{first_macro_fault}, Sizes.{first_size_fault}}
+use Rattle.pc_syntax.proofs.{NoFault.{none_first, none_second}, Slots.{Fits-quantified}, ExpansionLaws.{expansion_faults, choose}}
 use Rattle.pc_syntax.proofs.ClosingTruth.{node_law, static_true, bound_fits, bound_slots, one_more}
 use Rattle.pc_ground.specs.PlainGround.{PlainGround, ground_not, ground_and, ground_or, normal}
-use Rattle.pc_ground.specs.Unfolded.{all_of, some_of, decided, node_said, edge_said, unfolded, closed_unfolded}
-use Rattle.pc_ground.specs.GroundTree.{ground_tree, closed_ground_tree}
+use Rattle.pc_ground.specs.{Unfolded.{all_of, some_of, decided, node_said, edge_said, unfolded, closed_unfolded}, GroundTree.{ground_tree, closed_ground_tree}}
 
 -- an expansion says what its formula says
 pub unfolded_expansion : (ss : List StageItem) (c : Case) (ms : List MacroAt) (env : Environment) (w : Written)

@@ -1,21 +1,13 @@
 -- The keys of a numbering: in which order they stand, and how many they can be.
 use Rattle.std.proofs.Common.{◌≡◌, ℕ, zero, suc, ◌+◌, ◌*◌, ◌<◌, ◌≤◌, inl, inr, true, false, ◌&&◌, List, [], ◌∷◌, ◌++◌, Some, None, length, map, refl, sym, ◌∙◌, ap, arith, eqb, nat_eq, nat_lt, eq-eqb, eqb-true, get_or, subst}
-use Rattle.std.specs.Prelude.{slice_get, position}
-use Rattle.std.specs.Option.{option_map}
+use Rattle.std.proofs.lemmas.{List.Sums.{fails_before_first, passes_at_first}, Option.{slice_get_within, slice_get-get_or, slice_get-map}}
+use Rattle.std.proofs.lemmas.Map.{Keys.{IsDistinct-head, IsDistinct-tail}, Steps.{length-le_from_distinct_below}}
+use Rattle.std.{proofs.lemmas.Bool.{ltb-true, ltb-false, and_from, false_from_ne_true}, specs.{Prelude.{slice_get, position}, Option.{option_map}}}
 use Rattle.std.specs.List.{list_any, position_or_len, IsDistinct, AllByRecursion}
-use Rattle.std.proofs.lemmas.List.Sums.{fails_before_first, passes_at_first}
-use Rattle.std.proofs.lemmas.Option.{slice_get_within, slice_get-get_or, slice_get-map}
-use Rattle.std.proofs.lemmas.Map.Keys.{IsDistinct-head, IsDistinct-tail}
-use Rattle.std.proofs.lemmas.Map.Steps.{length-le_from_distinct_below}
-use Rattle.std.proofs.lemmas.Bool.{ltb-true, ltb-false, and_from, false_from_ne_true}
 use Rattle.indexmap.specs.IndexSet.{insert_key}
-use Rattle.pc_common.specs.World.{Node, same_node}
-use Rattle.pc_common.proofs.Bools.{true_or_false, or_either, not_both}
-use Rattle.pc_common.proofs.Nodes.{same_node-true, same_node-self}
+use Rattle.pc_common.{specs.World.{Node, same_node}, proofs.{Bools.{true_or_false, or_either, not_both}, Nodes.{same_node-true, same_node-self}}}
 use Rattle.pc_common.proofs.Places.{map_length}
-use Rattle.pc_ground.specs.declared.node_key.NodeKey.{NodeKey}
-use Rattle.pc_ground.specs.Keys.{key_node}
-use Rattle.pc_ground.specs.Numbers.{seen, IsNumberOf, AreDistinct}
+use Rattle.pc_ground.specs.{declared.node_key.NodeKey.{NodeKey}, Keys.{key_node}, Numbers.{seen, IsNumberOf, AreDistinct}}
 use Rattle.pc_ground.proofs.Nodes.{key_eq, key_eq-same, any_key}
 
 map_push : (ks : List NodeKey) (k : NodeKey) → map key_node (ks ++ k ∷ []) ≡ map key_node ks ++ key_node k ∷ []

@@ -1,9 +1,6 @@
 -- The keys of a map after `insert`, for this crate and those above it: those of a set after it.
-use Rattle.std.proofs.Common.{◌≡◌, Bool, true, false, List, [], ◌∷◌, ◌++◌, refl, ap, ◌∙◌, if◌then◌else◌}
-use Rattle.std.specs.List.{list_any}
-use Rattle.std.specs.Map.{keys_of}
-use Rattle.indexmap.specs.IndexMap.{insert_entry}
-use Rattle.indexmap.specs.IndexSet.{insert_key}
+use Rattle.std.{proofs.Common.{◌≡◌, Bool, true, false, List, [], ◌∷◌, ◌++◌, refl, ap, ◌∙◌, if◌then◌else◌}, specs.{List.{list_any}, Map.{keys_of}}}
+use Rattle.indexmap.specs.{IndexMap.{insert_entry}, IndexSet.{insert_key}}
 
 module _ {K V : Type 0} (eq : K → K → Bool) (k : K) (v : V) where
   more_keys : (x : K) (b : Bool) (xs : List K) → x ∷ (if b then xs else xs ++ k ∷ []) ≡ (if b then x ∷ xs else x ∷ xs ++ k ∷ [])

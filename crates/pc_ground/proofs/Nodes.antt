@@ -1,11 +1,7 @@
 -- Nodes are equal exactly where their test says so; and so are node keys, read as nodes.
-use Rattle.std.proofs.Common.{◌≡◌, Bool, true, ◌&&◌, List, [], ◌∷◌, map, refl, ◌∙◌, ap, nat_eq, sym}
-use Rattle.std.specs.List.{list_any}
-use Rattle.pc_common.specs.World.{same_node}
-use Rattle.pc_common.proofs.Bools.{and_assoc}
-use Rattle.pc_common.proofs.Nodes.{same_node-true, same_node-self}
-use Rattle.pc_ground.specs.declared.node_key.NodeKey.{NodeKey}
-use Rattle.pc_ground.specs.Keys.{key_node}
+use Rattle.std.{proofs.Common.{◌≡◌, Bool, true, ◌&&◌, List, [], ◌∷◌, map, refl, ◌∙◌, ap, nat_eq, sym}, specs.List.{list_any}}
+use Rattle.pc_common.{specs.World.{same_node}, proofs.{Bools.{and_assoc}, Nodes.{same_node-true, same_node-self}}}
+use Rattle.pc_ground.specs.{declared.node_key.NodeKey.{NodeKey}, Keys.{key_node}}
 
 -- how keys are compared
 abbrev pub key_eq : NodeKey → NodeKey → Bool

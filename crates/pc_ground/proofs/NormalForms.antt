@@ -1,9 +1,7 @@
 -- Pushing negations down and folding constants: what they keep of the truth, and where constants are left.
 use Rattle.std.proofs.Common.{◌≡◌, Bool, true, false, not, ◌&&◌, ◌||◌, refl, sym, ◌∙◌}
-use Rattle.pc_common.specs.World.{Node, World, has_node, has_edge}
-use Rattle.pc_common.proofs.Bools.{and_false, or_true, or_false}
-use Rattle.pc_ground.specs.declared.literal.Literal.{Literal}
-use Rattle.pc_ground.specs.declared.literal.Literal.TheVariants.{Node as a_node, Edge, NoNode, NoEdge}
+use Rattle.pc_common.{specs.World.{Node, World, has_node, has_edge}, proofs.Bools.{and_false, or_true, or_false}}
+use Rattle.pc_ground.specs.declared.literal.Literal.{Literal, TheVariants.{Node as a_node, Edge, NoNode, NoEdge}}
 use Rattle.pc_ground.specs.Tree.{Tree, always, never, both, either, contrary, literal_true, tree_true}
 use Rattle.pc_ground.specs.PlainGround.{PlainGround, ground_true, ground_false, ground_literal, ground_not, ground_and, ground_or, pushed, conjoined, disjoined, folded, normal, negated, ground_conjoined, ground_disjoined, simplified}
 use Rattle.pc_ground.specs.Folded.{IsFolded}

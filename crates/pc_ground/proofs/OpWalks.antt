@@ -1,10 +1,8 @@
 -- The numbers of micro-ops, a place at a time.
-use Rattle.std.proofs.Common.{◌≡◌, ℕ, ◌+◌, ◌<◌, ◌≤◌, List, Some, length, sym, ◌∙◌, arith, below_more, subst}
+use Rattle.std.proofs.{Common.{◌≡◌, ℕ, ◌+◌, ◌<◌, ◌≤◌, List, Some, length, sym, ◌∙◌, arith, below_more, subst}, lemmas.Option.{slice_get_within}}
 use Rattle.std.specs.Prelude.{slice_get}
-use Rattle.std.proofs.lemmas.Option.{slice_get_within}
 use Rattle.pc_common.specs.Case.{MicroOp}
-use Rattle.pc_ground.specs.NodeWords.{AreSmall}
-use Rattle.pc_ground.proofs.StageWalks.{some_same}
+use Rattle.pc_ground.{specs.NodeWords.{AreSmall}, proofs.StageWalks.{some_same}}
 
 abbrev pub SmallBelow : List MicroOp → ℕ → Type 0
 SmallBelow ops k = (j : ℕ) → j < k → (o : MicroOp) → slice_get ops j ≡ Some o → (o.g ≤ 18446744073709551615) × (o.n ≤ 18446744073709551615)

@@ -1,14 +1,9 @@
 -- Bytes that stand in no node's text.
-use Rattle.std.proofs.Common.{◌≡◌, ℕ, Bool, true, false, ◌==◌, ◌||◌, List, [], ◌∷◌, ◌++◌, refl, sym, ◌∙◌, ap, subst}
-use Rattle.std.specs.Prelude.{codes}
-use Rattle.std.specs.List.{list_any, list_all}
-use Rattle.std.specs.Char.{is_ascii_alphabetic, is_ascii_digit}
-use Rattle.std.proofs.lemmas.Bool.{ne_eqb}
+use Rattle.std.proofs.{Common.{◌≡◌, ℕ, Bool, true, false, ◌==◌, ◌||◌, List, [], ◌∷◌, ◌++◌, refl, sym, ◌∙◌, ap, subst}, lemmas.Bool.{ne_eqb}}
+use Rattle.std.specs.{Prelude.{codes}, List.{list_any, list_all}, Char.{is_ascii_alphabetic, is_ascii_digit}}
 use Rattle.pc_common.proofs.Bools.{and_first, and_second, not_both}
 use Rattle.uspec_lexer.specs.Bytes.{is_name_byte, is_name}
-use Rattle.pc_ground.specs.NodeForm.{IsNodeForm}
-use Rattle.pc_ground.specs.NodeWords.{Lacks}
-use Rattle.pc_ground.proofs.Cuts.{decimal_lacks}
+use Rattle.pc_ground.{specs.{NodeForm.{IsNodeForm}, NodeWords.{Lacks}}, proofs.Cuts.{decimal_lacks}}
 
 pub lacks_append : (m : ℕ) (xs ys : List ℕ) → Lacks m xs → Lacks m ys → Lacks m (xs ++ ys)
 lacks_append m [] ys h k = k

@@ -1,18 +1,9 @@
 -- Which node a text is read as.
 use Rattle.std.proofs.Common.{◌≡◌, ℕ, ◌<◌, List, [], ◌∷◌, ◌++◌, Option, Some, length, refl, sym, ◌∙◌, ap, arith, get_or, subst}
-use Rattle.std.specs.Prelude.{slice_get, codes}
-use Rattle.std.specs.Fmt.{decimal}
-use Rattle.std.proofs.lemmas.Fmt.{decimal_injective}
-use Rattle.std.proofs.lemmas.Option.{slice_get-get_or, slice_get_within}
-use Rattle.pc_common.specs.Case.{MicroOp}
-use Rattle.pc_common.specs.World.{Node}
-use Rattle.pc_common.specs.Lines.{StageName, Names, op_text, stage_name, node_text}
-use Rattle.pc_common.proofs.Nodes.{node_parts}
-use Rattle.pc_ground.specs.declared.node_words.NodeWords.{NodeWords}
-use Rattle.pc_ground.specs.Stages.{AreStages}
-use Rattle.pc_ground.specs.NodeForm.{IsNodeForm, IsNodeIn, AreReadable}
-use Rattle.pc_ground.specs.NodeWords.{IsStage, AreSmall, AreWords, NamesNode, AreKept}
-use Rattle.pc_ground.proofs.Cuts.{Cuts, same_cuts, words_cuts, form_grouped, decimal_lacks}
+use Rattle.std.{proofs.lemmas.{Fmt.{decimal_injective}, Option.{slice_get-get_or, slice_get_within}}, specs.{Prelude.{slice_get, codes}, Fmt.{decimal}}}
+use Rattle.pc_common.{specs.{Case.{MicroOp}, World.{Node}, Lines.{StageName, Names, op_text, stage_name, node_text}}, proofs.Nodes.{node_parts}}
+use Rattle.pc_ground.specs.{declared.node_words.NodeWords.{NodeWords}, Stages.{AreStages}, NodeForm.{IsNodeForm, IsNodeIn, AreReadable}}
+use Rattle.pc_ground.{specs.NodeWords.{IsStage, AreSmall, AreWords, NamesNode, AreKept}, proofs.Cuts.{Cuts, same_cuts, words_cuts, form_grouped, decimal_lacks}}
 use Rattle.pc_ground.proofs.StageWalks.{some_same, stage_name_is, stage_from_number, number_from_stage}
 
 -- a node's text, by the parts of its micro-op

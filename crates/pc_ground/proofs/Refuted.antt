@@ -1,21 +1,14 @@
 -- A refutation leaves no world in which its tree is true.
 use Rattle.std.proofs.Common.{◌||◌, ◌≡◌, ℕ, ◌+◌, ◌⊎◌, inl, inr, Bool, true, false, not, List, [], ◌∷◌, Option, Some, None, refl, sym, ◌∙◌, ap, subst}
 use Rattle.std.specs.Prelude.{Contains, IsTrue}
-use Rattle.pc_common.specs.World.{Node, World, has_node, has_edge, IsWorld}
-use Rattle.pc_common.specs.Chain.{Leads}
-use Rattle.pc_common.specs.Steps.{Leaf, Step, split, close}
-use Rattle.pc_common.proofs.Elements.{In, in_from_contains, in_either, from_flat, from_map}
-use Rattle.pc_common.proofs.Nodes.{has_node_is, has_edge_is}
-use Rattle.pc_common.proofs.Bools.{and_first, and_second}
-use Rattle.pc_ground.specs.declared.literal.Literal.{Literal}
-use Rattle.pc_ground.specs.declared.literal.Literal.TheVariants.{Node as a_node, Edge, NoNode, NoEdge}
-use Rattle.pc_ground.specs.Tree.{Tree, always, never, leaf, both, either, negation, turned, size_of, literal_true, tree_true}
-use Rattle.pc_ground.specs.declared.version.Version.{Version}
+use Rattle.pc_common.specs.{World.{Node, World, has_node, has_edge, IsWorld}, Chain.{Leads}, Steps.{Leaf, Step, split, close}}
+use Rattle.pc_common.proofs.{Elements.{In, in_from_contains, in_either, from_flat, from_map}, Nodes.{has_node_is, has_edge_is}, Bools.{and_first, and_second}}
+use Rattle.pc_ground.specs.declared.{literal.Literal.{Literal, TheVariants.{Node as a_node, Edge, NoNode, NoEdge}}, version.Version.{Version}}
 use Rattle.pc_ground.specs.declared.version.Version.TheVariants.{One, Two}
+use Rattle.pc_ground.specs.Tree.{Tree, always, never, leaf, both, either, negation, turned, size_of, literal_true, tree_true}
 use Rattle.pc_ground.specs.Literals.{Joins, IsPresent, as_node, as_start, as_end}
 use Rattle.pc_ground.specs.Refutes.{subtree_at, asserted, Signed, signed, all_signed, part_at, Branch, literal_of, literals_of, IsContradiction, a_cycle, a_path, an_absence, Closes, a_contradiction, a_falsity, with_side, left_branch, right_branch, Runs, IsPartial, IsRefutation}
-use Rattle.pc_ground.proofs.FlatRows.{children_both, children_either}
-use Rattle.pc_ground.proofs.Turned.{subtree_denied, negation_true}
+use Rattle.pc_ground.proofs.{FlatRows.{children_both, children_either}, Turned.{subtree_denied, negation_true}}
 
 module _ (w : World Node) (is_world : IsWorld w) where
   -- each of these positions is true in the world

@@ -1,17 +1,10 @@
 -- Looking for a stage by its number or its name, a stage at a time.
 use Rattle.std.proofs.Common.{below_more, ◌≤◌, ◌≡◌, ◌≢◌, ℕ, zero, suc, inl, inr, ◌+◌, ◌<◌, ◌==◌, true, false, List, [], ◌∷◌, Some, length, drop, map, refl, sym, ◌∙◌, ap, arith, nat_eq, eq-eqb, eqb-true}
-use Rattle.std.specs.Prelude.{slice_get, Contains}
-use Rattle.pc_common.proofs.Elements.{In, in_from_contains, contains_from_in}
-use Rattle.std.specs.Option.{option_map, unwrap_or}
-use Rattle.std.specs.Cmp.Lexicographic.{pointwise}
-use Rattle.std.proofs.lemmas.Option.{slice_get_within, slice_get-map}
-use Rattle.std.proofs.lemmas.Bool.{ne_eqb, and_from}
-use Rattle.pc_common.specs.Lines.{StageName, stage_name}
-use Rattle.pc_common.proofs.Bools.{true_or_false, and_first, and_second, not_both}
-use Rattle.pc_common.proofs.Places.{drop_at, map_length}
-use Rattle.pc_ground.specs.declared.stage.Stage.{Stage}
-use Rattle.pc_ground.specs.Stages.{plain_stage, AreStages, numbers_of}
-use Rattle.pc_ground.specs.NodeWords.{IsStage}
+use Rattle.std.{proofs.lemmas.{Option.{slice_get_within, slice_get-map}, Bool.{ne_eqb, and_from}}, specs.Prelude.{slice_get, Contains}}
+use Rattle.std.specs.{Option.{option_map, unwrap_or}, Cmp.Lexicographic.{pointwise}}
+use Rattle.pc_common.proofs.{Elements.{In, in_from_contains, contains_from_in}, Bools.{true_or_false, and_first, and_second, not_both}}
+use Rattle.pc_common.{proofs.Places.{drop_at, map_length}, specs.Lines.{StageName, stage_name}}
+use Rattle.pc_ground.specs.{declared.stage.Stage.{Stage}, Stages.{plain_stage, AreStages, numbers_of}, NodeWords.{IsStage}}
 
 pub some_same : {X : Type 0} {x y : X} → Some x ≡ Some y → x ≡ y
 some_same {X} {x} {y} e = ap (λ o. unwrap_or o x) e

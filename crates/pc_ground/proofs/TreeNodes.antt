@@ -1,32 +1,20 @@
 -- Each node of closed axioms' ground tree is of the test and of the stages that the axioms name.
 use Rattle.std.proofs.Common.{◌≡◌, ℕ, zero, suc, ◌<◌, ◌≤◌, inl, inr, Bool, true, false, List, [], ◌∷◌, ◌++◌, Option, Some, None, length, map, get_or, refl, sym, ap, subst, arith, slice_get, unwrap_or, eqb, eqb-true}
-use Rattle.std.specs.Prelude.{Contains}
-use Rattle.std.proofs.lemmas.Option.{slice_get-get_or}
-use Rattle.pc_common.specs.Case.{MicroOp, Case, cores_of}
-use Rattle.pc_common.specs.World.{Node}
+use Rattle.std.{proofs.lemmas.Option.{slice_get-get_or}, specs.Prelude.{Contains}}
+use Rattle.pc_common.specs.{Case.{MicroOp, Case, cores_of}, World.{Node}}
 use Rattle.pc_common.proofs.Elements.{In, in_from_contains, contains_from_in, in_either, from_map, from_range, any_holds}
 use Rattle.pc_case.specs.MicroOps.{AreMicroOps}
-use Rattle.pc_syntax.specs.declared.term.Sort.{Sort}
-use Rattle.pc_syntax.specs.declared.term.Sort.TheVariants.{Microop, Core}
-use Rattle.pc_syntax.specs.declared.closed.Closed.{Closed}
-use Rattle.pc_syntax.specs.declared.closed_term.ClosedArg.{ClosedArg}
-use Rattle.pc_syntax.specs.declared.closed_term.ClosedArg.TheVariants.{Slot, Core as core_arg, Plain}
-use Rattle.pc_syntax.specs.declared.closed_term.ClosedNode.{ClosedNode}
-use Rattle.pc_syntax.specs.declared.closed_term.ClosedEdge.{ClosedEdge}
-use Rattle.pc_syntax.specs.Truth.{Meaning, an_op, a_core, op_of, core_of, node_at, range_of}
-use Rattle.pc_syntax.specs.Observable.{IsNodeOf}
-use Rattle.pc_syntax.specs.Predicates.{predicate_holds}
+use Rattle.pc_syntax.specs.declared.{term.Sort.{Sort, TheVariants.{Microop, Core}}, closed.Closed.{Closed}, closed_term.ClosedArg.{ClosedArg}}
+use Rattle.pc_syntax.specs.declared.closed_term.{ClosedArg.TheVariants.{Slot, Core as core_arg, Plain}, ClosedNode.{ClosedNode}, ClosedEdge.{ClosedEdge}}
+use Rattle.pc_syntax.specs.{Truth.{Meaning, an_op, a_core, op_of, core_of, node_at, range_of}, Observable.{IsNodeOf}, Predicates.{predicate_holds}}
 use Rattle.pc_syntax.specs.Closed.{PlainClosed, plain_closed, closed_not, closed_and, closed_or, closed_implies, closed_forall, closed_exists, closed_static, closed_nodes, closed_edges, closed_bind, value_at, closed_value, closed_argument, closed_core, core_at_op, closed_node}
 use Rattle.pc_syntax.specs.IsClosed.{FitsCore, FitsNode, FitNodes, FitEdges, HasValue, HaveValues, sort_of, IsClosed}
 use Rattle.pc_syntax.specs.StagesWithin.{IsAmong, NodesWithin, EdgesWithin, StagesWithin}
-use Rattle.pc_ground.specs.declared.literal.Literal.{Literal}
-use Rattle.pc_ground.specs.declared.literal.Literal.TheVariants.{Node as a_node, Edge, NoNode, NoEdge}
+use Rattle.pc_ground.specs.declared.literal.Literal.{Literal, TheVariants.{Node as a_node, Edge, NoNode, NoEdge}}
 use Rattle.pc_ground.specs.Tree.{Tree, always, never, leaf, both, either, contrary}
 use Rattle.pc_ground.specs.PlainGround.{PlainGround, ground_true, ground_false, ground_literal, ground_not, ground_and, ground_or, pushed, conjoined, disjoined, folded}
-use Rattle.pc_ground.specs.Unfolded.{all_of, some_of, decided, node_said, edge_said, closed_unfolded}
-use Rattle.pc_ground.specs.GroundTree.{closed_ground_tree}
-use Rattle.pc_ground.specs.Numbers.{nodes_of_literal, nodes_of_tree}
-use Rattle.pc_ground.specs.Stages.{plain_axioms, AxiomsWithin}
+use Rattle.pc_ground.specs.{Unfolded.{all_of, some_of, decided, node_said, edge_said, closed_unfolded}, GroundTree.{closed_ground_tree}}
+use Rattle.pc_ground.specs.{Numbers.{nodes_of_literal, nodes_of_tree}, Stages.{plain_axioms, AxiomsWithin}}
 
 pub cores_few : (ops : List MicroOp) → ((k : ℕ) (o : MicroOp) → slice_get ops k ≡ Some o → o.core < 64) → cores_of ops ≤ 64
 cores_few [] h = omega arith

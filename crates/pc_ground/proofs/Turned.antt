@@ -1,15 +1,10 @@
 -- A tree and its negation: sizes, subtrees, rows and truth.
-use Rattle.std.proofs.Common.{◌≡◌, ℕ, zero, suc, ◌+◌, ◌-◌, Bool, true, false, not, List, [], ◌∷◌, Option, Some, refl, sym, ◌∙◌, ap}
+use Rattle.std.proofs.{Common.{◌≡◌, ℕ, zero, suc, ◌+◌, ◌-◌, Bool, true, false, not, List, [], ◌∷◌, Option, Some, refl, sym, ◌∙◌, ap}, lemmas.List.{map-append}}
 use Rattle.std.specs.Prelude.{slice_get, nat_lt, option_map, if◌then◌else◌, ◌&&◌, ◌||◌}
-use Rattle.std.proofs.lemmas.List.{map-append}
 use Rattle.pc_common.specs.World.{Node, World}
-use Rattle.pc_ground.specs.declared.literal.Literal.{Literal}
-use Rattle.pc_ground.specs.declared.literal.Literal.TheVariants.{Node as a_node}
-use Rattle.pc_ground.specs.declared.row.Row.{Row}
+use Rattle.pc_ground.specs.declared.{literal.Literal.{Literal, TheVariants.{Node as a_node}}, row.Row.{Row}}
 use Rattle.pc_ground.specs.Tree.{Tree, always, never, leaf, both, either, contrary, negation, turned, size_of, tree_true}
-use Rattle.pc_ground.specs.Rows.{rows_of, turned_row, turned_rows}
-use Rattle.pc_ground.specs.Refutes.{subtree_at}
-use Rattle.pc_ground.proofs.NormalForms.{contrary_true}
+use Rattle.pc_ground.{specs.{Rows.{rows_of, turned_row, turned_rows}, Refutes.{subtree_at}}, proofs.NormalForms.{contrary_true}}
 
 pub contrary_twice : {N : Type 0} (l : Literal N) → contrary (contrary l) ≡ l
 contrary_twice (a_node a) = refl

@@ -1,19 +1,14 @@
 -- What a formula says of a test is true in a world exactly where the formula is.
 use Rattle.std.proofs.Common.{◌≡◌, Bool, true, false, not, ◌&&◌, ◌||◌, List, [], ◌∷◌, ◌++◌, Option, Some, None, map, cond, refl, sym, ◌∙◌}
 use Rattle.std.specs.List.{list_any, list_all}
-use Rattle.pc_common.specs.Case.{Case}
-use Rattle.pc_common.specs.Names.{same_name}
-use Rattle.pc_common.specs.World.{Node, World}
+use Rattle.pc_common.specs.{Case.{Case}, Names.{same_name}, World.{Node, World}}
 use Rattle.pc_syntax.specs.Written.{Written, not_, and_, or_, implies_, forall_, exists_, static_, nodes_, edges_, expand_, bind_, MacroAt, WrittenModel}
 use Rattle.pc_syntax.specs.Truth.{Meaning, Environment, Setting, bound_to, node_of, node_holds, edge_holds, static_holds, range_of, is_true}
 use Rattle.pc_syntax.specs.Observable.{axioms_of, macros_of, setting, satisfies}
 use Rattle.pc_syntax.specs.Closed.{PlainClosed, closed_not, closed_and, closed_or, closed_implies, closed_forall, closed_exists, closed_static, closed_nodes, closed_edges, closed_bind, closed_value, closed_argument, closed_node, closed_true}
 use Rattle.pc_syntax.specs.Predicates.{predicate_holds}
-use Rattle.pc_ground.specs.Tree.{tree_true}
-use Rattle.pc_ground.specs.PlainGround.{PlainGround}
-use Rattle.pc_ground.specs.Unfolded.{all_of, some_of, decided, node_said, edge_said, unfolded, closed_unfolded}
-use Rattle.pc_ground.specs.GroundTree.{ground_tree, closed_ground_tree}
-use Rattle.pc_ground.proofs.NormalForms.{ground_holds, normal_true}
+use Rattle.pc_ground.specs.{Tree.{tree_true}, PlainGround.{PlainGround}, Unfolded.{all_of, some_of, decided, node_said, edge_said, unfolded, closed_unfolded}}
+use Rattle.pc_ground.{specs.GroundTree.{ground_tree, closed_ground_tree}, proofs.NormalForms.{ground_holds, normal_true}}
 
 -- And and Or over a list are tests of all and of some
 pub all_true : {X : Type 0} (w : World Node) (f : X → PlainGround) (p : X → Bool) → ((x : X) → p x ≡ ground_holds w (f x)) → (xs : List X)

@@ -1,12 +1,7 @@
 -- The walk over a side's rows comes to the positions that the side asserts, and to no others.
-use Rattle.std.proofs.Common.{◌≡◌, ℕ, ◌+◌, ◌<◌, ◌≤◌, List, [], ◌∷◌, ◌++◌, Some, refl, sym, ap, subst, arith, append_assoc}
-use Rattle.std.specs.Prelude.{slice_get}
-use Rattle.pc_ground.specs.declared.row.Row.{Row}
-use Rattle.pc_ground.specs.Tree.{Tree, always, never, leaf, both, either, size_of}
-use Rattle.pc_ground.specs.Rows.{rows_of}
-use Rattle.pc_ground.specs.Refutes.{subtree_at, asserted}
-use Rattle.pc_ground.specs.Walks.{stride, Walk, at_end, onward}
-use Rattle.pc_ground.proofs.FlatRows.{IsPart, parts_both, part_row, root_of, size_pos, subtree_part}
+use Rattle.std.{proofs.Common.{◌≡◌, ℕ, ◌+◌, ◌<◌, ◌≤◌, List, [], ◌∷◌, ◌++◌, Some, refl, sym, ap, subst, arith, append_assoc}, specs.Prelude.{slice_get}}
+use Rattle.pc_ground.specs.{declared.row.Row.{Row}, Tree.{Tree, always, never, leaf, both, either, size_of}, Rows.{rows_of}, Refutes.{subtree_at, asserted}}
+use Rattle.pc_ground.{specs.Walks.{stride, Walk, at_end, onward}, proofs.FlatRows.{IsPart, parts_both, part_row, root_of, size_pos, subtree_part}}
 
 -- through a part, where a walk goes on after it
 pub walk_through : {N : Type 0} (rows : List (Row N)) (end : ℕ) (s : Tree N) (p : ℕ) (ps : List ℕ) → IsPart rows p s → p + size_of s ≤ end

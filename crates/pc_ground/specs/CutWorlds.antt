@@ -1,6 +1,5 @@
 -- A world cut down to some of its nodes.
-use Rattle.std.specs.Prelude.{Bool, List, filter, ◌&&◌}
-use Rattle.std.specs.List.{list_any}
+use Rattle.std.specs.{Prelude.{Bool, List, filter, ◌&&◌}, List.{list_any}}
 use Rattle.pc_common.specs.World.{Node, World, same_node}
 
 -- the node is one of these

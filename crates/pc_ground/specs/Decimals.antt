@@ -1,7 +1,5 @@
 -- Decimals without leading zeros.
-use Rattle.std.specs.Prelude.{ℕ, ◌≡◌, ◌+◌, ◌-◌, ◌*◌, ◌≤◌, List, [], ◌∷◌, IsTrue}
-use Rattle.std.specs.Fmt.{decimal}
-use Rattle.std.specs.Str.{all_ascii_digits}
+use Rattle.std.specs.{Prelude.{ℕ, ◌≡◌, ◌+◌, ◌-◌, ◌*◌, ◌≤◌, List, [], ◌∷◌, IsTrue}, Fmt.{decimal}, Str.{all_ascii_digits}}
 
 -- the bytes are what n is written as, and it has at most 64 bits
 abbrev pub IsDecimal : List ℕ → ℕ → Type 0

@@ -1,13 +1,8 @@
 -- The ground tree of a model's axioms in a case: it numbers the positions of certificates.
 use Rattle.std.specs.Prelude.{List, [], map}
-use Rattle.pc_common.specs.Case.{Case}
-use Rattle.pc_common.specs.World.{Node}
-use Rattle.pc_syntax.specs.Written.{WrittenModel}
-use Rattle.pc_syntax.specs.Observable.{axioms_of, macros_of}
-use Rattle.pc_syntax.specs.Closed.{PlainClosed}
-use Rattle.pc_ground.specs.Tree.{Tree}
-use Rattle.pc_ground.specs.PlainGround.{PlainGround, normal}
-use Rattle.pc_ground.specs.Unfolded.{all_of, unfolded, closed_unfolded}
+use Rattle.pc_common.specs.{Case.{Case}, World.{Node}}
+use Rattle.pc_syntax.specs.{Written.{WrittenModel}, Observable.{axioms_of, macros_of}, Closed.{PlainClosed}}
+use Rattle.pc_ground.specs.{Tree.{Tree}, PlainGround.{PlainGround, normal}, Unfolded.{all_of, unfolded, closed_unfolded}}
 
 -- of the axioms as written
 abbrev pub ground_tree : WrittenModel → Case → Tree Node

@@ -1,11 +1,7 @@
 -- What the code's node keys are as plain nodes, in literals and in rows.
 use Rattle.pc_common.specs.World.{Node}
-use Rattle.pc_ground.specs.declared.node_key.NodeKey.{NodeKey}
-use Rattle.pc_ground.specs.declared.literal.Literal.{Literal}
-use Rattle.pc_ground.specs.declared.literal.Literal.TheVariants.{Node as a_node, Edge, NoNode, NoEdge}
-use Rattle.pc_ground.specs.declared.row.RowKind.{RowKind}
-use Rattle.pc_ground.specs.declared.row.RowKind.TheVariants.{True, False, Lit, And, Or}
-use Rattle.pc_ground.specs.declared.row.Row.{Row}
+use Rattle.pc_ground.specs.declared.{node_key.NodeKey.{NodeKey}, literal.Literal.{Literal, TheVariants.{Node as a_node, Edge, NoNode, NoEdge}}}
+use Rattle.pc_ground.specs.declared.row.{RowKind.{RowKind, TheVariants.{True, False, Lit, And, Or}}, Row.{Row}}
 
 abbrev pub key_node : NodeKey → Node
 key_node k = record { op = k.op; core = k.core; stage = k.stage }

@@ -1,30 +1,13 @@
 -- What joins the layers: laws of the definitions alone.
-use Rattle.std.specs.Prelude.{ℕ, ◌≡◌, Bool, false, not, List, [], None, map, IsTrue, Contains, ◌↔◌, ◌+◌, Some}
-use Rattle.std.specs.List.{list_all}
-use Rattle.pc_common.specs.Case.{Case}
-use Rattle.pc_common.specs.World.{Node, World, IsWorld, has_node, has_edge}
+use Rattle.std.specs.{Prelude.{ℕ, ◌≡◌, Bool, false, not, List, [], None, map, IsTrue, Contains, ◌↔◌, ◌+◌, Some}, List.{list_all}}
+use Rattle.pc_common.specs.{Case.{Case}, World.{Node, World, IsWorld, has_node, has_edge}, Steps.{Step}}
 use Rattle.pc_case.specs.MicroOps.{AreMicroOps}
-use Rattle.pc_syntax.specs.declared.closed.Closed.{Closed}
-use Rattle.pc_syntax.specs.Written.{WrittenModel}
-use Rattle.pc_syntax.specs.Observable.{axioms_of, macros_of, satisfies, IsNodeOf}
-use Rattle.pc_syntax.specs.Expansion.{expansion_of}
-use Rattle.pc_syntax.specs.Closing.{closing_of}
-use Rattle.pc_syntax.specs.NameFaults.{first_name_fault}
-use Rattle.pc_syntax.specs.Closed.{PlainClosed, closed_true}
-use Rattle.pc_common.specs.Steps.{Step}
-use Rattle.pc_ground.specs.declared.version.Version.{Version}
-use Rattle.pc_ground.specs.declared.version.Version.TheVariants.{One}
-use Rattle.pc_ground.specs.Tree.{Tree, negation, turned, size_of, tree_true}
-use Rattle.pc_ground.specs.Rows.{rows_of, turned_rows}
-use Rattle.pc_ground.specs.Walks.{Walk}
-use Rattle.pc_ground.specs.PlainGround.{PlainGround, normal, simplified}
-use Rattle.pc_ground.specs.Unfolded.{all_of, unfolded}
-use Rattle.pc_ground.specs.Folded.{IsFolded}
-use Rattle.pc_ground.specs.GroundTree.{ground_tree, closed_ground_tree}
-use Rattle.pc_ground.specs.Numbers.{nodes_of_tree, numbered, AreDistinct}
-use Rattle.pc_ground.specs.Stages.{plain_axioms, AxiomsWithin}
-use Rattle.pc_ground.specs.CutWorlds.{cut_to}
-use Rattle.pc_ground.specs.Refutes.{subtree_at, asserted, Signed, Branch, IsPartial, IsRefutation}
+use Rattle.pc_syntax.specs.{declared.closed.Closed.{Closed}, Written.{WrittenModel}, Observable.{axioms_of, macros_of, satisfies, IsNodeOf}}
+use Rattle.pc_syntax.specs.{Expansion.{expansion_of}, Closing.{closing_of}, NameFaults.{first_name_fault}, Closed.{PlainClosed, closed_true}}
+use Rattle.pc_ground.specs.{declared.version.Version.{Version, TheVariants.{One}}, Tree.{Tree, negation, turned, size_of, tree_true}}
+use Rattle.pc_ground.specs.{Rows.{rows_of, turned_rows}, Walks.{Walk}, PlainGround.{PlainGround, normal, simplified}, Unfolded.{all_of, unfolded}}
+use Rattle.pc_ground.specs.{Folded.{IsFolded}, GroundTree.{ground_tree, closed_ground_tree}, Numbers.{nodes_of_tree, numbered, AreDistinct}}
+use Rattle.pc_ground.specs.{Stages.{plain_axioms, AxiomsWithin}, CutWorlds.{cut_to}, Refutes.{subtree_at, asserted, Signed, Branch, IsPartial, IsRefutation}}
 
 -- a world satisfies a model exactly where the model's ground tree is true in it
 abbrev pub TreeSaysModel : Type 0

@@ -1,11 +1,7 @@
 -- What a front promises of its stages has one proof.
-use Rattle.std.specs.Prelude.{ℕ, List, [], ◌∷◌}
-use Rattle.std.specs.Coded.{le_prop}
-use Rattle.std.proofs.Math.Nat.{ℕ_set}
-use Rattle.std.proofs.Math.Bool.{Bool-set}
+use Rattle.std.{specs.{Prelude.{ℕ, List, [], ◌∷◌}, Coded.{le_prop}}, proofs.Math.{Nat.{ℕ_set}, Bool.{Bool-set}}}
 use Rattle.pc_common.specs.Lines.{StageName}
-use Rattle.pc_syntax.specs.Closed.{PlainClosed}
-use Rattle.pc_syntax.specs.LawsOfFormulas.{StagesWithin-prop}
+use Rattle.pc_syntax.specs.{Closed.{PlainClosed}, LawsOfFormulas.{StagesWithin-prop}}
 use Rattle.pc_ground.specs.Stages.{AreStages, AxiomsWithin}
 
 pub AreStages-prop : (stages : List StageName) → IsProp (AreStages stages)

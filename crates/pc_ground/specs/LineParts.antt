@@ -1,10 +1,7 @@
 -- The text of a part of a line.
 use Rattle.std.specs.Prelude.{List, ℕ}
 use Rattle.pc_common.specs.Lines.{Names, node_text}
-use Rattle.pc_ground.specs.Keys.{key_node}
-use Rattle.pc_ground.specs.NodeForm.{IsNodeIn}
-use Rattle.pc_ground.specs.declared.line_part.LinePart.{LinePart}
-use Rattle.pc_ground.specs.declared.line_part.LinePart.TheVariants.{Bytes, Node}
+use Rattle.pc_ground.specs.{Keys.{key_node}, NodeForm.{IsNodeIn}, declared.line_part.LinePart.{LinePart, TheVariants.{Bytes, Node}}}
 
 abbrev pub line_part_text : Names → LinePart → List ℕ
 line_part_text names (Bytes bytes) = bytes.now

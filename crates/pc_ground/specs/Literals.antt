@@ -1,8 +1,7 @@
 -- Lists of literals over nodes of any kind: what they assert and deny, and when they can stand together.
 use Rattle.std.specs.Prelude.{List, Contains}
 use Rattle.pc_common.specs.Chain.{Chain, Acyclic}
-use Rattle.pc_ground.specs.declared.literal.Literal.{Literal}
-use Rattle.pc_ground.specs.declared.literal.Literal.TheVariants.{Node, Edge, NoNode, NoEdge}
+use Rattle.pc_ground.specs.declared.literal.Literal.{Literal, TheVariants.{Node, Edge, NoNode, NoEdge}}
 
 -- the edge from a to b is asserted
 abbrev pub Joins : {N : Type 0} → List (Literal N) → N → N → Type 0

@@ -1,18 +1,10 @@
 -- The text of a node, g.n@core:Stage, by its form, and which nodes are of a test and a model.
 use Rattle.std.specs.Prelude.{ℕ, ◌≡◌, ◌++◌, List, Result, Ok, Err, map, codes, IsTrue}
-use Rattle.pc_common.specs.World.{Node}
-use Rattle.pc_common.specs.Case.{Case}
-use Rattle.pc_common.specs.Lines.{StageName, Names, node_text}
+use Rattle.pc_common.specs.{World.{Node}, Case.{Case}, Lines.{StageName, Names, node_text}}
 use Rattle.pc_syntax.specs.Observable.{IsNodeOf}
 use Rattle.uspec_lexer.specs.Bytes.{is_name}
-use Rattle.pc_ground.specs.declared.node_key.NodeKey.{NodeKey}
-use Rattle.pc_ground.specs.declared.line_fault.LineFault.{LineFault}
-use Rattle.pc_ground.specs.declared.line_fault.LineFault.TheVariants.{Malformed, Foreign}
-use Rattle.pc_ground.specs.declared.front.Front.{Front}
-use Rattle.pc_ground.specs.declared.parts.Parts.{Parts}
-use Rattle.pc_ground.specs.Keys.{key_node}
-use Rattle.pc_ground.specs.Decimals.{IsDecimal}
-use Rattle.pc_ground.specs.Stages.{plain_stage, numbers_of}
+use Rattle.pc_ground.specs.declared.{node_key.NodeKey.{NodeKey}, line_fault.LineFault.{LineFault, TheVariants.{Malformed, Foreign}}, front.Front.{Front}}
+use Rattle.pc_ground.specs.{declared.parts.Parts.{Parts}, Keys.{key_node}, Decimals.{IsDecimal}, Stages.{plain_stage, numbers_of}}
 
 -- three decimals and a name, whatever they name
 pub record IsNodeForm (word : List ℕ) : Type 0 where

@@ -1,14 +1,8 @@
 -- The parts that a node's text is cut into.
-use Rattle.std.specs.Prelude.{ℕ, ◌≡◌, ◌≤◌, ◌<◌, ◌+◌, ◌++◌, ◌==◌, false, List, ◌∷◌, Some, codes, slice_get}
-use Rattle.std.specs.List.{list_any}
-use Rattle.std.specs.Fmt.{decimal}
-use Rattle.pc_common.specs.Case.{MicroOp}
-use Rattle.pc_common.specs.World.{Node}
-use Rattle.pc_common.specs.Lines.{StageName, Names}
-use Rattle.pc_common.specs.declared.limits.TheConstants.{MAX_CORE}
+use Rattle.std.specs.{Prelude.{ℕ, ◌≡◌, ◌≤◌, ◌<◌, ◌+◌, ◌++◌, ◌==◌, false, List, ◌∷◌, Some, codes, slice_get}, List.{list_any}, Fmt.{decimal}}
+use Rattle.pc_common.specs.{Case.{MicroOp}, World.{Node}, Lines.{StageName, Names}, declared.limits.TheConstants.{MAX_CORE}}
 use Rattle.pc_case.specs.MicroOps.{AreMicroOps, IsNamed}
-use Rattle.pc_ground.specs.Stages.{AreStages}
-use Rattle.pc_ground.specs.declared.node_words.NodeWords.{NodeWords}
+use Rattle.pc_ground.specs.{Stages.{AreStages}, declared.node_words.NodeWords.{NodeWords}}
 
 abbrev pub Lacks : ℕ → List ℕ → Type 0
 Lacks mark bytes = list_any (λ c. c == mark) bytes ≡ false

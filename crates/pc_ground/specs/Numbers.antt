@@ -1,9 +1,7 @@
 -- In which order the nodes of a tree are numbered: as first seen in preorder, an edge's first node before its second.
-use Rattle.std.specs.Prelude.{ℕ, ◌≡◌, List, [], ◌∷◌, ◌++◌, Some, slice_get, if◌then◌else◌}
-use Rattle.std.specs.List.{list_any}
+use Rattle.std.specs.{Prelude.{ℕ, ◌≡◌, List, [], ◌∷◌, ◌++◌, Some, slice_get, if◌then◌else◌}, List.{list_any}}
 use Rattle.pc_common.specs.World.{Node, same_node}
-use Rattle.pc_ground.specs.declared.literal.Literal.{Literal}
-use Rattle.pc_ground.specs.declared.literal.Literal.TheVariants.{Node as a_node, Edge, NoNode, NoEdge}
+use Rattle.pc_ground.specs.declared.literal.Literal.{Literal, TheVariants.{Node as a_node, Edge, NoNode, NoEdge}}
 use Rattle.pc_ground.specs.Tree.{Tree, always, never, leaf, both, either}
 
 abbrev pub nodes_of_literal : {N : Type 0} → Literal N → List N

@@ -1,10 +1,7 @@
 -- A ground formula without addresses in memory; its negations pushed down to the literals, and its constants folded.
 use Rattle.std.specs.Prelude.{Bool, true, false}
 use Rattle.pc_common.specs.World.{Node}
-use Rattle.pc_ground.specs.declared.literal.Literal.{Literal}
-use Rattle.pc_ground.specs.declared.ground.Ground.{Ground}
-use Rattle.pc_ground.specs.declared.ground.Ground.TheVariants.{True, False, Lit, Not', And', Or'}
-use Rattle.pc_ground.specs.Keys.{literal_node}
+use Rattle.pc_ground.specs.{declared.{literal.Literal.{Literal}, ground.Ground.{Ground, TheVariants.{True, False, Lit, Not', And', Or'}}}, Keys.{literal_node}}
 use Rattle.pc_ground.specs.Tree.{Tree, always, never, leaf, both, either, contrary}
 
 pub data PlainGround : Type 0 where

@@ -3,14 +3,9 @@
 -- is one of the negated tree.
 use Rattle.std.specs.Prelude.{ℕ, ◌≡◌, ◌+◌, ◌-◌, zero, suc, nat_lt, Bool, false, not, map, List, [], ◌∷◌, ◌++◌, Option, Some, None, Contains, if◌then◌else◌}
 use Rattle.std.specs.List.{flat_map}
-use Rattle.pc_common.specs.Chain.{Leads}
-use Rattle.pc_common.specs.Steps.{Leaf, cycle, path, absent, false_step, Step, split, close}
-use Rattle.pc_ground.specs.declared.literal.Literal.{Literal}
-use Rattle.pc_ground.specs.declared.literal.Literal.TheVariants.{NoNode, NoEdge}
-use Rattle.pc_ground.specs.Tree.{Tree, always, never, leaf, both, either, negation, turned, size_of}
-use Rattle.pc_ground.specs.declared.version.Version.{Version}
-use Rattle.pc_ground.specs.declared.version.Version.TheVariants.{One, Two}
-use Rattle.pc_ground.specs.Rows.{root_kind, literals_of_kind}
+use Rattle.pc_common.specs.{Chain.{Leads}, Steps.{Leaf, cycle, path, absent, false_step, Step, split, close}}
+use Rattle.pc_ground.specs.declared.{literal.Literal.{Literal, TheVariants.{NoNode, NoEdge}}, version.Version.{Version, TheVariants.{One, Two}}}
+use Rattle.pc_ground.specs.{Tree.{Tree, always, never, leaf, both, either, negation, turned, size_of}, Rows.{root_kind, literals_of_kind}}
 use Rattle.pc_ground.specs.Literals.{Joins, IsPresent}
 
 -- the subtree at a position in preorder, the root's being 0

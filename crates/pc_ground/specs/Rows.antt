@@ -1,10 +1,7 @@
 -- A tree as rows in preorder: each position with what stands there and how many positions are below it, itself among
 -- them.
 use Rattle.std.specs.Prelude.{ℕ, ◌≡◌, Bool, true, false, List, [], ◌∷◌, ◌++◌, map}
-use Rattle.pc_ground.specs.declared.literal.Literal.{Literal}
-use Rattle.pc_ground.specs.declared.row.RowKind.{RowKind}
-use Rattle.pc_ground.specs.declared.row.RowKind.TheVariants.{True, False, Lit, And, Or}
-use Rattle.pc_ground.specs.declared.row.Row.{Row}
+use Rattle.pc_ground.specs.declared.{literal.Literal.{Literal}, row.{RowKind.{RowKind, TheVariants.{True, False, Lit, And, Or}}, Row.{Row}}}
 use Rattle.pc_ground.specs.Tree.{Tree, always, never, leaf, both, either, contrary, size_of}
 
 abbrev row : {N : Type 0} → RowKind N → ℕ → Row N

@@ -1,9 +1,7 @@
 -- The stages of a model: their numbers and names, and that axioms name no others.
 use Rattle.std.specs.Prelude.{ℕ, ◌≡◌, ◌<◌, List, [], ◌∷◌, Some, map, slice_get, IsTrue}
 use Rattle.pc_common.specs.Lines.{StageName}
-use Rattle.pc_syntax.specs.declared.closed.Closed.{Closed}
-use Rattle.pc_syntax.specs.Closed.{PlainClosed, plain_closed}
-use Rattle.pc_syntax.specs.StagesWithin.{StagesWithin}
+use Rattle.pc_syntax.specs.{declared.closed.Closed.{Closed}, Closed.{PlainClosed, plain_closed}, StagesWithin.{StagesWithin}}
 use Rattle.uspec_lexer.specs.Bytes.{is_name}
 use Rattle.pc_ground.specs.declared.stage.Stage.{Stage}
 

@@ -1,8 +1,7 @@
 -- A tree of And and Or over literals, its negation, its size and its truth in a world.
 use Rattle.std.specs.Prelude.{ℕ, ◌+◌, Bool, true, false, not, ◌&&◌, ◌||◌}
 use Rattle.pc_common.specs.World.{Node, World, has_node, has_edge}
-use Rattle.pc_ground.specs.declared.literal.Literal.{Literal}
-use Rattle.pc_ground.specs.declared.literal.Literal.TheVariants.{Node as a_node, Edge, NoNode, NoEdge}
+use Rattle.pc_ground.specs.declared.literal.Literal.{Literal, TheVariants.{Node as a_node, Edge, NoNode, NoEdge}}
 
 pub data Tree (N : Type 0) : Type 0 where
   always : Tree N

@@ -1,16 +1,13 @@
 -- What a formula says of one test: its quantifiers unfolded over their ranges, its lists over their members, its
 -- predicates decided.
 use Rattle.std.specs.Prelude.{Bool, true, false, List, [], ◌∷◌, ◌++◌, Option, Some, None, map, if◌then◌else◌}
-use Rattle.pc_common.specs.Case.{Case}
-use Rattle.pc_common.specs.World.{Node}
-use Rattle.pc_common.specs.Names.{same_name}
+use Rattle.pc_common.specs.{Case.{Case}, World.{Node}, Names.{same_name}}
 use Rattle.pc_ground.specs.declared.literal.Literal.TheVariants.{Node as a_node, Edge}
-use Rattle.pc_syntax.specs.declared.model.StageItem.{StageItem}
-use Rattle.pc_syntax.specs.Predicates.{predicate_holds}
+use Rattle.pc_ground.specs.PlainGround.{PlainGround, ground_true, ground_false, ground_literal, ground_not, ground_and, ground_or}
+use Rattle.pc_syntax.specs.{declared.model.StageItem.{StageItem}, Predicates.{predicate_holds}}
 use Rattle.pc_syntax.specs.Written.{Written, not_, and_, or_, implies_, forall_, exists_, static_, nodes_, edges_, expand_, bind_, MacroAt}
 use Rattle.pc_syntax.specs.Truth.{Environment, Meaning, bound_to, node_of, static_holds, range_of}
 use Rattle.pc_syntax.specs.Closed.{PlainClosed, closed_not, closed_and, closed_or, closed_implies, closed_forall, closed_exists, closed_static, closed_nodes, closed_edges, closed_bind, closed_value, closed_argument, closed_node}
-use Rattle.pc_ground.specs.PlainGround.{PlainGround, ground_true, ground_false, ground_literal, ground_not, ground_and, ground_or}
 
 -- And over all, from the first, ending in True
 abbrev pub all_of : List PlainGround → PlainGround

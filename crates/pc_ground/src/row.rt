@@ -40,7 +40,7 @@ impl<N> RowKind<N> {
 
 impl<N> Row<N> {
     /// The row of the tree, or of its negation. Takes no memory.
-    pub fn turned(self, negated: bool) -> Row<N>
+    pub fn negate_if(self, negated: bool) -> Row<N>
         ensures { result ≡ turned_row negated self }
     {
         let Row { kind, skip } = self;

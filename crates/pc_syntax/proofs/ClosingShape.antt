@@ -1,36 +1,20 @@
 -- What closing makes of a formula without name faults keeps what closed formulas keep.
 use Rattle.std.proofs.Common.{◌≡◌, ℕ, ◌+◌, ◌<◌, ◌≤◌, Bool, true, false, List, [], ◌∷◌, ◌++◌, Option, Some, None, length, map, cond, option_map, refl, sym, ap, subst, ◌∙◌, unwrap_or, append_assoc, append-nil, arith, length-append, eqb-true, ltb-false, nat_lt}
-use Rattle.std.proofs.lemmas.List.{length-map}
-use Rattle.std.proofs.lemmas.Option.{slice_get_within}
-use Rattle.std.specs.Option.{option_or}
-use Rattle.pc_common.specs.declared.place.Place.{Place}
-use Rattle.pc_common.specs.declared.fault.FaultKind.TheVariants.{PredicateUnknown, Unbound, StageUnknown}
-use Rattle.pc_syntax.specs.declared.term.Sort.{Sort}
-use Rattle.pc_syntax.specs.declared.term.Sort.TheVariants.{Microop, Core}
-use Rattle.pc_syntax.specs.declared.term.Word.{Word}
-use Rattle.pc_syntax.specs.declared.term.Arg.{Arg}
-use Rattle.pc_syntax.specs.declared.term.Arg.TheVariants.{Word as word_arg, Number as number_arg}
-use Rattle.pc_syntax.specs.declared.term.NodeTerm.{NodeTerm}
-use Rattle.pc_syntax.specs.declared.term.EdgeTerm.{EdgeTerm}
-use Rattle.pc_syntax.specs.declared.model.StageItem.{StageItem}
-use Rattle.pc_syntax.specs.declared.pred.Pred.{Pred}
-use Rattle.pc_syntax.specs.declared.pred.Pred.TheVariants.{True}
-use Rattle.pc_common.specs.Names.{same_name}
+use Rattle.std.{proofs.lemmas.{List.{length-map}, Option.{slice_get_within}}, specs.Option.{option_or}}
+use Rattle.pc_common.specs.{declared.{place.Place.{Place}, fault.FaultKind.TheVariants.{PredicateUnknown, Unbound, StageUnknown}}, Names.{same_name}}
 use Rattle.pc_common.proofs.Places.{slice_get-more}
-use Rattle.pc_syntax.specs.declared.pred.Takes.{Takes}
-use Rattle.pc_syntax.specs.declared.pred.Takes.TheVariants.{Op as takes_op, Core as takes_core, Plain as takes_plain}
-use Rattle.pc_syntax.specs.Predicates.{pred_with_name, takes_of}
+use Rattle.pc_syntax.specs.declared.term.{Sort.{Sort, TheVariants.{Microop, Core}}, Word.{Word}, Arg.{Arg}}
+use Rattle.pc_syntax.specs.declared.term.{Arg.TheVariants.{Word as word_arg, Number as number_arg}, NodeTerm.{NodeTerm}, EdgeTerm.{EdgeTerm}}
+use Rattle.pc_syntax.specs.declared.{model.StageItem.{StageItem}, pred.{Pred.{Pred, TheVariants.{True}}, Takes.{Takes}}}
+use Rattle.pc_syntax.specs.{declared.pred.Takes.TheVariants.{Op as takes_op, Core as takes_core, Plain as takes_plain}, Predicates.{pred_with_name, takes_of}}
 use Rattle.pc_syntax.specs.Written.{Written, not_, and_, or_, implies_, forall_, exists_, static_, nodes_, edges_, expand_, bind_}
 use Rattle.pc_syntax.specs.Stages.{stage_with_name, stage_number_of}
 use Rattle.pc_syntax.specs.IsClosed.{IsBound, FitsArg, FitArgs, FitsCore, FitsNode, FitNodes, FitEdges, HasValue, HaveValues, sort_of, IsClosed}
-use Rattle.pc_syntax.specs.Scope.{Binding, Scope, binding_of, sort_of_arg, quantified_in, bindings_from, bound_in}
-use Rattle.pc_syntax.specs.Fault.{Fault, first_fault}
+use Rattle.pc_syntax.specs.{Scope.{Binding, Scope, binding_of, sort_of_arg, quantified_in, bindings_from, bound_in}, Fault.{Fault, first_fault}}
 use Rattle.pc_syntax.specs.StageFaults.{number_fault, number_again, name_again, stage_fault, stages_fault}
 use Rattle.pc_syntax.specs.NameFaults.{sort_fault, variable_fault, core_fault, argument_fault, arguments_fault, arity_fault, location_fault, stage_name_fault, node_fault, edge_fault, value_fault, scope_fault, binding_fault, name_fault}
 use Rattle.pc_syntax.specs.Closing.{slot_of, closing_of_value, closing_of_bound, closing_of_arg, closing_of_args, closing_of_node, closing_of_edge, closing_of_static, closing_of}
-use Rattle.pc_syntax.proofs.NoFault.{none_first, none_second, none_where, none_unless}
-use Rattle.pc_syntax.proofs.Slots.{slice_get-end}
-use Rattle.pc_syntax.proofs.ClosingTruth.{sorts_equal, bound_length}
+use Rattle.pc_syntax.proofs.{NoFault.{none_first, none_second, none_where, none_unless}, Slots.{slice_get-end}, ClosingTruth.{sorts_equal, bound_length}}
 
 -- each stage's number is below 64
 abbrev pub StagesBelow : List StageItem → Type 0

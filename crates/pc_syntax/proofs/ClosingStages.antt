@@ -1,21 +1,12 @@
 -- Closing a formula without name faults names stages of the model alone.
 use Rattle.std.proofs.Common.{◌≡◌, ℕ, Bool, true, false, ◌||◌, List, [], ◌∷◌, Option, Some, None, map, cond, option_map, refl, unwrap_or, eq-eqb, nat_eq}
-use Rattle.std.specs.List.{list_any}
-use Rattle.std.specs.Option.{option_or}
-use Rattle.pc_common.specs.Names.{same_name}
-use Rattle.pc_common.specs.declared.fault.FaultKind.TheVariants.{StageUnknown}
-use Rattle.pc_syntax.specs.declared.term.Sort.TheVariants.{Microop}
-use Rattle.pc_syntax.specs.declared.term.Word.{Word}
-use Rattle.pc_syntax.specs.declared.term.NodeTerm.{NodeTerm}
-use Rattle.pc_syntax.specs.declared.term.EdgeTerm.{EdgeTerm}
-use Rattle.pc_syntax.specs.declared.model.StageItem.{StageItem}
+use Rattle.std.specs.{List.{list_any}, Option.{option_or}}
+use Rattle.pc_common.specs.{Names.{same_name}, declared.fault.FaultKind.TheVariants.{StageUnknown}}
+use Rattle.pc_syntax.specs.declared.{term.{Sort.TheVariants.{Microop}, Word.{Word}, NodeTerm.{NodeTerm}, EdgeTerm.{EdgeTerm}}, model.StageItem.{StageItem}}
 use Rattle.pc_syntax.specs.Written.{Written, not_, and_, or_, implies_, forall_, exists_, static_, nodes_, edges_, expand_, bind_, stage_numbers}
-use Rattle.pc_syntax.specs.Stages.{stage_with_name, stage_number_of}
-use Rattle.pc_syntax.specs.Scope.{Scope, quantified_in, bound_in}
-use Rattle.pc_syntax.specs.Fault.{Fault, first_fault}
+use Rattle.pc_syntax.specs.{Stages.{stage_with_name, stage_number_of}, Scope.{Scope, quantified_in, bound_in}, Fault.{Fault, first_fault}}
 use Rattle.pc_syntax.specs.NameFaults.{variable_fault, location_fault, stage_name_fault, node_fault, edge_fault, scope_fault, binding_fault, name_fault}
-use Rattle.pc_syntax.specs.Closing.{closing_of_node, closing_of_edge, closing_of}
-use Rattle.pc_syntax.specs.StagesWithin.{IsAmong, NodesWithin, EdgesWithin, StagesWithin}
+use Rattle.pc_syntax.specs.{Closing.{closing_of_node, closing_of_edge, closing_of}, StagesWithin.{IsAmong, NodesWithin, EdgesWithin, StagesWithin}}
 use Rattle.pc_syntax.proofs.NoFault.{none_first, none_second}
 
 or_else : (a b : Bool) → b ≡ true → a || b ≡ true

@@ -1,36 +1,20 @@
 -- Closing keeps the truth of a formula that has no name fault.
 use Rattle.std.proofs.Common.{◌≡◌, ℕ, suc, ◌+◌, Bool, false, not, ◌&&◌, ◌||◌, List, [], ◌∷◌, ◌++◌, Option, Some, None, length, map, option_map, refl, sym, ap, subst, ◌∙◌, slice_get, unwrap_or, append_assoc, append-nil, arith, length-append, eqb-true}
-use Rattle.std.proofs.lemmas.List.{length-map}
-use Rattle.std.specs.List.{list_any, list_all}
-use Rattle.std.specs.Option.{option_or}
-use Rattle.pc_common.specs.Case.{MicroOp, Case, cores_of}
-use Rattle.pc_common.specs.World.{Node, World}
-use Rattle.pc_common.specs.declared.place.Place.{Place}
+use Rattle.std.{proofs.lemmas.List.{length-map}, specs.{List.{list_any, list_all}, Option.{option_or}}}
+use Rattle.pc_common.specs.{Case.{MicroOp, Case, cores_of}, World.{Node, World}, declared.place.Place.{Place}}
 use Rattle.pc_common.specs.declared.fault.FaultKind.TheVariants.{PredicateUnknown, Unbound, StageUnknown}
-use Rattle.pc_syntax.specs.declared.term.Sort.{Sort}
-use Rattle.pc_syntax.specs.declared.term.Sort.TheVariants.{Microop, Core}
-use Rattle.pc_syntax.specs.declared.term.Word.{Word}
-use Rattle.pc_syntax.specs.declared.term.Arg.{Arg}
-use Rattle.pc_syntax.specs.declared.term.Arg.TheVariants.{Word as word_arg, Number as number_arg}
-use Rattle.pc_syntax.specs.declared.term.NodeTerm.{NodeTerm}
-use Rattle.pc_syntax.specs.declared.term.EdgeTerm.{EdgeTerm}
-use Rattle.pc_syntax.specs.declared.model.StageItem.{StageItem}
-use Rattle.pc_syntax.specs.declared.pred.Pred.{Pred}
-use Rattle.pc_syntax.specs.declared.pred.Pred.TheVariants.{True}
-use Rattle.pc_syntax.specs.declared.pred.Takes.{Takes}
-use Rattle.pc_syntax.specs.declared.pred.Takes.TheVariants.{Op as takes_op, Core as takes_core, Plain as takes_plain}
-use Rattle.pc_syntax.specs.Stages.{stage_number_of}
-use Rattle.pc_syntax.specs.Arguments.{Argument, op_at, core_at}
-use Rattle.pc_syntax.specs.Predicates.{pred_with_name, takes_of, predicate_holds}
+use Rattle.pc_syntax.specs.declared.term.{Sort.{Sort, TheVariants.{Microop, Core}}, Word.{Word}, Arg.{Arg}}
+use Rattle.pc_syntax.specs.declared.term.{Arg.TheVariants.{Word as word_arg, Number as number_arg}, NodeTerm.{NodeTerm}, EdgeTerm.{EdgeTerm}}
+use Rattle.pc_syntax.specs.declared.{model.StageItem.{StageItem}, pred.{Pred.{Pred, TheVariants.{True}}, Takes.{Takes}}}
+use Rattle.pc_syntax.specs.{declared.pred.Takes.TheVariants.{Op as takes_op, Core as takes_core, Plain as takes_plain}, Stages.{stage_number_of}}
+use Rattle.pc_syntax.specs.{Arguments.{Argument, op_at, core_at}, Predicates.{pred_with_name, takes_of, predicate_holds}}
 use Rattle.pc_syntax.specs.Written.{Written, not_, and_, or_, implies_, forall_, exists_, static_, nodes_, edges_, expand_, bind_}
 use Rattle.pc_syntax.specs.Truth.{Meaning, an_op, a_core, Environment, Setting, value_of, value_of_arg, bound_to, op_of, core_of, location_core, node_at, core_there, node_of, node_holds, edge_holds, argument_of, put_first, arguments_of, pred_holds, static_holds, below, range_of, is_true}
 use Rattle.pc_syntax.specs.Closed.{value_at, closed_value, argument_at, closed_argument, closed_core, core_at_op, closed_node, closed_true}
-use Rattle.pc_syntax.specs.Scope.{Binding, Scope, binding_of, sort_of_arg, quantified_in, bindings_from, bound_in}
-use Rattle.pc_syntax.specs.Fault.{Fault, first_fault}
+use Rattle.pc_syntax.specs.{Scope.{Binding, Scope, binding_of, sort_of_arg, quantified_in, bindings_from, bound_in}, Fault.{Fault, first_fault}}
 use Rattle.pc_syntax.specs.NameFaults.{sort_fault, variable_fault, argument_fault, arguments_fault, arity_fault, location_fault, stage_name_fault, node_fault, edge_fault, value_fault, scope_fault, binding_fault, name_fault}
 use Rattle.pc_syntax.specs.Closing.{slot_of, closing_of_value, closing_of_bound, closing_of_arg, closing_of_args, closing_of_node, closing_of_edge, closing_of_static, closing_of}
-use Rattle.pc_syntax.proofs.NoFault.{none_first, none_second, none_unless}
-use Rattle.pc_syntax.specs.Fits.{sort_of_meaning, Fits}
+use Rattle.pc_syntax.{specs.Fits.{sort_of_meaning, Fits}, proofs.NoFault.{none_first, none_second, none_unless}}
 use Rattle.pc_syntax.proofs.Slots.{SameFound, found, slice_get-end, Fits-more, Fits-quantified}
 
 -- a name has a value, which is that of the slot, of the sort

@@ -1,18 +1,11 @@
 -- Small models for which the first faults, heights and sizes are known.
-use Rattle.std.proofs.Common.{◌≡◌, ℕ, ◌+◌, zero, suc, List, [], ◌∷◌, Some, None, refl}
-use Rattle.std.specs.Prelude.{codes}
+use Rattle.std.{proofs.Common.{◌≡◌, ℕ, ◌+◌, zero, suc, List, [], ◌∷◌, Some, None, refl}, specs.Prelude.{codes}}
 use Rattle.pc_common.specs.declared.place.Place.{Place}
 use Rattle.pc_common.specs.declared.fault.FaultKind.TheVariants.{StageNumber, StageAgain, MacroAgain, MacroUnknown, MacroArguments, ParameterAgain, PredicateUnknown, Arity, Unbound, WrongSort, CoreNumber, StageUnknown, TooManyVariables}
-use Rattle.pc_syntax.specs.declared.term.Sort.TheVariants.{Microop, Core}
-use Rattle.pc_syntax.specs.declared.term.Word.{Word}
-use Rattle.pc_syntax.specs.declared.term.Arg.{Arg}
-use Rattle.pc_syntax.specs.declared.term.Arg.TheVariants.{Word as word_arg, Number as number_arg}
-use Rattle.pc_syntax.specs.declared.model.StageItem.{StageItem}
-use Rattle.pc_syntax.specs.Predicates.{all_preds}
+use Rattle.pc_syntax.specs.declared.term.{Sort.TheVariants.{Microop, Core}, Word.{Word}, Arg.{Arg, TheVariants.{Word as word_arg, Number as number_arg}}}
+use Rattle.pc_syntax.specs.{declared.model.StageItem.{StageItem}, Predicates.{all_preds}}
 use Rattle.pc_syntax.specs.Written.{Written, not_, and_, forall_, static_, nodes_, expand_, MacroAt, WrittenItem, axiom_, macro_, WrittenModel}
-use Rattle.pc_syntax.specs.Sizes.{expanded_size, expanded_height}
-use Rattle.pc_syntax.specs.StageFaults.{first_stage_fault}
-use Rattle.pc_syntax.specs.MacroFaults.{first_macro_fault}
+use Rattle.pc_syntax.specs.{Sizes.{expanded_size, expanded_height}, StageFaults.{first_stage_fault}, MacroFaults.{first_macro_fault}}
 use Rattle.pc_syntax.specs.NameFaults.{first_name_fault}
 
 abbrev at : ℕ → Place

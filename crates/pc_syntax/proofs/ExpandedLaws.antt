@@ -1,17 +1,11 @@
 -- The expansion of an axiom has no expansion left where the model has no macro fault.
 use Rattle.std.proofs.Common.{◌≡◌, ℕ, Bool, true, false, List, [], ◌∷◌, ◌++◌, Option, Some, None, cond, reverse, refl, sym, ap, subst, option_map, if◌then◌else◌, ◌∙◌, append_assoc, append-nil, All}
-use Rattle.std.specs.List.{flat_map}
+use Rattle.std.{proofs.lemmas.{List.{reverse-append, reverse-reverse, Elements.{All-nil, All-cons}}, Slice.Eq.{bytes_eq-Decides}}, specs.List.{flat_map}}
 use Rattle.std.specs.Option.{option_or}
-use Rattle.std.proofs.lemmas.List.{reverse-append, reverse-reverse}
-use Rattle.std.proofs.lemmas.List.Elements.{All-nil, All-cons}
-use Rattle.std.proofs.lemmas.Slice.Eq.{bytes_eq-Decides}
-use Rattle.pc_common.specs.declared.fault.FaultKind.TheVariants.{MacroAgain, MacroUnknown}
-use Rattle.pc_syntax.specs.declared.term.Word.{Word}
-use Rattle.pc_syntax.specs.declared.term.Arg.{Arg}
-use Rattle.pc_common.specs.Names.{same_name}
+use Rattle.pc_common.specs.{declared.fault.FaultKind.TheVariants.{MacroAgain, MacroUnknown}, Names.{same_name}}
+use Rattle.pc_syntax.specs.declared.term.{Word.{Word}, Arg.{Arg}}
 use Rattle.pc_syntax.specs.Written.{Written, not_, and_, or_, implies_, forall_, exists_, static_, nodes_, edges_, expand_, bind_, MacroAt, WrittenItem, axiom_, macro_, WrittenModel}
-use Rattle.pc_syntax.specs.Observable.{axiom_of, macro_of, axioms_of, macros_in_order, macros_of}
-use Rattle.pc_syntax.specs.Expansion.{parameter_names, expansion_of, IsExpanded}
+use Rattle.pc_syntax.specs.{Observable.{axiom_of, macro_of, axioms_of, macros_in_order, macros_of}, Expansion.{parameter_names, expansion_of, IsExpanded}}
 use Rattle.pc_syntax.specs.Fault.{Fault}
 use Rattle.pc_syntax.specs.MacroFaults.{macro_with_name, macro_again, parameters_fault, count_fault, body_fault, macro_fault, items_fault, first_macro_fault}
 use Rattle.pc_syntax.proofs.NoFault.{none_first, none_second}

@@ -1,14 +1,10 @@
 -- Expansion keeps the truth, the size, the height and the first name fault of a formula.
-use Rattle.std.proofs.Common.{◌≡◌, ◌+◌, Bool, true, false, not, ◌&&◌, ◌||◌, List, [], ◌∷◌, ◌++◌, cond, refl}
-use Rattle.std.specs.List.{list_any, list_all}
+use Rattle.std.{proofs.Common.{◌≡◌, ◌+◌, Bool, true, false, not, ◌&&◌, ◌||◌, List, [], ◌∷◌, ◌++◌, cond, refl}, specs.List.{list_any, list_all}}
 use Rattle.std.specs.Option.{option_or}
-use Rattle.pc_syntax.specs.declared.model.StageItem.{StageItem}
+use Rattle.pc_syntax.specs.{declared.model.StageItem.{StageItem}, Written.{Written, not_, and_, or_, implies_, forall_, exists_, expand_, bind_, MacroAt}}
+use Rattle.pc_syntax.specs.{Truth.{Environment, Setting, bound_to, range_of, is_true}, Expansion.{parameter_names, expansion_of}}
+use Rattle.pc_syntax.specs.{Scope.{Scope, quantified_in, bound_in}, NameFaults.{scope_fault, binding_fault, name_fault}}
 use Rattle.pc_common.specs.Names.{same_name}
-use Rattle.pc_syntax.specs.Written.{Written, not_, and_, or_, implies_, forall_, exists_, expand_, bind_, MacroAt}
-use Rattle.pc_syntax.specs.Truth.{Environment, Setting, bound_to, range_of, is_true}
-use Rattle.pc_syntax.specs.Expansion.{parameter_names, expansion_of}
-use Rattle.pc_syntax.specs.Scope.{Scope, quantified_in, bound_in}
-use Rattle.pc_syntax.specs.NameFaults.{scope_fault, binding_fault, name_fault}
 
 -- what is read off the formula that a test chooses
 pub choose : {A : Type 0} (f : Written → A) (b : Bool) (x y : A) (v w : Written)

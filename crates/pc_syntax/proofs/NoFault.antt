@@ -1,6 +1,5 @@
 -- Where the first fault is none, none of its parts is one.
-use Rattle.std.proofs.Common.{◌≡◌, Bool, true, false, Option, Some, None, cond, refl}
-use Rattle.std.specs.Option.{option_or}
+use Rattle.std.{proofs.Common.{◌≡◌, Bool, true, false, Option, Some, None, cond, refl}, specs.Option.{option_or}}
 
 module _ {A : Type 0} where
   pub none_first : (a b : Option A) → option_or a b ≡ None → a ≡ None

@@ -1,13 +1,9 @@
 -- A model with other names: its axioms, its macros, its stages.
 use Rattle.std.proofs.Common.{◌≡◌, ℕ, Bool, true, false, List, [], ◌∷◌, ◌++◌, Option, Some, map, reverse, cond, option_map, refl, sym, ap, ◌∙◌}
-use Rattle.std.proofs.lemmas.List.{map-append, reverse-append}
-use Rattle.std.specs.List.{flat_map}
+use Rattle.std.{proofs.lemmas.List.{map-append, reverse-append}, specs.List.{flat_map}}
 use Rattle.pc_common.specs.Names.{same_name}
-use Rattle.pc_syntax.specs.declared.term.Word.{Word}
-use Rattle.pc_syntax.specs.declared.model.StageItem.{StageItem}
-use Rattle.pc_syntax.specs.Written.{Written, MacroAt, WrittenItem, axiom_, macro_, WrittenModel}
-use Rattle.pc_syntax.specs.Observable.{axiom_of, macro_of, axioms_of, macros_in_order, macros_of}
-use Rattle.pc_syntax.specs.Stages.{stage_with_name}
+use Rattle.pc_syntax.specs.{declared.{term.Word.{Word}, model.StageItem.{StageItem}}, Written.{Written, MacroAt, WrittenItem, axiom_, macro_, WrittenModel}}
+use Rattle.pc_syntax.specs.{Observable.{axiom_of, macro_of, axioms_of, macros_in_order, macros_of}, Stages.{stage_with_name}}
 use Rattle.pc_syntax.specs.Renaming.{Renaming, KeepsApart, renamed_word, renamed, renamed_macro, renamed_item, renamed_stage, renamed_model}
 
 -- a list with its last member first, changed

@@ -1,11 +1,8 @@
 -- The values of a scope's names, and of a closed formula's slots, are the same.
 use Rattle.std.proofs.Common.{◌≡◌, ℕ, zero, suc, Bool, true, false, List, [], ◌∷◌, ◌++◌, Option, Some, None, length, cond, refl, sym, subst, slice_get, arith}
-use Rattle.pc_syntax.specs.declared.term.Sort.{Sort}
-use Rattle.pc_common.specs.Names.{same_name}
-use Rattle.pc_common.proofs.Places.{slice_get-more}
-use Rattle.pc_syntax.specs.Truth.{Meaning, Environment, value_of}
-use Rattle.pc_syntax.specs.Scope.{Binding, Scope, binding_of, quantified_in}
+use Rattle.pc_syntax.specs.{declared.term.Sort.{Sort}, Truth.{Meaning, Environment, value_of}, Scope.{Binding, Scope, binding_of, quantified_in}}
 use Rattle.pc_syntax.specs.Fits.{sort_of_meaning, Fits}
+use Rattle.pc_common.{specs.Names.{same_name}, proofs.Places.{slice_get-more}}
 
 -- a value and a binding of one name, or neither
 abbrev pub SameFound : List Meaning → Option Meaning → Option Binding → Type 0

@@ -1,6 +1,5 @@
 -- The arguments of a predicate, once their names are resolved, and tests of them.
-use Rattle.std.specs.Prelude.{ℕ, Bool, false, List, Option, Some, None, slice_get}
-use Rattle.std.specs.Option.{option_and_then, option_zip}
+use Rattle.std.specs.{Prelude.{ℕ, Bool, false, List, Option, Some, None, slice_get}, Option.{option_and_then, option_zip}}
 use Rattle.pc_common.specs.Case.{Touch, MicroOp, Case}
 
 -- an argument: a micro-op by its place in test order, a core, or a plain name

@@ -1,21 +1,12 @@
 -- A closed formula without addresses in memory, and its truth in a case, a world and the values of its
 -- slots, which are listed from the outermost binding.
-use Rattle.std.specs.Prelude.{ℕ, Bool, not, List, [], ◌∷◌, ◌++◌, Option, Some, None, map, slice_get, unwrap_or, ◌&&◌, ◌||◌}
-use Rattle.std.specs.List.{list_any, list_all}
-use Rattle.pc_common.specs.Case.{MicroOp, Case}
-use Rattle.pc_common.specs.World.{Node, World}
-use Rattle.pc_syntax.specs.declared.term.Sort.{Sort}
-use Rattle.pc_syntax.specs.declared.pred.Pred.{Pred}
-use Rattle.pc_syntax.specs.declared.bound.Bound.{Bound}
-use Rattle.pc_syntax.specs.declared.bound.Bound.TheVariants.{Op as bound_op, Core as bound_core}
-use Rattle.pc_syntax.specs.declared.closed_term.ClosedArg.{ClosedArg}
-use Rattle.pc_syntax.specs.declared.closed_term.ClosedArg.TheVariants.{Slot, Core, Plain}
-use Rattle.pc_syntax.specs.declared.closed_term.ClosedNode.{ClosedNode}
-use Rattle.pc_syntax.specs.declared.closed_term.ClosedEdge.{ClosedEdge}
+use Rattle.std.specs.{Prelude.{ℕ, Bool, not, List, [], ◌∷◌, ◌++◌, Option, Some, None, map, slice_get, unwrap_or, ◌&&◌, ◌||◌}, List.{list_any, list_all}}
+use Rattle.pc_common.specs.{Case.{MicroOp, Case}, World.{Node, World}}
+use Rattle.pc_syntax.specs.declared.{term.Sort.{Sort}, pred.Pred.{Pred}, bound.Bound.{Bound, TheVariants.{Op as bound_op, Core as bound_core}}}
+use Rattle.pc_syntax.specs.declared.closed_term.{ClosedArg.{ClosedArg, TheVariants.{Slot, Core, Plain}}, ClosedNode.{ClosedNode}, ClosedEdge.{ClosedEdge}}
 use Rattle.pc_syntax.specs.declared.closed_formula.ClosedFormula.{ClosedFormula}
 use Rattle.pc_syntax.specs.declared.closed_formula.ClosedFormula.TheVariants.{Not', And', Or', Implies', Forall', Exists', Static, Nodes, Edges, Bind'}
-use Rattle.pc_syntax.specs.Arguments.{Argument, op_at, core_at, plain_name}
-use Rattle.pc_syntax.specs.Predicates.{predicate_holds}
+use Rattle.pc_syntax.specs.{Arguments.{Argument, op_at, core_at, plain_name}, Predicates.{predicate_holds}}
 use Rattle.pc_syntax.specs.Truth.{Meaning, an_op, a_core, op_of, core_of, node_at, node_holds, edge_holds, range_of}
 
 pub data PlainClosed : Type 0 where

@@ -1,26 +1,14 @@
 -- What closing makes of an expanded formula: each variable is the slot of its first binding, each
 -- stage name its number, each predicate its row.
 use Rattle.std.specs.Prelude.{◌≡◌, ℕ, List, [], ◌∷◌, Some, None, map, unwrap_or, option_map}
-use Rattle.pc_syntax.specs.declared.term.Word.{Word}
-use Rattle.pc_syntax.specs.declared.term.Arg.{Arg}
-use Rattle.pc_syntax.specs.declared.term.Arg.TheVariants.{Word as word_arg, Number as number_arg}
-use Rattle.pc_syntax.specs.declared.term.NodeTerm.{NodeTerm}
-use Rattle.pc_syntax.specs.declared.term.EdgeTerm.{EdgeTerm}
-use Rattle.pc_syntax.specs.declared.model.StageItem.{StageItem}
-use Rattle.pc_syntax.specs.declared.pred.Pred.{Pred}
-use Rattle.pc_syntax.specs.declared.pred.Pred.TheVariants.{True, False}
-use Rattle.pc_syntax.specs.declared.pred.Takes.{Takes}
-use Rattle.pc_syntax.specs.declared.pred.Takes.TheVariants.{Op as takes_op, Core as takes_core, Plain as takes_plain}
-use Rattle.pc_syntax.specs.declared.closed_term.ClosedArg.{ClosedArg}
-use Rattle.pc_syntax.specs.declared.closed_term.ClosedArg.TheVariants.{Slot, Core, Plain}
-use Rattle.pc_syntax.specs.declared.closed_term.ClosedNode.{ClosedNode}
-use Rattle.pc_syntax.specs.declared.closed_term.ClosedEdge.{ClosedEdge}
+use Rattle.pc_syntax.specs.declared.term.{Word.{Word}, Arg.{Arg, TheVariants.{Word as word_arg, Number as number_arg}}, NodeTerm.{NodeTerm}}
+use Rattle.pc_syntax.specs.declared.{term.EdgeTerm.{EdgeTerm}, model.StageItem.{StageItem}, pred.{Pred.{Pred, TheVariants.{True, False}}, Takes.{Takes}}}
+use Rattle.pc_syntax.specs.declared.{pred.Takes.TheVariants.{Op as takes_op, Core as takes_core, Plain as takes_plain}, closed_term.ClosedArg.{ClosedArg}}
+use Rattle.pc_syntax.specs.declared.closed_term.{ClosedArg.TheVariants.{Slot, Core, Plain}, ClosedNode.{ClosedNode}, ClosedEdge.{ClosedEdge}}
 use Rattle.pc_syntax.specs.Predicates.{pred_with_name, takes_of}
-use Rattle.pc_syntax.specs.Written.{Written, not_, and_, or_, implies_, forall_, exists_, static_, nodes_, edges_, expand_, bind_}
-use Rattle.pc_syntax.specs.Stages.{stage_number_of}
+use Rattle.pc_syntax.specs.{Written.{Written, not_, and_, or_, implies_, forall_, exists_, static_, nodes_, edges_, expand_, bind_}, Stages.{stage_number_of}}
 use Rattle.pc_syntax.specs.Closed.{PlainClosed, closed_not, closed_and, closed_or, closed_implies, closed_forall, closed_exists, closed_static, closed_nodes, closed_edges, closed_bind}
-use Rattle.pc_syntax.specs.Scope.{Scope, binding_of, quantified_in, bound_in}
-use Rattle.pc_syntax.specs.NameFaults.{name_fault}
+use Rattle.pc_syntax.specs.{Scope.{Scope, binding_of, quantified_in, bound_in}, NameFaults.{name_fault}}
 
 -- What follows is total: it takes 0 for the slot of a name without binding and for the number of a
 -- stage that isn't there, and `True` for a predicate that isn't there. A formula without name faults

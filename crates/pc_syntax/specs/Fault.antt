@@ -1,8 +1,6 @@
 -- A fault of a model file: what is wrong, and where.
-use Rattle.std.specs.Prelude.{List, [], ◌∷◌, Option, None}
-use Rattle.std.specs.Option.{option_or}
-use Rattle.pc_common.specs.declared.place.Place.{Place}
-use Rattle.pc_common.specs.declared.fault.FaultKind.{FaultKind}
+use Rattle.std.specs.{Prelude.{List, [], ◌∷◌, Option, None}, Option.{option_or}}
+use Rattle.pc_common.specs.declared.{place.Place.{Place}, fault.FaultKind.{FaultKind}}
 
 abbrev pub Fault : Type 0
 Fault = FaultKind × Place

@@ -1,9 +1,6 @@
 -- When an environment, a scope and the values of slots belong together.
 use Rattle.std.specs.Prelude.{◌≡◌, List, [], ◌∷◌, Some, slice_get}
-use Rattle.pc_syntax.specs.declared.term.Sort.{Sort}
-use Rattle.pc_syntax.specs.declared.term.Sort.TheVariants.{Microop, Core}
-use Rattle.pc_syntax.specs.Truth.{Meaning, an_op, a_core, Environment}
-use Rattle.pc_syntax.specs.Scope.{Scope}
+use Rattle.pc_syntax.specs.{declared.term.Sort.{Sort, TheVariants.{Microop, Core}}, Truth.{Meaning, an_op, a_core, Environment}, Scope.{Scope}}
 
 abbrev pub sort_of_meaning : Meaning → Sort
 sort_of_meaning (an_op i) = Microop

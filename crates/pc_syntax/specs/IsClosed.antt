@@ -1,16 +1,10 @@
 -- What a closed formula keeps. A scope lists the sorts of the slots, from the outermost binding.
 use Rattle.std.specs.Prelude.{◌≡◌, ℕ, ◌<◌, ◌≤◌, ◌+◌, List, [], ◌∷◌, ◌++◌, Option, Some, None, length, map, slice_get, unwrap_or}
 use Rattle.pc_common.specs.declared.limits.TheConstants.{MAX_CORE}
-use Rattle.pc_syntax.specs.declared.limits.TheConstants.{MAX_STAGE, MAX_VARIABLES}
-use Rattle.pc_syntax.specs.declared.term.Sort.{Sort}
-use Rattle.pc_syntax.specs.declared.term.Sort.TheVariants.{Microop, Core}
-use Rattle.pc_syntax.specs.declared.closed_term.ClosedArg.{ClosedArg}
-use Rattle.pc_syntax.specs.declared.closed_term.ClosedArg.TheVariants.{Slot, Core as core_arg, Plain}
-use Rattle.pc_syntax.specs.declared.closed_term.ClosedNode.{ClosedNode}
-use Rattle.pc_syntax.specs.declared.closed_term.ClosedEdge.{ClosedEdge}
-use Rattle.pc_syntax.specs.declared.pred.Takes.{Takes}
-use Rattle.pc_syntax.specs.declared.pred.Takes.TheVariants.{Op as takes_op, Core as takes_core, Plain as takes_plain}
-use Rattle.pc_syntax.specs.Predicates.{takes_of}
+use Rattle.pc_syntax.specs.declared.{limits.TheConstants.{MAX_STAGE, MAX_VARIABLES}, term.Sort.{Sort, TheVariants.{Microop, Core}}}
+use Rattle.pc_syntax.specs.declared.closed_term.{ClosedArg.{ClosedArg, TheVariants.{Slot, Core as core_arg, Plain}}, ClosedNode.{ClosedNode}}
+use Rattle.pc_syntax.specs.declared.{closed_term.ClosedEdge.{ClosedEdge}, pred.Takes.{Takes}}
+use Rattle.pc_syntax.specs.{declared.pred.Takes.TheVariants.{Op as takes_op, Core as takes_core, Plain as takes_plain}, Predicates.{takes_of}}
 use Rattle.pc_syntax.specs.Closed.{PlainClosed, closed_not, closed_and, closed_or, closed_implies, closed_forall, closed_exists, closed_static, closed_nodes, closed_edges, closed_bind}
 
 -- the slot is bound with this sort

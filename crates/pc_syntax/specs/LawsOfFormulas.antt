@@ -1,22 +1,14 @@
 -- What the types of formulas promise has one proof: that a formula is expanded, closed and names stages of a model.
-use Rattle.std.specs.Prelude.{ℕ, List, [], ◌∷◌, Option, Some, None, slice_get, true, ◌==◌}
-use Rattle.std.specs.Coded.{Coded-set, coded_option, le_prop, coded_bool}
+use Rattle.std.specs.{Prelude.{ℕ, List, [], ◌∷◌, Option, Some, None, slice_get, true, ◌==◌}, Coded.{Coded-set, coded_option, le_prop, coded_bool}}
 use Rattle.std.specs.List.{list_any}
-use Rattle.pc_syntax.specs.Written.{Written, not_, and_, or_, implies_, forall_, exists_, static_, nodes_, edges_, expand_, bind_}
-use Rattle.pc_syntax.specs.Expansion.{IsExpanded}
-use Rattle.pc_syntax.specs.declared.term.Sort.{Sort}
-use Rattle.pc_syntax.specs.declared.term.Sort.TheVariants.{Microop, Core}
-use Rattle.pc_syntax.specs.declared.closed_term.ClosedArg.{ClosedArg}
-use Rattle.pc_syntax.specs.declared.closed_term.ClosedArg.TheVariants.{Slot, Core as core_arg, Plain}
-use Rattle.pc_syntax.specs.declared.closed_term.ClosedNode.{ClosedNode}
-use Rattle.pc_syntax.specs.declared.closed_term.ClosedEdge.{ClosedEdge}
-use Rattle.pc_syntax.specs.declared.pred.Takes.{Takes}
-use Rattle.pc_syntax.specs.declared.pred.Takes.TheVariants.{Op as takes_op, Core as takes_core, Plain as takes_plain}
-use Rattle.pc_syntax.specs.contracts.term.Sort as sort_row
-use Rattle.pc_syntax.specs.Predicates.{takes_of}
+use Rattle.pc_syntax.specs.{Written.{Written, not_, and_, or_, implies_, forall_, exists_, static_, nodes_, edges_, expand_, bind_}, Expansion.{IsExpanded}}
+use Rattle.pc_syntax.specs.declared.{term.Sort.{Sort, TheVariants.{Microop, Core}}, closed_term.ClosedArg.{ClosedArg}}
+use Rattle.pc_syntax.specs.declared.closed_term.{ClosedArg.TheVariants.{Slot, Core as core_arg, Plain}, ClosedNode.{ClosedNode}, ClosedEdge.{ClosedEdge}}
+use Rattle.pc_syntax.specs.{declared.pred.Takes.{Takes, TheVariants.{Op as takes_op, Core as takes_core, Plain as takes_plain}}, Predicates.{takes_of}}
 use Rattle.pc_syntax.specs.Closed.{PlainClosed, closed_not, closed_and, closed_or, closed_implies, closed_forall, closed_exists, closed_static, closed_nodes, closed_edges, closed_bind}
 use Rattle.pc_syntax.specs.IsClosed.{IsBound, FitsArg, FitArgs, FitsCore, FitsNode, FitNodes, FitEdges, HaveValues, with_sort, with_sorts, IsClosed}
 use Rattle.pc_syntax.specs.StagesWithin.{IsAmong, NodesWithin, EdgesWithin, StagesWithin}
+use Rattle.pc_syntax.specs.contracts.term.Sort as sort_row
 
 pub IsExpanded-prop : (w : Written) → IsProp (IsExpanded w)
 IsExpanded-prop (not_ p) = IsExpanded-prop p

@@ -1,14 +1,10 @@
 -- The first fault of a model's macros. Items are walked in the text's order, in a macro its name, its
 -- parameters, then its body.
-use Rattle.std.specs.Prelude.{ℕ, List, [], ◌∷◌, ◌++◌, Option, Some, None, length, ◌==◌, if◌then◌else◌, option_map}
-use Rattle.std.specs.Option.{option_or}
-use Rattle.pc_common.specs.declared.fault.FaultKind.TheVariants.{MacroAgain, ParameterAgain, MacroUnknown, MacroArguments}
-use Rattle.pc_syntax.specs.declared.term.Word.{Word}
-use Rattle.pc_syntax.specs.declared.term.Arg.{Arg}
-use Rattle.pc_common.specs.Names.{same_name}
+use Rattle.std.specs.{Prelude.{ℕ, List, [], ◌∷◌, ◌++◌, Option, Some, None, length, ◌==◌, if◌then◌else◌, option_map}, Option.{option_or}}
+use Rattle.pc_common.specs.{declared.fault.FaultKind.TheVariants.{MacroAgain, ParameterAgain, MacroUnknown, MacroArguments}, Names.{same_name}}
+use Rattle.pc_syntax.specs.declared.term.{Word.{Word}, Arg.{Arg}}
 use Rattle.pc_syntax.specs.Written.{Written, not_, and_, or_, implies_, forall_, exists_, static_, nodes_, edges_, expand_, bind_, MacroAt, WrittenItem, axiom_, macro_, WrittenModel}
-use Rattle.pc_syntax.specs.Observable.{macros_in_order}
-use Rattle.pc_syntax.specs.Fault.{Fault}
+use Rattle.pc_syntax.specs.{Observable.{macros_in_order}, Fault.{Fault}}
 
 -- the first macro with this name
 abbrev pub macro_with_name : List MacroAt → List ℕ → Option MacroAt

@@ -1,29 +1,16 @@
 -- The first fault of a formula's names, outside before inside and left before right, with its macros
 -- followed into their bodies. The macros that a formula may name are listed latest first.
-use Rattle.std.specs.Prelude.{ℕ, List, [], ◌∷◌, Option, Some, None, length, nat_lt, ◌==◌, if◌then◌else◌}
-use Rattle.std.specs.Option.{option_or}
-use Rattle.pc_common.specs.Names.{same_name}
-use Rattle.pc_common.specs.declared.place.Place.{Place}
+use Rattle.std.specs.{Prelude.{ℕ, List, [], ◌∷◌, Option, Some, None, length, nat_lt, ◌==◌, if◌then◌else◌}, Option.{option_or}}
+use Rattle.pc_common.specs.{Names.{same_name}, declared.place.Place.{Place}}
 use Rattle.pc_common.specs.declared.fault.FaultKind.TheVariants.{PredicateUnknown, Arity, Unbound, WrongSort, CoreNumber, StageUnknown, TooManyVariables}
 use Rattle.pc_common.specs.declared.limits.TheConstants.{MAX_CORE}
-use Rattle.pc_syntax.specs.declared.limits.TheConstants.{MAX_VARIABLES}
-use Rattle.pc_syntax.specs.declared.term.Sort.{Sort}
-use Rattle.pc_syntax.specs.declared.term.Sort.TheVariants.{Microop, Core}
-use Rattle.pc_syntax.specs.declared.term.Word.{Word}
-use Rattle.pc_syntax.specs.declared.term.Arg.{Arg}
-use Rattle.pc_syntax.specs.declared.term.Arg.TheVariants.{Word as word_arg, Number as number_arg}
-use Rattle.pc_syntax.specs.declared.term.NodeTerm.{NodeTerm}
-use Rattle.pc_syntax.specs.declared.term.EdgeTerm.{EdgeTerm}
-use Rattle.pc_syntax.specs.declared.model.StageItem.{StageItem}
-use Rattle.pc_syntax.specs.declared.pred.Takes.{Takes}
-use Rattle.pc_syntax.specs.declared.pred.Takes.TheVariants.{Op as takes_op, Core as takes_core, Plain as takes_plain}
+use Rattle.pc_syntax.specs.declared.{limits.TheConstants.{MAX_VARIABLES}, term.{Sort.{Sort, TheVariants.{Microop, Core}}, Word.{Word}, Arg.{Arg}}}
+use Rattle.pc_syntax.specs.declared.term.{Arg.TheVariants.{Word as word_arg, Number as number_arg}, NodeTerm.{NodeTerm}, EdgeTerm.{EdgeTerm}}
+use Rattle.pc_syntax.specs.declared.{model.StageItem.{StageItem}, pred.Takes.{Takes, TheVariants.{Op as takes_op, Core as takes_core, Plain as takes_plain}}}
 use Rattle.pc_syntax.specs.Predicates.{takes_of, pred_with_name}
 use Rattle.pc_syntax.specs.Written.{Written, not_, and_, or_, implies_, forall_, exists_, static_, nodes_, edges_, expand_, bind_, MacroAt, WrittenModel}
-use Rattle.pc_syntax.specs.Observable.{axioms_of, macros_of}
-use Rattle.pc_syntax.specs.Stages.{stage_number_of}
-use Rattle.pc_syntax.specs.Expansion.{parameter_names}
-use Rattle.pc_syntax.specs.Scope.{Scope, binding_of, quantified_in, bound_in}
-use Rattle.pc_syntax.specs.Fault.{Fault, first_fault}
+use Rattle.pc_syntax.specs.{Observable.{axioms_of, macros_of}, Stages.{stage_number_of}, Expansion.{parameter_names}}
+use Rattle.pc_syntax.specs.{Scope.{Scope, binding_of, quantified_in, bound_in}, Fault.{Fault, first_fault}}
 
 -- the wrong sort where this one is wanted
 abbrev pub sort_fault : Place → Sort → Sort → Option Fault

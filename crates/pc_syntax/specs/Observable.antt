@@ -1,11 +1,7 @@
 -- Which worlds satisfy a model, and when a test's outcome is observable.
-use Rattle.std.specs.Prelude.{ℕ, ◌+◌, ◌<◌, Bool, List, [], ◌∷◌, length, reverse, All, Contains, IsTrue}
-use Rattle.std.specs.List.{flat_map}
-use Rattle.pc_common.specs.Case.{MicroOp, Case}
-use Rattle.pc_common.specs.World.{Node, World, IsWorld}
-use Rattle.pc_common.specs.declared.limits.TheConstants.{MAX_CORE}
-use Rattle.pc_syntax.specs.Written.{Written, MacroAt, WrittenItem, axiom_, macro_, stage_numbers, WrittenModel}
-use Rattle.pc_syntax.specs.Truth.{Setting, are_true}
+use Rattle.std.specs.{Prelude.{ℕ, ◌+◌, ◌<◌, Bool, List, [], ◌∷◌, length, reverse, All, Contains, IsTrue}, List.{flat_map}}
+use Rattle.pc_common.specs.{Case.{MicroOp, Case}, World.{Node, World, IsWorld}, declared.limits.TheConstants.{MAX_CORE}}
+use Rattle.pc_syntax.specs.{Written.{Written, MacroAt, WrittenItem, axiom_, macro_, stage_numbers, WrittenModel}, Truth.{Setting, are_true}}
 
 abbrev pub axiom_of : WrittenItem → List Written
 axiom_of (axiom_ at body) = body ∷ []

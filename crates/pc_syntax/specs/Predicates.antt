@@ -1,15 +1,10 @@
 -- The static predicates: one row each, with its name and what it asks of the case alone.
-use Rattle.std.specs.Prelude.{ℕ, Bool, true, false, List, [], ◌∷◌, Option, Some, None, codes, ◌==◌, ◌&&◌, nat_lt}
-use Rattle.std.specs.List.{list_any, find}
-use Rattle.pc_common.specs.Case.{Address, page, entry_of, Value, number, entry, Touch, Kind, read, write, fence, MicroOp, Case}
-use Rattle.pc_common.specs.Names.{same_name}
-use Rattle.pc_common.specs.Addresses.{same_page, same_address, same_value, stated_at, initial_at}
-use Rattle.pc_common.specs.Dependencies.{depends_by}
+use Rattle.std.specs.{Prelude.{ℕ, Bool, true, false, List, [], ◌∷◌, Option, Some, None, codes, ◌==◌, ◌&&◌, nat_lt}, List.{list_any, find}}
+use Rattle.pc_common.specs.{Case.{Address, page, entry_of, Value, number, entry, Touch, Kind, read, write, fence, MicroOp, Case}, Names.{same_name}}
+use Rattle.pc_common.specs.{Addresses.{same_page, same_address, same_value, stated_at, initial_at}, Dependencies.{depends_by}}
 use Rattle.pc_syntax.specs.declared.pred.Pred.{Pred}
 use Rattle.pc_syntax.specs.declared.pred.Pred.TheVariants.{True, False, IsAnyRead, IsAnyWrite, IsAnyFence, AccessType, OnCore, SameCore, SameThread, SameMicroop, SameInstruction, SameIntra, ProgramOrder, SameVirtualAddress, SamePhysicalAddress, SameVirtualTag, SamePhysicalTag, SameIndex, SameData, DataFromInitialStateAtPA, DataFromFinalStateAtPA, HasDependency, EntryOf, MapsTagOf, MarkedAccessed, MarkedDirty}
-use Rattle.pc_syntax.specs.declared.pred.TheConstants.Pred.{ALL}
-use Rattle.pc_syntax.specs.declared.pred.Takes.{Takes}
-use Rattle.pc_syntax.specs.declared.pred.Takes.TheVariants.{Op, Core, Plain}
+use Rattle.pc_syntax.specs.declared.pred.{TheConstants.Pred.{ALL}, Takes.{Takes, TheVariants.{Op, Core, Plain}}}
 use Rattle.pc_syntax.specs.Arguments.{Argument, place_in, core_in, plain_in, op_in, touch_in, holds_of, holds_of_both}
 
 -- what a predicate asks, by the kind of its arguments. What it asks of touches is false of a fence,

@@ -1,9 +1,6 @@
 -- A scope: the bindings on the way to a place, innermost first.
 use Rattle.std.specs.Prelude.{ℕ, ◌+◌, List, [], ◌∷◌, ◌++◌, Option, Some, None, length, if◌then◌else◌}
-use Rattle.pc_syntax.specs.declared.term.Sort.{Sort}
-use Rattle.pc_syntax.specs.declared.term.Sort.TheVariants.{Core}
-use Rattle.pc_syntax.specs.declared.term.Arg.{Arg}
-use Rattle.pc_syntax.specs.declared.term.Arg.TheVariants.{Word as word_arg, Number as number_arg}
+use Rattle.pc_syntax.specs.declared.term.{Sort.{Sort, TheVariants.{Core}}, Arg.{Arg, TheVariants.{Word as word_arg, Number as number_arg}}}
 use Rattle.pc_common.specs.Names.{same_name}
 
 -- a bound name, its sort, and its slot: how many bindings came before it

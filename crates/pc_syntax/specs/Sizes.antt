@@ -1,14 +1,10 @@
 -- Size and height of a formula with its macros followed into their bodies, and the first fault of a
 -- model's sizes. The macros that a formula may name are listed latest first.
-use Rattle.std.specs.Prelude.{ℕ, List, [], ◌∷◌, Option, Some, None, length, max, ◌+◌, nat_lt, if◌then◌else◌}
-use Rattle.std.specs.Option.{option_or}
-use Rattle.pc_common.specs.declared.place.Place.{Place}
-use Rattle.pc_common.specs.declared.fault.FaultKind.TheVariants.{TooDeep, TooBig}
-use Rattle.pc_common.specs.Names.{same_name}
+use Rattle.std.specs.{Prelude.{ℕ, List, [], ◌∷◌, Option, Some, None, length, max, ◌+◌, nat_lt, if◌then◌else◌}, Option.{option_or}}
+use Rattle.pc_common.specs.{declared.{place.Place.{Place}, fault.FaultKind.TheVariants.{TooDeep, TooBig}}, Names.{same_name}}
 use Rattle.pc_syntax.specs.declared.limits.TheConstants.{MAX_HEIGHT, MAX_SIZE}
 use Rattle.pc_syntax.specs.Written.{Written, not_, and_, or_, implies_, forall_, exists_, static_, nodes_, edges_, expand_, bind_, MacroAt, WrittenItem, axiom_, macro_, WrittenModel}
-use Rattle.pc_syntax.specs.Observable.{macros_of}
-use Rattle.pc_syntax.specs.Fault.{Fault}
+use Rattle.pc_syntax.specs.{Observable.{macros_of}, Fault.{Fault}}
 
 -- 1 for each connective, quantifier and predicate, 1 plus the number of its members for a list of
 -- atoms, and 1 plus the size of its body for an expansion

@@ -1,12 +1,8 @@
 -- The first fault of a model's stages. In a stage its number is judged, then its name.
-use Rattle.std.specs.Prelude.{List, [], ◌∷◌, ◌++◌, Option, Some, None, nat_lt, if◌then◌else◌, option_map}
-use Rattle.std.specs.Option.{option_or}
+use Rattle.std.specs.{Prelude.{List, [], ◌∷◌, ◌++◌, Option, Some, None, nat_lt, if◌then◌else◌, option_map}, Option.{option_or}}
 use Rattle.pc_common.specs.declared.fault.FaultKind.TheVariants.{StageNumber, StageAgain}
-use Rattle.pc_syntax.specs.declared.limits.TheConstants.{MAX_STAGE}
-use Rattle.pc_syntax.specs.declared.model.StageItem.{StageItem}
-use Rattle.pc_syntax.specs.Written.{WrittenModel}
-use Rattle.pc_syntax.specs.Stages.{stage_with_number, stage_with_name}
-use Rattle.pc_syntax.specs.Fault.{Fault}
+use Rattle.pc_syntax.specs.{declared.{limits.TheConstants.{MAX_STAGE}, model.StageItem.{StageItem}}, Written.{WrittenModel}}
+use Rattle.pc_syntax.specs.{Stages.{stage_with_number, stage_with_name}, Fault.{Fault}}
 
 -- the number is over the greatest
 abbrev pub number_fault : StageItem → Option Fault

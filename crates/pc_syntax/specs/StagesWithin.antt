@@ -1,8 +1,6 @@
 -- Which stages a closed formula names.
-use Rattle.std.specs.Prelude.{ℕ, List, [], ◌∷◌, ◌==◌, IsTrue}
-use Rattle.std.specs.List.{list_any}
-use Rattle.pc_syntax.specs.declared.closed_term.ClosedNode.{ClosedNode}
-use Rattle.pc_syntax.specs.declared.closed_term.ClosedEdge.{ClosedEdge}
+use Rattle.std.specs.{Prelude.{ℕ, List, [], ◌∷◌, ◌==◌, IsTrue}, List.{list_any}}
+use Rattle.pc_syntax.specs.declared.closed_term.{ClosedNode.{ClosedNode}, ClosedEdge.{ClosedEdge}}
 use Rattle.pc_syntax.specs.Closed.{PlainClosed, closed_not, closed_and, closed_or, closed_implies, closed_forall, closed_exists, closed_static, closed_nodes, closed_edges, closed_bind}
 
 -- the number is one of these

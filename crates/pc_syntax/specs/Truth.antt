@@ -1,22 +1,12 @@
 -- The truth of a written formula, in a setting and an environment.
 use Rattle.std.specs.Prelude.{ℕ, Bool, false, not, List, [], ◌∷◌, ◌++◌, Option, Some, None, length, map, slice_get, ◌&&◌, ◌||◌, if◌then◌else◌}
 use Rattle.std.specs.List.{list_any, list_all, range_with_len}
-use Rattle.pc_common.specs.Case.{MicroOp, Case, cores_of}
-use Rattle.pc_common.specs.World.{Node, World, has_node, has_edge}
-use Rattle.pc_common.specs.Names.{same_name}
-use Rattle.pc_syntax.specs.declared.term.Sort.{Sort}
-use Rattle.pc_syntax.specs.declared.term.Sort.TheVariants.{Microop, Core}
-use Rattle.pc_syntax.specs.declared.term.Arg.{Arg}
-use Rattle.pc_syntax.specs.declared.term.Arg.TheVariants.{Word as word_arg, Number as number_arg}
-use Rattle.pc_syntax.specs.declared.term.NodeTerm.{NodeTerm}
-use Rattle.pc_syntax.specs.declared.model.StageItem.{StageItem}
-use Rattle.pc_syntax.specs.declared.pred.Pred.{Pred}
-use Rattle.pc_syntax.specs.declared.pred.Takes.{Takes}
+use Rattle.pc_common.specs.{Case.{MicroOp, Case, cores_of}, World.{Node, World, has_node, has_edge}, Names.{same_name}}
+use Rattle.pc_syntax.specs.declared.term.{Sort.{Sort, TheVariants.{Microop, Core}}, Arg.{Arg, TheVariants.{Word as word_arg, Number as number_arg}}}
+use Rattle.pc_syntax.specs.declared.{term.NodeTerm.{NodeTerm}, model.StageItem.{StageItem}, pred.{Pred.{Pred}, Takes.{Takes}}}
 use Rattle.pc_syntax.specs.declared.pred.Takes.TheVariants.{Op as takes_op, Core as takes_core, Plain as takes_plain}
 use Rattle.pc_syntax.specs.Written.{Written, not_, and_, or_, implies_, forall_, exists_, static_, nodes_, edges_, expand_, bind_, MacroAt}
-use Rattle.pc_syntax.specs.Stages.{stage_number_of}
-use Rattle.pc_syntax.specs.Arguments.{Argument, op_at, core_at, plain_name}
-use Rattle.pc_syntax.specs.Predicates.{takes_of, pred_with_name, predicate_holds}
+use Rattle.pc_syntax.specs.{Stages.{stage_number_of}, Arguments.{Argument, op_at, core_at, plain_name}, Predicates.{takes_of, pred_with_name, predicate_holds}}
 
 -- what a name stands for: a micro-op by its place in test order, or a core
 pub data Meaning : Type 0 where

@@ -1,17 +1,9 @@
 -- A written model without addresses in memory: what clauses compare and what meaning is read off.
 use Rattle.std.specs.Prelude.{ℕ, List, map}
 use Rattle.pc_common.specs.declared.place.Place.{Place}
-use Rattle.pc_syntax.specs.declared.term.Sort.{Sort}
-use Rattle.pc_syntax.specs.declared.term.Word.{Word}
-use Rattle.pc_syntax.specs.declared.term.Arg.{Arg}
-use Rattle.pc_syntax.specs.declared.term.NodeTerm.{NodeTerm}
-use Rattle.pc_syntax.specs.declared.term.EdgeTerm.{EdgeTerm}
-use Rattle.pc_syntax.specs.declared.formula.Formula.{Formula}
+use Rattle.pc_syntax.specs.declared.{term.{Sort.{Sort}, Word.{Word}, Arg.{Arg}, NodeTerm.{NodeTerm}, EdgeTerm.{EdgeTerm}}, formula.Formula.{Formula}}
 use Rattle.pc_syntax.specs.declared.formula.Formula.TheVariants.{Not', And', Or', Implies', Forall', Exists', Static, Nodes, Edges, Expand, Bind'}
-use Rattle.pc_syntax.specs.declared.model.StageItem.{StageItem}
-use Rattle.pc_syntax.specs.declared.model.Item.{Item}
-use Rattle.pc_syntax.specs.declared.model.Item.TheVariants.{Axiom, Macro}
-use Rattle.pc_syntax.specs.declared.model.ModelFile.{ModelFile}
+use Rattle.pc_syntax.specs.declared.model.{StageItem.{StageItem}, Item.{Item, TheVariants.{Axiom, Macro}}, ModelFile.{ModelFile}}
 
 pub data Written : Type 0 where
   not_ : Written → Written

@@ -60,7 +60,7 @@ impl Row {
 
 impl Pred {
     /// All predicates, in the order of their declaration.
-    const ALL: [Pred; 26] = [
+    pub const ALL: [Pred; 26] = [
         Pred::True,
         Pred::False,
         Pred::IsAnyRead,

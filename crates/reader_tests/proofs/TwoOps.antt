@@ -1,6 +1,5 @@
 -- Two micro-ops, as those of a test.
-use Rattle.std.proofs.Common.{◌≡◌, ◌<◌, ◌↔◌, ℕ, zero, suc, [], ◌∷◌, Some, refl, sym, ap, ◌∙◌, subst, arith}
-use Rattle.std.specs.Prelude.{slice_get, IsNone}
+use Rattle.std.{proofs.Common.{◌≡◌, ◌<◌, ◌↔◌, ℕ, zero, suc, [], ◌∷◌, Some, refl, sym, ap, ◌∙◌, subst, arith}, specs.Prelude.{slice_get, IsNone}}
 use Rattle.pc_common.specs.Case.{MicroOp, fence}
 use Rattle.pc_case.specs.MicroOps.{AreMicroOps}
 

@@ -4,7 +4,7 @@ ghost use Rattle.pc_case.specs.MicroOps.{AreMicroOps};
 ghost use Rattle.pc_case.specs.Plain.{micro_op, dependency, stated_value};
 ghost use Rattle.pc_case.specs.Stated.{AreWithin, IsStatedOnce};
 
-use formula_texts::{Told, told};
+use formula_texts::{Told, tell_fault};
 use litmus_reader::{CaseFault, read_case};
 use pc_case::{
     Access, Address, Case, Dependencies, Dependency, Expect, Memop, Op, OpId, Ops, Page, Stated,
@@ -165,11 +165,11 @@ const FAULTS: &[Refused] = &[
 ];
 
 /// What is told of a fault, with its place; None where memory was refused.
-fn placed(fault: CaseFault) -> Option<(Told, Place)> {
+fn place_fault(fault: CaseFault) -> Option<(Told, Place)> {
     match fault {
-        CaseFault::Lexical(place) => Some((told(FaultKind::Lexical), place)),
-        CaseFault::Syntax(place) => Some((told(FaultKind::Syntax), place)),
-        CaseFault::Content(kind, place) => Some((told(kind), place)),
+        CaseFault::Lexical(place) => Some((tell_fault(FaultKind::Lexical), place)),
+        CaseFault::Syntax(place) => Some((tell_fault(FaultKind::Syntax), place)),
+        CaseFault::Content(kind, place) => Some((tell_fault(kind), place)),
         CaseFault::Memory => None,
     }
 }
@@ -181,7 +181,7 @@ fn is_refused(alloc: Global, text: &[u8], fault: CaseFault) -> bool {
     }
     match read_case(alloc, text) {
         Ok(_) => false,
-        Err(found) => placed(found) == placed(fault),
+        Err(found) => place_fault(found) == place_fault(fault),
     }
 }
 

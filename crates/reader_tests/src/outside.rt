@@ -51,7 +51,7 @@ fn held_file(alloc: Global, name: &str, content: &str) -> Result<HeldFile, Memor
 }
 
 /// Files of these names and contents.
-fn held(alloc: Global, files: &[(&str, &str)]) -> Result<Held, Memory> {
+fn hold_files(alloc: Global, files: &[(&str, &str)]) -> Result<Held, Memory> {
     let mut held = Held::new(alloc);
     for (name, content) in files {
         held.push(held_file(alloc, name, content)?)?;
@@ -65,7 +65,7 @@ fn calls(alloc: Global, numbers: &[u64]) -> Result<Calls, Memory> {
 
 fn files(alloc: Global, step: usize, fails: &[u64]) -> Result<MemFiles, Memory> {
     let fails = calls(alloc, fails)?;
-    let files = MemFiles::new(alloc, held(alloc, FILES)?, fails)?;
+    let files = MemFiles::new(alloc, hold_files(alloc, FILES)?, fails)?;
     Ok(if step > 0 {
         files.with_step(step)
     } else {
@@ -121,7 +121,7 @@ fn are_sure(alloc: Global, files: &mut SureFiles) -> bool {
 
 #[test]
 fn what_is_sure_never_fails(rt: HostRuntime) -> Result<(), Fail> {
-    let mut files = SureFiles::new(held(rt.alloc(), FILES)?);
+    let mut files = SureFiles::new(hold_files(rt.alloc(), FILES)?);
     let is_written = write_all(&mut SureSink::new(), b"abc").is_ok();
     assert!(rt; is_written && are_sure(rt.alloc(), &mut files));
     Ok(())

@@ -120,7 +120,7 @@ fn on_core_of_slot(alloc: Global, case: &Case, core: u8, i: Letter) -> Result<bo
 fn of_type(alloc: Global, case: &Case, name: &[u8], i: Letter) -> Result<bool, Memory>
     requires { length case.now.ops ≡ 7 }
 {
-    let name = ClosedArg::Plain(Shared::of(Listed::from_vec(name.to_vec(alloc)?))?);
+    let name = ClosedArg::Plain(Shared::from_listed(Listed::from_vec(name.to_vec(alloc)?))?);
     let args = Listed::from_vec(vec![in alloc; name, ClosedArg::Slot(0)]?);
     let place = i.place();
     Ok(holds(case, Pred::AccessType, &args, &slots(place, place)))
@@ -129,7 +129,7 @@ fn of_type(alloc: Global, case: &Case, name: &[u8], i: Letter) -> Result<bool, M
 fn of_kind(alloc: Global, case: &Case, kind: &[u8], i: Letter, j: Letter) -> Result<bool, Memory>
     requires { length case.now.ops ≡ 7 }
 {
-    let kind = ClosedArg::Plain(Shared::of(Listed::from_vec(kind.to_vec(alloc)?))?);
+    let kind = ClosedArg::Plain(Shared::from_listed(Listed::from_vec(kind.to_vec(alloc)?))?);
     let args = Listed::from_vec(vec![in alloc; kind, ClosedArg::Slot(0), ClosedArg::Slot(1)]?);
     Ok(holds(
         case,

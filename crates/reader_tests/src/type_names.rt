@@ -27,7 +27,7 @@ const OTHERS: &[&[u8]] = &[
 ];
 
 /// The names in that order, each put twice.
-fn listed(alloc: Global) -> Result<TypeNames, Memory> {
+fn list_twice(alloc: Global) -> Result<TypeNames, Memory> {
     let mut types = TypeNames::new(alloc);
     for name in NAMES {
         types.push(name)?;
@@ -46,7 +46,7 @@ fn has_any(types: &TypeNames, names: &[&[u8]]) -> bool {
 
 #[test]
 fn a_type_is_known_by_all_of_its_bytes(rt: HostRuntime) -> Result<(), Fail> {
-    let types = listed(rt.alloc())?;
+    let types = list_twice(rt.alloc())?;
     assert!(rt; types.len() == 12 && has_all(&types, NAMES) && !has_any(&types, OTHERS));
     let copy = types.copy(rt.alloc())?;
     assert!(rt; copy.len() == 12 && has_all(&copy, NAMES) && !has_any(&copy, OTHERS));

@@ -1,8 +1,6 @@
 -- One thing of a list, by its place.
-use Rattle.std.proofs.Common.{◌≡◌, ℕ, List, [], ◌∷◌, Some, get_or, slice_get, sym, ◌∙◌, ap}
+use Rattle.std.proofs.{Common.{◌≡◌, ℕ, List, [], ◌∷◌, Some, get_or, slice_get, sym, ◌∙◌, ap}, lemmas.{List.{append-nil}, Option.{get_or_from_slice_get}}}
 use Rattle.std.specs.List.{flat_map}
-use Rattle.std.proofs.lemmas.List.{append-nil}
-use Rattle.std.proofs.lemmas.Option.{get_or_from_slice_get}
 
 pub text_at : {X : Type 0} (f : X → List ℕ) (xs : List X) (k : ℕ) (x : X) → slice_get xs k ≡ Some x → f x ≡ f (get_or xs k x)
 text_at f xs k x e = ap f (sym (get_or_from_slice_get xs k x x e))

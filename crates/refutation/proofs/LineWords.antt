@@ -1,15 +1,9 @@
 -- Lines that are cut at their spaces.
 use Rattle.std.proofs.Common.{◌≡◌, ℕ, ◌+◌, ◌-◌, ◌<◌, ◌≤◌, length, get_or, take, drop, List, [], ◌∷◌, ◌++◌, sym, ◌∙◌, ap, subst}
-use Rattle.std.specs.Prelude.{All}
-use Rattle.std.specs.List.{join_with_byte}
-use Rattle.std.proofs.lemmas.List.{append-nil, drop_more, take_all, take-append-drop}
-use Rattle.std.proofs.lemmas.List.Elements.{All-head, All-tail, All-weaker}
-use Rattle.std.proofs.lemmas.List.Splits.{join_with_byte-slice_split}
-use Rattle.pc_ground.specs.NodeForm.{IsNodeForm}
-use Rattle.pc_ground.specs.NodeWords.{Lacks}
-use Rattle.pc_ground.proofs.Cuts.{all_left, words_last, words_more}
+use Rattle.std.proofs.lemmas.List.{append-nil, drop_more, take_all, take-append-drop, Elements.{All-head, All-tail, All-weaker}}
+use Rattle.std.{proofs.lemmas.List.Splits.{join_with_byte-slice_split}, specs.{Prelude.{All}, List.{join_with_byte}}}
+use Rattle.pc_ground.{specs.{NodeForm.{IsNodeForm}, NodeWords.{Lacks}, Words.{words}}, proofs.Cuts.{all_left, words_last, words_more}}
 use Rattle.pc_ground.proofs.Outside.{a_space, form_lacks}
-use Rattle.pc_ground.specs.Words.{words}
 use Rattle.refutation.specs.Words.{words_text}
 
 pub words_spaced : (w : List ℕ) (ws : List (List ℕ)) → Lacks 32 w → All (Lacks 32) ws → words (w ++ words_text ws) ≡ w ∷ ws

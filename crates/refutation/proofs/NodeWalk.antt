@@ -1,14 +1,8 @@
 -- The words that were read as nodes so far.
 use Rattle.std.proofs.Common.{◌≡◌, ℕ, ◌+◌, ◌≤◌, Bool, true, false, ◌||◌, List, [], ◌∷◌, ◌++◌, Ok, Err, map, length, not, inl, Option, Some, None, refl, sym, ◌∙◌, ap, arith, append_assoc, subst}
-use Rattle.std.specs.Prelude.{All}
-use Rattle.std.specs.Option.{option_map_or}
-use Rattle.std.proofs.lemmas.List.{append-nil, length-append, map-append}
-use Rattle.std.proofs.lemmas.List.Elements.{All-push, All-contains}
-use Rattle.pc_common.proofs.Elements.{In, in_front, in_back, from_map, contains_from_in}
-use Rattle.pc_common.specs.World.{Node}
-use Rattle.pc_common.specs.Lines.{Names, node_text}
-use Rattle.pc_ground.specs.NodeForm.{IsNodeForm, IsNodeIn}
-use Rattle.pc_ground.specs.declared.line_fault.LineFault.TheVariants.{Foreign}
+use Rattle.std.{proofs.lemmas.List.{append-nil, length-append, map-append, Elements.{All-push, All-contains}}, specs.{Prelude.{All}, Option.{option_map_or}}}
+use Rattle.pc_common.{proofs.Elements.{In, in_front, in_back, from_map, contains_from_in}, specs.{World.{Node}, Lines.{Names, node_text}}}
+use Rattle.pc_ground.specs.{NodeForm.{IsNodeForm, IsNodeIn}, declared.line_fault.LineFault.TheVariants.{Foreign}}
 use Rattle.refutation.specs.StepWords.{AreSpelled, ReadsNodes, ReadsWord}
 
 -- a word that spells no node of these names

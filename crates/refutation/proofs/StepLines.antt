@@ -1,20 +1,11 @@
 -- The lines of steps and their words: each says the other, and no two steps have one line.
 use Rattle.std.proofs.Common.{◌≡◌, ℕ, Bool, true, false, List, [], ◌∷◌, ◌++◌, map, get_or, refl, sym, ◌∙◌, ap, arith, subst, drop}
-use Rattle.std.specs.Prelude.{All, codes}
-use Rattle.std.specs.Fmt.{decimal}
-use Rattle.std.proofs.lemmas.Fmt.{decimal_injective}
-use Rattle.std.proofs.lemmas.List.{append-nil}
-use Rattle.std.proofs.lemmas.List.Elements.{All-nil, All-cons, All-head, All-tail, All-map, All-weaker}
-use Rattle.pc_common.specs.World.{Node}
-use Rattle.pc_common.specs.Steps.{Leaf, cycle, path, absent, false_step, Step as PlainStep, split, close}
+use Rattle.std.proofs.lemmas.{Fmt.{decimal_injective}, List.{append-nil, Elements.{All-nil, All-cons, All-head, All-tail, All-map, All-weaker}}}
+use Rattle.std.specs.{Prelude.{All, codes}, Fmt.{decimal}}
+use Rattle.pc_common.specs.{World.{Node}, Steps.{Leaf, cycle, path, absent, false_step, Step as PlainStep, split, close}}
 use Rattle.pc_common.specs.Lines.{Names, node_text, nodes_text, sign_text, leaf_words, step_words}
-use Rattle.pc_ground.specs.Decimals.{IsDecimal}
-use Rattle.pc_ground.specs.NodeForm.{IsNodeForm, IsNodeIn, AreReadable}
-use Rattle.pc_ground.specs.NodeWords.{Lacks}
-use Rattle.pc_ground.proofs.Cuts.{decimal_lacks}
-use Rattle.pc_ground.specs.Words.{words}
-use Rattle.refutation.specs.Steps.{IsLeafIn, IsStepIn, HasLine}
-use Rattle.refutation.specs.Words.{words_text}
+use Rattle.pc_ground.{specs.{Decimals.{IsDecimal}, NodeForm.{IsNodeForm, IsNodeIn, AreReadable}, NodeWords.{Lacks}, Words.{words}}, proofs.Cuts.{decimal_lacks}}
+use Rattle.refutation.specs.{Steps.{IsLeafIn, IsStepIn, HasLine}, Words.{words_text}}
 use Rattle.refutation.specs.StepWords.{words_of_leaf, words_of_step, AreWordsOf, AreOfForm, of_split, of_cycle, of_path, of_absence, of_falsity}
 use Rattle.refutation.specs.Reading.{IsLineOf, IsStepForm, a_split, a_cycle, a_path, an_absence, a_falsity}
 use Rattle.refutation.proofs.LineWords.{words_spaced, line_spaced, form_spaceless, forms_lack}

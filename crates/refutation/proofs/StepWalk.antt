@@ -1,25 +1,13 @@
 -- What reading the words after the first one makes of a line.
 use Rattle.std.proofs.Common.{◌≡◌, ◌≢◌, ℕ, ◌≤◌, Bool, drop, ◌++◌, List, [], ◌∷◌, length, refl, sym, ◌∙◌, ap, arith, subst, ◌==◌, true, false, Option, Some, None, Ok, Err, Bor, is_err}
-use Rattle.std.specs.Prelude.{All, Result, OnErr, codes, is_some}
-use Rattle.std.specs.Option.{option_map_or}
-use Rattle.std.specs.Result.{IsErrAnd}
-use Rattle.std.proofs.lemmas.List.Elements.{All-nil, All-cons, All-head}
-use Rattle.std.proofs.lemmas.List.Splits.{length-slice_split}
-use Rattle.pc_common.specs.World.{Node}
-use Rattle.pc_common.specs.Lines.{Names, sign_text}
-use Rattle.pc_ground.specs.Decimals.{IsDecimal}
-use Rattle.pc_ground.specs.NodeForm.{IsNodeForm, IsNodeIn, AreReadable}
-use Rattle.pc_common.specs.Steps.{cycle, path, absent, false_step, Step as PlainStep, split, close}
-use Rattle.pc_ground.specs.declared.line_fault.LineFault.{LineFault}
-use Rattle.pc_ground.specs.declared.line_fault.LineFault.TheVariants.{Malformed, Foreign}
-use Rattle.pc_ground.specs.Words.{words}
-use Rattle.pc_ground.proofs.Cuts.{words_last}
-use Rattle.refutation.specs.Steps.{IsStepIn}
-use Rattle.refutation.specs.Words.{spaces}
+use Rattle.std.{proofs.lemmas.List.{Elements.{All-nil, All-cons, All-head}, Splits.{length-slice_split}}, specs.Prelude.{All, Result, OnErr, codes, is_some}}
+use Rattle.std.specs.{Option.{option_map_or}, Result.{IsErrAnd}}
+use Rattle.pc_common.specs.{World.{Node}, Lines.{Names, sign_text}, Steps.{cycle, path, absent, false_step, Step as PlainStep, split, close}}
+use Rattle.pc_ground.specs.{Decimals.{IsDecimal}, NodeForm.{IsNodeForm, IsNodeIn, AreReadable}, declared.line_fault.LineFault.{LineFault}}
+use Rattle.pc_ground.{specs.{declared.line_fault.LineFault.TheVariants.{Malformed, Foreign}, Words.{words}}, proofs.Cuts.{words_last}}
+use Rattle.refutation.specs.{Steps.{IsStepIn}, Words.{spaces}}
 use Rattle.refutation.specs.StepWords.{words_of_step, AreOfForm, of_split, of_cycle, of_path, of_absence, of_falsity, AreSpelled, ReadsNodes, ReadsWords}
-use Rattle.refutation.specs.Reading.{head_of, nodes_of, IsLineOf, ReadsStep}
-use Rattle.refutation.specs.declared.step_head.StepHead.{StepHead}
-use Rattle.refutation.specs.declared.step_head.StepHead.TheVariants.{Split, Cycle, Path, Absent}
+use Rattle.refutation.specs.{Reading.{head_of, nodes_of, IsLineOf, ReadsStep}, declared.step_head.StepHead.{StepHead, TheVariants.{Split, Cycle, Path, Absent}}}
 use Rattle.refutation.proofs.LineWords.{line_alone}
 use Rattle.refutation.proofs.StepLines.{behind, first_text, initial, signed_lacks, no_sign, words_of_line, line_of_words, form_of_line, line_of_form, same_step, step_formed}
 

@@ -1,15 +1,8 @@
 -- Which texts are step lines, by form and of the nodes of a test and a model, and what reading one answers.
 use Rattle.std.specs.Prelude.{ℕ, ◌≡◌, Bool, List, [], ◌∷◌, ◌++◌, Result, Ok, Err, All, codes}
-use Rattle.pc_common.specs.World.{Node}
-use Rattle.pc_common.specs.Steps.{Leaf, cycle, path, absent, false_step, Step as PlainStep, split, close}
-use Rattle.pc_common.specs.Lines.{Names, step_words, sign_text}
-use Rattle.pc_ground.specs.Decimals.{IsDecimal}
-use Rattle.pc_ground.specs.NodeForm.{IsNodeForm}
-use Rattle.pc_ground.specs.declared.line_fault.LineFault.{LineFault}
-use Rattle.pc_ground.specs.declared.line_fault.LineFault.TheVariants.{Malformed, Foreign}
-use Rattle.refutation.specs.Steps.{IsStepIn, HasLine}
-use Rattle.refutation.specs.Words.{words_text}
-use Rattle.refutation.specs.declared.step_head.StepHead.{StepHead}
+use Rattle.pc_common.specs.{World.{Node}, Steps.{Leaf, cycle, path, absent, false_step, Step as PlainStep, split, close}, Lines.{Names, step_words, sign_text}}
+use Rattle.pc_ground.specs.{Decimals.{IsDecimal}, NodeForm.{IsNodeForm}, declared.line_fault.LineFault.{LineFault, TheVariants.{Malformed, Foreign}}}
+use Rattle.refutation.specs.{Steps.{IsStepIn, HasLine}, Words.{words_text}, declared.step_head.StepHead.{StepHead}}
 use Rattle.refutation.specs.declared.step_head.StepHead.TheVariants.{Split, Cycle, Path, Absent, False}
 
 abbrev pub leaf_head : Leaf Node → StepHead

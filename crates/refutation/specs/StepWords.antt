@@ -1,16 +1,8 @@
 -- The words of step lines, and what reading them one by one answers.
-use Rattle.std.specs.Prelude.{ℕ, ◌≡◌, Bool, true, false, List, [], ◌∷◌, ◌++◌, Result, Ok, Err, All, map, codes}
-use Rattle.std.specs.Fmt.{decimal}
-use Rattle.pc_common.specs.World.{Node}
-use Rattle.pc_common.specs.Steps.{Leaf, cycle, path, absent, false_step, Step as PlainStep, split, close}
-use Rattle.pc_common.specs.Lines.{Names, node_text, sign_text}
-use Rattle.pc_ground.specs.Decimals.{IsDecimal}
-use Rattle.pc_ground.specs.NodeForm.{IsNodeForm, IsNodeIn}
-use Rattle.pc_ground.specs.declared.line_fault.LineFault.{LineFault}
-use Rattle.pc_ground.specs.declared.line_fault.LineFault.TheVariants.{Malformed, Foreign}
-use Rattle.refutation.specs.Steps.{IsStepIn, HasLine}
-use Rattle.refutation.specs.Reading.{head_of, nodes_of}
-use Rattle.refutation.specs.declared.step_head.StepHead.{StepHead}
+use Rattle.std.specs.{Prelude.{ℕ, ◌≡◌, Bool, true, false, List, [], ◌∷◌, ◌++◌, Result, Ok, Err, All, map, codes}, Fmt.{decimal}}
+use Rattle.pc_common.specs.{World.{Node}, Steps.{Leaf, cycle, path, absent, false_step, Step as PlainStep, split, close}, Lines.{Names, node_text, sign_text}}
+use Rattle.pc_ground.specs.{Decimals.{IsDecimal}, NodeForm.{IsNodeForm, IsNodeIn}, declared.line_fault.LineFault.{LineFault, TheVariants.{Malformed, Foreign}}}
+use Rattle.refutation.specs.{Steps.{IsStepIn, HasLine}, Reading.{head_of, nodes_of}, declared.step_head.StepHead.{StepHead}}
 
 abbrev pub words_of_leaf : Names → Leaf Node → List (List ℕ)
 words_of_leaf names (cycle nodes) = codes "cycle" ∷ map (node_text names) nodes

@@ -1,15 +1,10 @@
 -- The code's steps over plain nodes, their lines, and how many branches a list of steps leaves open.
 use Rattle.std.specs.Prelude.{ℕ, ◌+◌, ◌-◌, ◌≤◌, List, [], ◌∷◌, map, fold, All}
-use Rattle.pc_common.specs.World.{Node}
-use Rattle.pc_common.specs.Steps.{Leaf, cycle, path, absent, false_step, Step as PlainStep, split, close}
+use Rattle.pc_common.specs.{World.{Node}, Steps.{Leaf, cycle, path, absent, false_step, Step as PlainStep, split, close}}
 use Rattle.pc_common.specs.Lines.{Names, line_text, step as step_line}
-use Rattle.pc_ground.specs.NodeForm.{IsNodeIn}
-use Rattle.pc_ground.specs.Keys.{key_node}
-use Rattle.refutation.specs.declared.step.Step.{Step}
-use Rattle.refutation.specs.declared.step.Step.TheVariants.{Split, Cycle, Path, Absent, False}
-use Rattle.refutation.specs.declared.kind.Leaf.{Leaf as AnyLeaf}
-use Rattle.refutation.specs.declared.kind.Leaf.TheVariants.{Cycle as a_cycle, Path as a_path, Absent as an_absence, False as a_falsity}
-use Rattle.refutation.specs.declared.kind.Kind.{Kind}
+use Rattle.pc_ground.specs.{NodeForm.{IsNodeIn}, Keys.{key_node}}
+use Rattle.refutation.specs.declared.{step.Step.{Step, TheVariants.{Split, Cycle, Path, Absent, False}}, kind.Leaf.{Leaf as AnyLeaf}}
+use Rattle.refutation.specs.declared.kind.{Leaf.TheVariants.{Cycle as a_cycle, Path as a_path, Absent as an_absence, False as a_falsity}, Kind.{Kind}}
 use Rattle.refutation.specs.declared.kind.Kind.TheVariants.{Split as a_split, Close}
 
 abbrev pub plain_step : Step → PlainStep Node

@@ -1,6 +1,5 @@
 -- The line_words of a line, which stand between its spaces.
-use Rattle.std.specs.Prelude.{ℕ, List, ◌++◌, ◌==◌, codes}
-use Rattle.std.specs.List.{flat_map, count_by}
+use Rattle.std.specs.{Prelude.{ℕ, List, ◌++◌, ◌==◌, codes}, List.{flat_map, count_by}}
 
 -- each word after a space
 abbrev pub words_text : List (List ℕ) → List ℕ

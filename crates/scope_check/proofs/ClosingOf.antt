@@ -1,13 +1,7 @@
 -- What is known of a closing: its truth and its stages.
 use Rattle.std.proofs.Common.{List, ap, sym, subst, ◌∙◌}
-use Rattle.pc_syntax.specs.declared.model.StageItem.{StageItem}
-use Rattle.pc_syntax.specs.Written.{Written, stage_numbers}
-use Rattle.pc_syntax.specs.Closed.{PlainClosed, closed_true}
-use Rattle.pc_syntax.specs.Closing.{IsClosingOf}
-use Rattle.pc_syntax.specs.Scope.{Scope}
-use Rattle.pc_syntax.specs.StagesWithin.{StagesWithin}
-use Rattle.pc_syntax.proofs.ClosingTruth.{closing_true}
-use Rattle.pc_syntax.proofs.ClosingStages.{closing_within}
+use Rattle.pc_syntax.specs.{declared.model.StageItem.{StageItem}, Written.{Written, stage_numbers}, Closed.{PlainClosed, closed_true}, Closing.{IsClosingOf}}
+use Rattle.pc_syntax.{specs.{Scope.{Scope}, StagesWithin.{StagesWithin}}, proofs.{ClosingTruth.{closing_true}, ClosingStages.{closing_within}}}
 use Rattle.scope_check.specs.Laws.{ClosingKeepsTruth}
 
 pub closing_keeps : ClosingKeepsTruth

@@ -1,6 +1,5 @@
 -- The first fault of two parts, from that of the first.
-use Rattle.std.proofs.Common.{◌≡◌, Option, Some, None, refl}
-use Rattle.std.specs.Option.{option_or}
+use Rattle.std.{proofs.Common.{◌≡◌, Option, Some, None, refl}, specs.Option.{option_or}}
 use Rattle.pc_syntax.specs.Fault.{Fault}
 use Rattle.scope_check.specs.FirstFault.{IsNoneOr}
 

@@ -1,16 +1,10 @@
 -- A query's first fault with its file: without the file it is the first name fault, and expansion keeps it.
-use Rattle.std.proofs.Common.{◌≡◌, Bool, true, false, List, [], ◌∷◌, Option, Some, None, cond, refl, sym, ap, subst, ◌∙◌}
-use Rattle.std.specs.Option.{option_or}
-use Rattle.pc_common.specs.Names.{same_name}
-use Rattle.pc_common.specs.declared.fault.Which.{Which}
-use Rattle.pc_common.specs.declared.fault.Which.TheVariants.{Model, Query}
+use Rattle.std.{proofs.Common.{◌≡◌, Bool, true, false, List, [], ◌∷◌, Option, Some, None, cond, refl, sym, ap, subst, ◌∙◌}, specs.Option.{option_or}}
+use Rattle.pc_common.specs.{Names.{same_name}, declared.fault.Which.{Which, TheVariants.{Model, Query}}}
 use Rattle.pc_syntax.specs.declared.model.StageItem.{StageItem}
 use Rattle.pc_syntax.specs.Written.{Written, not_, and_, or_, implies_, forall_, exists_, static_, nodes_, edges_, expand_, bind_, MacroAt}
-use Rattle.pc_syntax.specs.Expansion.{parameter_names, expansion_of}
-use Rattle.pc_syntax.specs.Scope.{Scope, quantified_in, bound_in}
-use Rattle.pc_syntax.specs.Fault.{Fault, first_fault}
-use Rattle.pc_syntax.specs.NameFaults.{scope_fault, static_fault, node_fault, edge_fault, binding_fault, name_fault}
-use Rattle.pc_syntax.specs.Closed.{PlainClosed}
+use Rattle.pc_syntax.specs.{Expansion.{parameter_names, expansion_of}, Scope.{Scope, quantified_in, bound_in}, Fault.{Fault, first_fault}}
+use Rattle.pc_syntax.specs.{NameFaults.{scope_fault, static_fault, node_fault, edge_fault, binding_fault, name_fault}, Closed.{PlainClosed}}
 use Rattle.pc_syntax.specs.Closing.{IsClosingOf}
 use Rattle.scope_check.specs.FirstFault.{IsNoneOr, Answers, name_fault_of}
 use Rattle.scope_check.specs.QueryFaults.{FiledFault, filed, query_fault, fault_within, IsClosingWithin, IsFiledOr, AnswersIn, unfiled}

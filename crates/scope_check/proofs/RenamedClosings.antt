@@ -1,16 +1,9 @@
 -- A formula with other names is closed to what it was closed to.
 use Rattle.std.proofs.Common.{◌≡◌, List, [], ◌∷◌, Option, Some, None, map, option_map, unwrap_or, refl, ap, ◌∙◌, ℕ}
-use Rattle.pc_syntax.specs.declared.term.Arg.{Arg}
-use Rattle.pc_syntax.specs.declared.term.Arg.TheVariants.{Word as word_arg, Number as number_arg}
-use Rattle.pc_syntax.specs.declared.term.NodeTerm.{NodeTerm}
-use Rattle.pc_syntax.specs.declared.term.EdgeTerm.{EdgeTerm}
-use Rattle.pc_syntax.specs.declared.model.StageItem.{StageItem}
-use Rattle.pc_syntax.specs.declared.pred.Pred.{Pred}
-use Rattle.pc_syntax.specs.declared.pred.Pred.TheVariants.{True}
-use Rattle.pc_syntax.specs.declared.pred.Takes.{Takes}
+use Rattle.pc_syntax.specs.declared.term.{Arg.{Arg, TheVariants.{Word as word_arg, Number as number_arg}}, NodeTerm.{NodeTerm}, EdgeTerm.{EdgeTerm}}
+use Rattle.pc_syntax.specs.declared.{model.StageItem.{StageItem}, pred.{Pred.{Pred, TheVariants.{True}}, Takes.{Takes}}}
 use Rattle.pc_syntax.specs.declared.pred.Takes.TheVariants.{Op as takes_op, Core as takes_core, Plain as takes_plain}
-use Rattle.pc_syntax.specs.declared.closed_term.ClosedArg.TheVariants.{Slot}
-use Rattle.pc_syntax.specs.Predicates.{pred_with_name, takes_of}
+use Rattle.pc_syntax.specs.{declared.closed_term.ClosedArg.TheVariants.{Slot}, Predicates.{pred_with_name, takes_of}}
 use Rattle.pc_syntax.specs.Written.{Written, not_, and_, or_, implies_, forall_, exists_, static_, nodes_, edges_, expand_, bind_}
 use Rattle.pc_syntax.specs.Closed.{closed_not, closed_and, closed_or, closed_implies, closed_forall, closed_exists, closed_static, closed_nodes, closed_edges, closed_bind}
 use Rattle.pc_syntax.specs.Scope.{Scope, quantified_in, bound_in}

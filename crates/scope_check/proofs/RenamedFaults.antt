@@ -1,35 +1,20 @@
 -- A formula with other names has the fault that it had.
 use Rattle.std.proofs.Common.{◌≡◌, ℕ, suc, ◌==◌, List, [], ◌∷◌, Option, Some, None, length, map, cond, option_map, nat_lt, refl, sym, ap, ◌∙◌}
-use Rattle.std.proofs.lemmas.List.{length-map}
-use Rattle.std.specs.Option.{option_or}
-use Rattle.pc_common.specs.declared.place.Place.{Place}
-use Rattle.pc_common.specs.declared.fault.Which.{Which}
-use Rattle.pc_common.specs.declared.fault.Which.TheVariants.{Model, Query}
+use Rattle.std.{proofs.lemmas.List.{length-map}, specs.Option.{option_or}}
+use Rattle.pc_common.specs.declared.{place.Place.{Place}, fault.Which.{Which, TheVariants.{Model, Query}}}
 use Rattle.pc_common.specs.declared.fault.FaultKind.TheVariants.{PredicateUnknown, Arity, Unbound, StageUnknown, TooManyVariables}
-use Rattle.pc_syntax.specs.declared.limits.TheConstants.{MAX_VARIABLES}
-use Rattle.pc_syntax.specs.declared.term.Sort.{Sort}
-use Rattle.pc_syntax.specs.declared.term.Sort.TheVariants.{Microop, Core}
-use Rattle.pc_syntax.specs.declared.term.Word.{Word}
-use Rattle.pc_syntax.specs.declared.term.Arg.{Arg}
-use Rattle.pc_syntax.specs.declared.term.Arg.TheVariants.{Word as word_arg, Number as number_arg}
-use Rattle.pc_syntax.specs.declared.term.NodeTerm.{NodeTerm}
-use Rattle.pc_syntax.specs.declared.term.EdgeTerm.{EdgeTerm}
-use Rattle.pc_syntax.specs.declared.model.StageItem.{StageItem}
-use Rattle.pc_syntax.specs.declared.pred.Pred.{Pred}
-use Rattle.pc_syntax.specs.declared.pred.Takes.{Takes}
-use Rattle.pc_syntax.specs.declared.pred.Takes.TheVariants.{Op as takes_op, Core as takes_core, Plain as takes_plain}
-use Rattle.pc_syntax.specs.Predicates.{pred_with_name, takes_of}
+use Rattle.pc_syntax.specs.declared.{limits.TheConstants.{MAX_VARIABLES}, term.{Sort.{Sort, TheVariants.{Microop, Core}}, Word.{Word}, Arg.{Arg}}}
+use Rattle.pc_syntax.specs.declared.term.{Arg.TheVariants.{Word as word_arg, Number as number_arg}, NodeTerm.{NodeTerm}, EdgeTerm.{EdgeTerm}}
+use Rattle.pc_syntax.specs.declared.{model.StageItem.{StageItem}, pred.{Pred.{Pred}, Takes.{Takes}}}
+use Rattle.pc_syntax.specs.{declared.pred.Takes.TheVariants.{Op as takes_op, Core as takes_core, Plain as takes_plain}, Predicates.{pred_with_name, takes_of}}
 use Rattle.pc_syntax.specs.Written.{Written, not_, and_, or_, implies_, forall_, exists_, static_, nodes_, edges_, expand_, bind_, MacroAt, WrittenModel}
-use Rattle.pc_syntax.specs.Observable.{axioms_of, macros_of}
-use Rattle.pc_syntax.specs.Expansion.{parameter_names}
-use Rattle.pc_syntax.specs.Scope.{Binding, Scope, binding_of, quantified_in, bound_in}
+use Rattle.pc_syntax.specs.{Observable.{axioms_of, macros_of}, Expansion.{parameter_names}, Scope.{Binding, Scope, binding_of, quantified_in, bound_in}}
 use Rattle.pc_syntax.specs.Fault.{Fault, first_fault}
 use Rattle.pc_syntax.specs.NameFaults.{sort_fault, variable_fault, argument_fault, arguments_fault, arity_fault, static_fault, stage_name_fault, location_fault, node_fault, edge_fault, value_fault, scope_fault, binding_fault, name_fault, first_name_fault}
 use Rattle.pc_syntax.specs.Renaming.{Renaming, KeepsApart, renamed_word, renamed_arg, renamed_taken, renamed_args, renamed_static, renamed_node, renamed_edge, renamed, renamed_macro, renamed_model}
-use Rattle.scope_check.specs.QueryFaults.{filed, fault_within, query_fault, unfiled}
-use Rattle.scope_check.specs.Renaming.{renamed_binding}
-use Rattle.scope_check.specs.Laws.{RenamingKeepsNameFaults, RenamingKeepsFirstNameFaults, RenamingKeepsQueryFaults, RenamingKeepsAsked}
 use Rattle.pc_syntax.proofs.RenamedItems.{names_renamed, axioms_renamed, macros_renamed}
+use Rattle.scope_check.specs.{QueryFaults.{filed, fault_within, query_fault, unfiled}, Renaming.{renamed_binding}}
+use Rattle.scope_check.specs.Laws.{RenamingKeepsNameFaults, RenamingKeepsFirstNameFaults, RenamingKeepsQueryFaults, RenamingKeepsAsked}
 use Rattle.scope_check.proofs.FiledFaults.{query_faults}
 use Rattle.scope_check.proofs.RenamedScopes.{new_scope, new_args, new_stages, new_macros, binding_renamed, stage_number_renamed, quantified_renamed, bound_renamed}
 

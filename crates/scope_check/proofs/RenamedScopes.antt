@@ -2,16 +2,9 @@
 use Rattle.std.proofs.Common.{◌≡◌, ℕ, ◌+◌, Bool, List, [], ◌∷◌, ◌++◌, Option, Some, None, length, map, cond, option_map, refl, sym, ap, ◌∙◌}
 use Rattle.std.proofs.lemmas.List.{length-map, map-append}
 use Rattle.pc_common.specs.Names.{same_name}
-use Rattle.pc_syntax.specs.declared.term.Sort.{Sort}
-use Rattle.pc_syntax.specs.declared.term.Sort.TheVariants.{Core}
-use Rattle.pc_syntax.specs.declared.term.Word.{Word}
-use Rattle.pc_syntax.specs.declared.term.Arg.{Arg}
-use Rattle.pc_syntax.specs.declared.term.Arg.TheVariants.{Word as word_arg, Number as number_arg}
-use Rattle.pc_syntax.specs.declared.model.StageItem.{StageItem}
-use Rattle.pc_syntax.specs.Written.{MacroAt}
-use Rattle.pc_syntax.specs.Stages.{stage_with_name, stage_number_of}
-use Rattle.pc_syntax.specs.Scope.{Binding, Scope, binding_of, sort_of_arg, quantified_in, bindings_from, bound_in}
-use Rattle.pc_syntax.specs.Closing.{slot_of}
+use Rattle.pc_syntax.specs.declared.term.{Sort.{Sort, TheVariants.{Core}}, Word.{Word}, Arg.{Arg, TheVariants.{Word as word_arg, Number as number_arg}}}
+use Rattle.pc_syntax.specs.{declared.model.StageItem.{StageItem}, Written.{MacroAt}, Stages.{stage_with_name, stage_number_of}}
+use Rattle.pc_syntax.specs.{Scope.{Binding, Scope, binding_of, sort_of_arg, quantified_in, bindings_from, bound_in}, Closing.{slot_of}}
 use Rattle.pc_syntax.specs.Renaming.{Renaming, KeepsApart, renamed_word, renamed_arg, renamed_macro, renamed_stage}
 use Rattle.pc_syntax.proofs.RenamedItems.{changed_choice, stage_renamed}
 use Rattle.scope_check.specs.Renaming.{renamed_binding}

@@ -1,16 +1,9 @@
 -- The variables of a scope as its bindings.
 use Rattle.std.proofs.Common.{◌≡◌, ℕ, ◌+◌, ◌<◌, ◌≤◌, min, Bool, true, false, List, [], ◌∷◌, ◌++◌, Some, None, length, drop, map, option_map, cond, refl, sym, ap, ◌∙◌, append_assoc, append-nil, length-append, length-drop, arith}
-use Rattle.pc_common.specs.declared.place.Place.{Place}
-use Rattle.pc_common.specs.declared.fault.FaultKind.TheVariants.{TooManyVariables}
-use Rattle.pc_syntax.specs.declared.term.Arg.{Arg}
-use Rattle.pc_syntax.specs.NameFaults.{scope_fault}
-use Rattle.std.proofs.lemmas.Bool.Decides.{nat_tests}
-use Rattle.std.specs.List.{find}
-use Rattle.pc_common.specs.Names.{same_name}
-use Rattle.pc_syntax.specs.Scope.{Binding, Scope, binding_of, sort_of_arg, bindings_from, bound_in}
-use Rattle.scope_check.specs.declared.scope.Variable.{Variable}
-use Rattle.scope_check.specs.Bindings.{binding}
-use Rattle.scope_check.proofs.Walks.{empty}
+use Rattle.std.{proofs.lemmas.Bool.Decides.{nat_tests}, specs.List.{find}}
+use Rattle.pc_common.specs.{declared.{place.Place.{Place}, fault.FaultKind.TheVariants.{TooManyVariables}}, Names.{same_name}}
+use Rattle.pc_syntax.specs.{declared.term.Arg.{Arg}, NameFaults.{scope_fault}, Scope.{Binding, Scope, binding_of, sort_of_arg, bindings_from, bound_in}}
+use Rattle.scope_check.{specs.{declared.scope.Variable.{Variable}, Bindings.{binding}}, proofs.Walks.{empty}}
 
 first_or : (b : Bool) (v : Variable) (vs : List Variable) (name : List ℕ)
     → option_map binding (find (λ w. same_name w.name.now name) vs) ≡ binding_of (map binding vs) name

@@ -1,9 +1,7 @@
 -- A walk over stages to the first one with a name.
-use Rattle.std.proofs.Common.{◌≡◌, ℕ, ◌+◌, Bool, true, false, List, ◌∷◌, Some, None, length, drop, cond, option_map, sym, ap, ◌∙◌}
-use Rattle.std.proofs.Math.Seq.{drop-length}
-use Rattle.pc_syntax.specs.declared.model.StageItem.{StageItem}
+use Rattle.std.proofs.{Common.{◌≡◌, ℕ, ◌+◌, Bool, true, false, List, ◌∷◌, Some, None, length, drop, cond, option_map, sym, ap, ◌∙◌}, Math.Seq.{drop-length}}
+use Rattle.pc_syntax.specs.{declared.model.StageItem.{StageItem}, Stages.{stage_with_name, stage_number_of}}
 use Rattle.pc_common.specs.Names.{same_name}
-use Rattle.pc_syntax.specs.Stages.{stage_with_name, stage_number_of}
 
 module _ (stages : List StageItem) (k : ℕ) where
   -- its first stage's name decides the number

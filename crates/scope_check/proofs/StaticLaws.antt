@@ -1,14 +1,7 @@
 -- The first fault of a predicate that the table has.
-use Rattle.std.proofs.Common.{◌≡◌, List, Option, Some, None, length, ap, ◌∙◌, arith}
-use Rattle.std.proofs.lemmas.Bool.Decides.{nat_tests}
-use Rattle.std.specs.Option.{option_or}
+use Rattle.std.{proofs.{Common.{◌≡◌, List, Option, Some, None, length, ap, ◌∙◌, arith}, lemmas.Bool.Decides.{nat_tests}}, specs.Option.{option_or}}
 use Rattle.pc_common.specs.declared.fault.FaultKind.TheVariants.{PredicateUnknown, Arity}
-use Rattle.pc_syntax.specs.declared.term.Word.{Word}
-use Rattle.pc_syntax.specs.declared.term.Arg.{Arg}
-use Rattle.pc_syntax.specs.declared.pred.Pred.{Pred}
-use Rattle.pc_syntax.specs.Predicates.{pred_with_name, takes_of}
-use Rattle.pc_syntax.specs.Scope.{Scope}
-use Rattle.pc_syntax.specs.Fault.{Fault}
+use Rattle.pc_syntax.specs.{declared.{term.{Word.{Word}, Arg.{Arg}}, pred.Pred.{Pred}}, Predicates.{pred_with_name, takes_of}, Scope.{Scope}, Fault.{Fault}}
 use Rattle.pc_syntax.specs.NameFaults.{arity_fault, arguments_fault, static_fault}
 
 module _ (scope : Scope) (word : Word) (args : List Arg) where

@@ -1,15 +1,10 @@
 -- How far a walk over a list has come: what was walked has no fault and is closed, and the rest is to do.
 use Rattle.std.proofs.Common.{◌≡◌, ℕ, zero, suc, ◌+◌, ◌<◌, ◌≤◌, List, [], ◌∷◌, ◌++◌, Option, Some, None, length, map, drop, get_or, slice_get, refl, sym, ap, ◌∙◌, append_assoc, append-nil, add-one, length-drop, arith}
 use Rattle.std.proofs.Math.Seq.{drop-cons, drop-length}
-use Rattle.pc_syntax.specs.declared.term.Arg.{Arg}
-use Rattle.pc_syntax.specs.declared.closed_term.ClosedArg.{ClosedArg}
-use Rattle.pc_syntax.specs.declared.pred.Takes.{Takes}
-use Rattle.pc_syntax.specs.Scope.{Scope}
-use Rattle.pc_syntax.specs.Fault.{Fault, first_fault}
+use Rattle.pc_syntax.specs.{declared.{term.Arg.{Arg}, closed_term.ClosedArg.{ClosedArg}, pred.Takes.{Takes}}, Scope.{Scope}, Fault.{Fault, first_fault}}
 use Rattle.pc_syntax.specs.NameFaults.{value_fault, argument_fault, arguments_fault}
 use Rattle.pc_syntax.specs.Closing.{closing_of_value, closing_of_bound, closing_of_arg, closing_of_args}
-use Rattle.scope_check.specs.FirstFault.{IsNoneOr}
-use Rattle.scope_check.proofs.FaultLaws.{pass, or_first}
+use Rattle.scope_check.{specs.FirstFault.{IsNoneOr}, proofs.FaultLaws.{pass, or_first}}
 
 drop_next : {A : Type 0} (xs : List A) (k : ℕ) (x : A) → slice_get xs k ≡ Some x → drop k xs ≡ x ∷ drop (suc k) xs
 drop_next [] k x h = cc

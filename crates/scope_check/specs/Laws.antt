@@ -1,16 +1,9 @@
 -- What closing keeps, and what a renaming keeps.
 use Rattle.std.specs.Prelude.{◌≡◌, List, [], map, length}
-use Rattle.pc_syntax.specs.declared.model.StageItem.{StageItem}
-use Rattle.pc_syntax.specs.Written.{Written, MacroAt, WrittenModel}
-use Rattle.pc_syntax.specs.Truth.{Meaning, Environment, Setting, is_true}
-use Rattle.pc_syntax.specs.Closed.{PlainClosed, closed_true}
-use Rattle.pc_syntax.specs.Closing.{IsClosingOf, closing_of}
-use Rattle.pc_syntax.specs.NameFaults.{name_fault, first_name_fault}
-use Rattle.pc_syntax.specs.Renaming.{Renaming, KeepsApart, renamed, renamed_macro, renamed_stage, renamed_model}
-use Rattle.pc_syntax.specs.Scope.{Scope}
-use Rattle.pc_syntax.specs.Fits.{Fits}
-use Rattle.scope_check.specs.QueryFaults.{query_fault, asked}
-use Rattle.scope_check.specs.Renaming.{renamed_binding}
+use Rattle.pc_syntax.specs.{declared.model.StageItem.{StageItem}, Written.{Written, MacroAt, WrittenModel}, Truth.{Meaning, Environment, Setting, is_true}}
+use Rattle.pc_syntax.specs.{Closed.{PlainClosed, closed_true}, Closing.{IsClosingOf, closing_of}, NameFaults.{name_fault, first_name_fault}}
+use Rattle.pc_syntax.specs.{Renaming.{Renaming, KeepsApart, renamed, renamed_macro, renamed_stage, renamed_model}, Scope.{Scope}, Fits.{Fits}}
+use Rattle.scope_check.specs.{QueryFaults.{query_fault, asked}, Renaming.{renamed_binding}}
 
 -- what closing gives is true exactly where the formula is: in each case and world, with the stages that it
 -- was closed with, in each environment that fits the scope and with the values of its slots

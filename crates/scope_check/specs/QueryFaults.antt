@@ -1,19 +1,12 @@
 -- The first name fault of a formula that is asked of a model, with the file in which it stands.
-use Rattle.std.specs.Prelude.{◌≡◌, List, [], ◌∷◌, Option, Some, None, if◌then◌else◌}
-use Rattle.std.specs.Option.{option_or}
-use Rattle.pc_common.specs.Names.{same_name}
-use Rattle.pc_common.specs.declared.fault.Which.{Which}
-use Rattle.pc_common.specs.declared.fault.Which.TheVariants.{Model, Query}
+use Rattle.std.specs.{Prelude.{◌≡◌, List, [], ◌∷◌, Option, Some, None, if◌then◌else◌}, Option.{option_or}}
+use Rattle.pc_common.specs.{Names.{same_name}, declared.fault.Which.{Which, TheVariants.{Model, Query}}}
 use Rattle.pc_syntax.specs.declared.model.StageItem.{StageItem}
 use Rattle.pc_syntax.specs.Written.{Written, not_, and_, or_, implies_, forall_, exists_, static_, nodes_, edges_, expand_, bind_, MacroAt}
-use Rattle.pc_syntax.specs.Expansion.{parameter_names}
-use Rattle.pc_syntax.specs.Scope.{Scope, quantified_in, bound_in}
-use Rattle.pc_syntax.specs.Fault.{Fault, first_fault}
-use Rattle.pc_syntax.specs.NameFaults.{scope_fault, static_fault, node_fault, edge_fault, binding_fault, name_fault}
-use Rattle.pc_syntax.specs.Closed.{PlainClosed}
+use Rattle.pc_syntax.specs.{Expansion.{parameter_names}, Scope.{Scope, quantified_in, bound_in}, Fault.{Fault, first_fault}}
+use Rattle.pc_syntax.specs.{NameFaults.{scope_fault, static_fault, node_fault, edge_fault, binding_fault, name_fault}, Closed.{PlainClosed}}
 use Rattle.pc_syntax.specs.Closing.{closing_of}
-use Rattle.scope_check.specs.FirstFault.{name_fault_of}
-use Rattle.scope_check.specs.declared.fault.NameFault.{NameFault}
+use Rattle.scope_check.specs.{FirstFault.{name_fault_of}, declared.fault.NameFault.{NameFault}}
 
 -- a fault and the file in which it stands
 abbrev pub FiledFault : Type 0

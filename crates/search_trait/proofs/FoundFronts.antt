@@ -1,24 +1,12 @@
 -- A front's numbering is of its tree, in which a constant is the whole tree; and what is found of a front says of it.
-use Rattle.std.proofs.Common.{◌≡◌, List, Result, Ok, Err, sym, ◌∙◌, ap, subst}
-use Rattle.std.specs.Prelude.{IfOk, IsTrue}
-use Rattle.pc_common.specs.Steps.{Step}
-use Rattle.pc_common.specs.World.{Node, World, IsWorld}
+use Rattle.std.{proofs.Common.{◌≡◌, List, Result, Ok, Err, sym, ◌∙◌, ap, subst}, specs.Prelude.{IfOk, IsTrue}}
+use Rattle.pc_common.specs.{Steps.{Step}, World.{Node, World, IsWorld}}
 use Rattle.pc_syntax.specs.Closed.{closed_satisfies}
-use Rattle.pc_ground.specs.declared.front.Front.{Front}
-use Rattle.pc_ground.specs.declared.version.Version.TheVariants.{One}
-use Rattle.pc_ground.specs.Tree.{Tree}
-use Rattle.pc_ground.specs.Rows.{rows_of}
-use Rattle.pc_ground.specs.Folded.{IsFolded}
-use Rattle.pc_ground.specs.Numbers.{numbered}
-use Rattle.pc_ground.specs.GroundTree.{axioms_unfolded}
-use Rattle.pc_ground.specs.Stages.{plain_axioms}
-use Rattle.pc_ground.proofs.FlatRows.{rows_injective}
-use Rattle.pc_ground.proofs.NormalForms.{normal_folded}
-use Rattle.pc_ground.proofs.UnfoldedTruth.{closed_ground_tree_true}
+use Rattle.pc_ground.specs.{declared.{front.Front.{Front}, version.Version.TheVariants.{One}}, Tree.{Tree}, Rows.{rows_of}, Folded.{IsFolded}}
+use Rattle.pc_ground.{specs.{Numbers.{numbered}, GroundTree.{axioms_unfolded}, Stages.{plain_axioms}}, proofs.FlatRows.{rows_injective}}
+use Rattle.pc_ground.proofs.{NormalForms.{normal_folded}, UnfoldedTruth.{closed_ground_tree_true}}
 use Rattle.graph_text.specs.declared.graph.Graph.{Graph}
-use Rattle.solver.specs.Answers.{IsAnswer}
-use Rattle.solver.specs.declared.answer.Answer.{Answer}
-use Rattle.solver.specs.declared.answer.Answer.TheVariants.{Observable, Unobservable}
+use Rattle.solver.specs.{Answers.{IsAnswer}, declared.answer.Answer.{Answer, TheVariants.{Observable, Unobservable}}}
 use Rattle.search_trait.specs.Found.{tree_of, IsFound}
 
 pub front_numbered : (front : Front) (t : Tree Node) → front.tree ≡ rows_of t → front.numbering ≡ numbered t

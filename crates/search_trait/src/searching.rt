@@ -13,7 +13,7 @@ use std::sync::ledger::{Blank, Ledger};
 use undo_trail::Steps;
 
 /// What the search finds of a front. The ledger is of this call alone: nobody reads its count of steps.
-fn searched<L: Ledger>(
+fn run_search<L: Ledger>(
     alloc: Global,
     front: &Front,
     version: Version,
@@ -34,5 +34,5 @@ pub fn search_front(alloc: Global, front: &Front, version: Version) -> Result<An
     ensures { IfOk result (λ found. (t : Tree Node) → front.now.tree ≡ rows_of t
         → IsAnswer version front.now.numbering t found) }
 {
-    searched::<Brand>(alloc, front, version, Blank::new(1))
+    run_search::<Brand>(alloc, front, version, Blank::new(1))
 }

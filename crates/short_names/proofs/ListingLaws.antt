@@ -1,12 +1,9 @@
 -- Names that are listed once are all that are listed, and each has a number.
 use Rattle.std.proofs.Common.{◌≡◌, ℕ, ◌<◌, Bool, true, false, not, ◌||◌, List, [], ◌∷◌, ◌++◌, map, length, take, get_or, ◌+◌, subst, Option, Some, None, cond, if◌then◌else◌, Bor, refl, sym, ap, ◌∙◌, true≢false, All, arith, lt-ltb}
+use Rattle.std.proofs.lemmas.{List.{Folds.{list_any-append}, Elements.{All-weaker, All-more}}, Slice.Eq.{bytes_eq-Decides}}
 use Rattle.std.specs.List.{list_any, position_or_len}
-use Rattle.std.proofs.lemmas.List.Folds.{list_any-append}
-use Rattle.std.proofs.lemmas.List.Elements.{All-weaker, All-more}
-use Rattle.std.proofs.lemmas.Slice.Eq.{bytes_eq-Decides}
 use Rattle.indexmap.specs.IndexSet.{insert_key}
-use Rattle.pc_common.specs.Names.{same_name}
-use Rattle.pc_common.proofs.Bools.{or_true}
+use Rattle.pc_common.{specs.Names.{same_name}, proofs.Bools.{or_true}}
 use Rattle.short_names.specs.Numbers.{name_bytes, IsAmong, number_of, number_bytes, unlisted, short_name}
 
 pub any_name : (test : List ℕ → Bool) (ks : List (Bor (List ℕ))) → list_any (λ k. test k.now) ks ≡ list_any test (map name_bytes ks)

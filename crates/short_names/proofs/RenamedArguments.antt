@@ -1,9 +1,7 @@
 -- A predicate's arguments are renamed one after another.
 use Rattle.std.proofs.Common.{◌≡◌, ℕ, ◌+◌, List, [], ◌∷◌, ◌++◌, take, slice_get, Some, zero, suc, refl, ap, ◌∙◌, arith}
 use Rattle.pc_common.proofs.Places.{take-next}
-use Rattle.pc_syntax.specs.declared.term.Arg.{Arg}
-use Rattle.pc_syntax.specs.declared.pred.Takes.{Takes}
-use Rattle.pc_syntax.specs.Renaming.{Renaming, renamed_taken, renamed_args}
+use Rattle.pc_syntax.specs.{declared.{term.Arg.{Arg}, pred.Takes.{Takes}}, Renaming.{Renaming, renamed_taken, renamed_args}}
 use Rattle.short_names.specs.Arguments.{renamed_at}
 
 module _ (ρ : Renaming) where

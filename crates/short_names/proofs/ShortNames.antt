@@ -1,16 +1,11 @@
 -- Two short names are one exactly where the names are.
 use Rattle.std.proofs.Common.{◌≡◌, ℕ, ◌+◌, ◌<◌, ◌^◌, Bool, true, false, not, List, [], ◌∷◌, ◌++◌, map, length, drop, replicate, length-append, get_or, Option, Some, None, cond, Bor, nat_lt, suc, slice_get, refl, sym, ap, ◌∙◌, true≢false, arith}
-use borrow.Author.Count.{below_more}
-use Rattle.std.specs.List.{position, position_or_len}
-use Rattle.std.specs.Int.{w64, from_le_bytes}
-use Rattle.std.proofs.lemmas.Nat.{from_le_bytes-to_le_bytes_8}
-use Rattle.std.proofs.lemmas.List.{length_push}
-use Rattle.std.proofs.lemmas.Slice.Eq.{bytes_eq-Decides}
-use Rattle.std.proofs.lemmas.List.Quantifiers.{position-Some}
-use Rattle.pc_common.specs.Names.{same_name}
-use Rattle.pc_common.proofs.Places.{get_before, get_last}
+use Rattle.std.proofs.lemmas.{Nat.{from_le_bytes-to_le_bytes_8}, List.{length_push, Quantifiers.{position-Some}}, Slice.Eq.{bytes_eq-Decides}}
+use Rattle.std.specs.{List.{position, position_or_len}, Int.{w64, from_le_bytes}}
+use Rattle.pc_common.{specs.Names.{same_name}, proofs.Places.{get_before, get_last}}
 use Rattle.pc_syntax.specs.Renaming.{KeepsApart}
 use Rattle.short_names.specs.Numbers.{name_bytes, number_of, number_bytes, HasNumbers, unlisted, short_name}
+use borrow.Author.Count.{below_more}
 
 place_of : (w : List ℕ) (ks : List (Bor (List ℕ))) → position_or_len (λ k. same_name w k.now) ks ≡ position_or_len (same_name w) (map name_bytes ks)
 place_of w [] = refl

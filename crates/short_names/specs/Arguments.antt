@@ -1,8 +1,6 @@
 -- A predicate's arguments one by one.
 use Rattle.std.specs.Prelude.{ℕ, List, slice_get, None, Some}
-use Rattle.pc_syntax.specs.declared.term.Arg.{Arg}
-use Rattle.pc_syntax.specs.declared.pred.Takes.{Takes}
-use Rattle.pc_syntax.specs.Renaming.{Renaming, renamed_taken}
+use Rattle.pc_syntax.specs.{declared.{term.Arg.{Arg}, pred.Takes.{Takes}}, Renaming.{Renaming, renamed_taken}}
 
 -- an argument at this place, where these are taken
 unfoldable pub renamed_at : Renaming → List Takes → ℕ → Arg → Arg

@@ -1,8 +1,6 @@
 -- When a model has a long name, and a model whose names are all short ones.
-use Rattle.std.specs.Prelude.{◌≡◌, ℕ, Bool, List, length, nat_lt, All}
-use Rattle.std.specs.List.{list_any}
-use Rattle.pc_syntax.specs.Written.{WrittenModel}
-use Rattle.pc_syntax.specs.Renaming.{IsRenamed}
+use Rattle.std.specs.{Prelude.{◌≡◌, ℕ, Bool, List, length, nat_lt, All}, List.{list_any}}
+use Rattle.pc_syntax.specs.{Written.{WrittenModel}, Renaming.{IsRenamed}}
 use Rattle.short_names.specs.ModelNames.{names_of_model}
 
 -- it has more than 32 bytes

@@ -1,7 +1,5 @@
 -- The short name of a name: its number among listed names, in eight bytes.
-use Rattle.std.specs.Prelude.{◌≡◌, ℕ, ◌<◌, true, List, ◌++◌, slice_get, Option, Some, None, replicate}
-use Rattle.std.specs.Borrow.{Bor}
-use Rattle.std.specs.List.{position, list_any}
+use Rattle.std.specs.{Prelude.{◌≡◌, ℕ, ◌<◌, true, List, ◌++◌, slice_get, Option, Some, None, replicate}, Borrow.{Bor}, List.{position, list_any}}
 use Rattle.std.specs.Int.{w64, to_le_bytes}
 use Rattle.pc_common.specs.Names.{same_name}
 

@@ -22,15 +22,15 @@ pub(crate) fn short_formula(
     match formula {
         Formula::Not(body) => Formula::negation(alloc, short_formula(alloc, names, body)?),
         Formula::And(left, right) => {
-            let (left, right) = short_both(alloc, names, left, right)?;
+            let (left, right) = short_pair(alloc, names, left, right)?;
             Formula::conjunction(alloc, left, right)
         }
         Formula::Or(left, right) => {
-            let (left, right) = short_both(alloc, names, left, right)?;
+            let (left, right) = short_pair(alloc, names, left, right)?;
             Formula::disjunction(alloc, left, right)
         }
         Formula::Implies(left, right) => {
-            let (left, right) = short_both(alloc, names, left, right)?;
+            let (left, right) = short_pair(alloc, names, left, right)?;
             Formula::implication(alloc, left, right)
         }
         Formula::Forall {
@@ -39,7 +39,7 @@ pub(crate) fn short_formula(
             name,
             body,
         } => {
-            let (name, body) = short_named(alloc, names, name, body)?;
+            let (name, body) = short_name_and_body(alloc, names, name, body)?;
             Formula::forall(alloc, *at, *sort, name, body)
         }
         Formula::Exists {
@@ -48,7 +48,7 @@ pub(crate) fn short_formula(
             name,
             body,
         } => {
-            let (name, body) = short_named(alloc, names, name, body)?;
+            let (name, body) = short_name_and_body(alloc, names, name, body)?;
             Formula::exists(alloc, *at, *sort, name, body)
         }
         Formula::Static { pred, args } => short_static(alloc, names, pred, args),
@@ -61,7 +61,7 @@ pub(crate) fn short_formula(
             args,
             body,
         } => {
-            let (bound, args, body) = short_bound(alloc, names, bound, args, body)?;
+            let (bound, args, body) = short_binding(alloc, names, bound, args, body)?;
             Formula::bind(alloc, *at, bound, args, body)
         }
     }
@@ -69,7 +69,7 @@ pub(crate) fn short_formula(
 
 /// The same of two formulas.
 #[cycle(walk)]
-fn short_both(
+fn short_pair(
     alloc: Global,
     names: &ShortNames<'_>,
     left: &Formula,
@@ -84,7 +84,7 @@ fn short_both(
 
 /// The short name of a quantifier's name, and the same of its body.
 #[cycle(walk)]
-fn short_named(
+fn short_name_and_body(
     alloc: Global,
     names: &ShortNames<'_>,
     name: &Name,
@@ -93,13 +93,13 @@ fn short_named(
     ensures name { IfOk result (λ named. named.0 ≡ short_name names.now name.now) }
     ensures body { IfOk result (λ named. written named.1 ≡ renamed (short_name names.now) (written body.now)) }
 {
-    let name = names.short(alloc, name)?;
+    let name = names.shorten(alloc, name)?;
     Ok((name, short_formula(alloc, names, body)?))
 }
 
 /// The short names of a binding's names and arguments, and the same of its body.
 #[cycle(walk)]
-fn short_bound(
+fn short_binding(
     alloc: Global,
     names: &ShortNames<'_>,
     bound: &Names,

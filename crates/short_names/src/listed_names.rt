@@ -63,7 +63,7 @@ impl<'a> ListedNames<'a> {
     }
 
     /// The names in their order, each once. Takes time in proportion to their bytes.
-    pub(crate) fn once(&self, alloc: Global) -> Result<IndexSet<&'a [u8]>, Memory>
+    pub(crate) fn distinct_names(&self, alloc: Global) -> Result<IndexSet<&'a [u8]>, Memory>
         ensures { IfOk result (λ once. All (IsAmong (map name_bytes once.keys)) self.now) }
     {
         let mut once = IndexSet::new(alloc);

@@ -97,7 +97,7 @@ pub fn with_short_names(alloc: Global, model: &ModelFile) -> Result<Option<Model
     if !listed.has_long() {
         return Ok(None);
     }
-    let names = ShortNames::of(alloc, &listed)?;
+    let names = ShortNames::from_listed(alloc, &listed)?;
     let stages = short_stages(alloc, &names, &model.stages)?;
     let items = short_items(alloc, &names, &model.items)?;
     Ok(Some(ModelFile { stages, items }))

@@ -12,7 +12,7 @@ use pc_syntax::{Arg, Args, Formula, Pred, Takes, Word};
 use std::alloc::Global;
 
 /// An argument where a predicate takes this. A plain name is compared with names of the test, and stays.
-fn short_taken(
+fn short_taken_arg(
     alloc: Global,
     names: &ShortNames<'_>,
     takes: Takes,
@@ -28,7 +28,7 @@ fn short_taken(
 
 /// An argument at this place of a predicate, from 0. One past what the predicate takes stays.
 #[tactic(auto, unfolding(crate::specs::Arguments::renamed_at))]
-fn short_at(
+fn short_arg_at(
     alloc: Global,
     names: &ShortNames<'_>,
     pred: Pred,
@@ -38,7 +38,7 @@ fn short_at(
     ensures { IfOk result (λ short. short ≡ renamed_at (short_name names.now) (takes_of pred) place arg.now) }
 {
     if place < pred.arity() {
-        return short_taken(alloc, names, pred.takes(place), arg);
+        return short_taken_arg(alloc, names, pred.takes(place), arg);
     }
     Ok(arg.clone()?)
 }
@@ -54,9 +54,9 @@ fn short_args_of(
 {
     let mut shorts = Listed::new(alloc);
     for place in 0..args.len() {
-        shorts.push(short_at(alloc, names, pred, place, args.get(place))?)?;
+        shorts.push(short_arg_at(alloc, names, pred, place, args.get(place))?)?;
     }
-    Shared::of(shorts)
+    Shared::from_listed(shorts)
 }
 
 /// The arguments of what is written as a predicate. Those of none stay.

@@ -42,7 +42,7 @@ fn number_name(alloc: Global, number: usize) -> Result<Name, Memory>
     ensures { IfOk result (λ name. name ≡ number_bytes number) }
 {
     let bytes = (number as u64).to_le_bytes();
-    Shared::of(Listed::from_vec(bytes.to_vec(alloc)?))
+    Shared::from_listed(Listed::from_vec(bytes.to_vec(alloc)?))
 }
 
 /// Nine zeros before a name, so that it is longer than a number.
@@ -53,16 +53,19 @@ fn unlisted_name(alloc: Global, name: &[u8]) -> Result<Name, Memory>
     for byte in name {
         bytes.push(*byte)?;
     }
-    Shared::of(bytes)
+    Shared::from_listed(bytes)
 }
 
 impl<'a> ShortNames<'a> {
     /// A short name for each of these names.
-    pub(crate) fn of(alloc: Global, listed: &ListedNames<'a>) -> Result<ShortNames<'a>, Memory>
+    pub(crate) fn from_listed(
+        alloc: Global,
+        listed: &ListedNames<'a>,
+    ) -> Result<ShortNames<'a>, Memory>
         ensures apart { IfOk result (λ names. KeepsApart (short_name names)) }
         ensures short { IfOk result (λ names. All (λ name. length (short_name names name) ≡ 8) listed.now) }
     {
-        let names = listed.once(alloc)?;
+        let names = listed.distinct_names(alloc)?;
         let mut shorts = Listed::new(alloc);
         for number in 0..names.len() {
             shorts.push(number_name(alloc, number)?)?;
@@ -71,7 +74,7 @@ impl<'a> ShortNames<'a> {
     }
 
     /// The short name of a name. One look-up.
-    pub(crate) fn short(&self, alloc: Global, name: &Name) -> Result<Name, Memory>
+    pub(crate) fn shorten(&self, alloc: Global, name: &Name) -> Result<Name, Memory>
         ensures { IfOk result (λ short. short ≡ short_name self.now name.now) }
     {
         let name = name.as_slice();

@@ -11,7 +11,7 @@ use std::alloc::Global;
 pub(crate) fn short_word(alloc: Global, names: &ShortNames<'_>, word: &Word) -> Result<Word, Memory>
     ensures { IfOk result (λ short. short ≡ renamed_word (short_name names.now) word.now) }
 {
-    let name = names.short(alloc, &word.name)?;
+    let name = names.shorten(alloc, &word.name)?;
     Ok(Word { name, at: word.at })
 }
 
@@ -57,9 +57,9 @@ pub(crate) fn short_names_of(
 {
     let mut shorts = Listed::new(alloc);
     for name in written.as_slice() {
-        shorts.push(names.short(alloc, name)?)?;
+        shorts.push(names.shorten(alloc, name)?)?;
     }
-    Shared::of(shorts)
+    Shared::from_listed(shorts)
 }
 
 /// Words by their short names.
@@ -74,7 +74,7 @@ pub(crate) fn short_words(
     for word in words.as_slice() {
         shorts.push(short_word(alloc, names, word)?)?;
     }
-    Shared::of(shorts)
+    Shared::from_listed(shorts)
 }
 
 /// Arguments by their short names.
@@ -85,7 +85,7 @@ pub(crate) fn short_args(alloc: Global, names: &ShortNames<'_>, args: &Args) -> 
     for arg in args.as_slice() {
         shorts.push(short_arg(alloc, names, arg)?)?;
     }
-    Shared::of(shorts)
+    Shared::from_listed(shorts)
 }
 
 /// Nodes by their short names.
@@ -100,7 +100,7 @@ pub(crate) fn short_nodes(
     for node in nodes.as_slice() {
         shorts.push(short_node(alloc, names, node)?)?;
     }
-    Shared::of(shorts)
+    Shared::from_listed(shorts)
 }
 
 /// Edges by their short names.
@@ -115,5 +115,5 @@ pub(crate) fn short_edges(
     for edge in edges.as_slice() {
         shorts.push(short_edge(alloc, names, edge)?)?;
     }
-    Shared::of(shorts)
+    Shared::from_listed(shorts)
 }

@@ -1,14 +1,9 @@
 -- The steps that a judge has followed, with the branches that it stands for.
 use Rattle.std.proofs.Common.{◌≡◌, ◌≤◌, ℕ, ◌+◌, Bool, true, false, List, [], ◌∷◌, ◌++◌, Some, length, take, slice_get, refl, sym, ◌∙◌, ap, subst}
-use Rattle.std.proofs.lemmas.List.{take_all, take_more}
-use Rattle.std.proofs.lemmas.Option.{slice_get_within, get_or_from_slice_get}
-use Rattle.pc_common.specs.World.{Node}
-use Rattle.pc_common.specs.Steps.{Step}
-use Rattle.pc_ground.specs.declared.version.Version.{Version}
-use Rattle.pc_ground.specs.Tree.{Tree}
-use Rattle.pc_ground.specs.Refutes.{Branch, all_signed, asserted, IsPartial, IsRefutation}
-use Rattle.tree_check.specs.OpenBranches.{OpenBranches, Stands, HasStepped}
-use Rattle.tree_check.proofs.Runs.{runs_then}
+use Rattle.std.proofs.lemmas.{List.{take_all, take_more}, Option.{slice_get_within, get_or_from_slice_get}}
+use Rattle.pc_common.specs.{World.{Node}, Steps.{Step}}
+use Rattle.pc_ground.specs.{declared.version.Version.{Version}, Tree.{Tree}, Refutes.{Branch, all_signed, asserted, IsPartial, IsRefutation}}
+use Rattle.tree_check.{specs.OpenBranches.{OpenBranches, Stands, HasStepped}, proofs.Runs.{runs_then}}
 
 abbrev root : Tree Node → List Branch
 root t = all_signed false (asserted t 0) ∷ []

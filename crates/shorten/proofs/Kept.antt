@@ -1,7 +1,6 @@
 -- The steps that stay of those that were passed so far.
 use Rattle.std.proofs.Common.{◌≡◌, ◌≤◌, ℕ, ◌+◌, List, [], ◌∷◌, ◌++◌, ◌⊎◌, inl, inr, Some, length, take, slice_get, sym, ◌∙◌, ap, subst, arith}
-use Rattle.std.proofs.lemmas.List.{take_all, take_more}
-use Rattle.std.proofs.lemmas.Option.{slice_get_within, get_or_from_slice_get}
+use Rattle.std.proofs.lemmas.{List.{take_all, take_more}, Option.{slice_get_within, get_or_from_slice_get}}
 use Rattle.shorten.specs.Subsequences.{IsSubsequence, none, left_out, stays}
 
 pub all_stay : {A : Type 0} (xs : List A) → IsSubsequence xs xs

@@ -87,7 +87,7 @@ pub(crate) fn note_part(
     let end = root.saturating_add(skip_at(tree, root)).min(tree.len());
     let mut at = root;
     while at < end {
-        let row = tree.row(at).turned(negated);
+        let row = tree.row(at).negate_if(negated);
         note_row(negated, at, row, level, levels)?;
         at += row.stride().clamp(1, end - at);
     }

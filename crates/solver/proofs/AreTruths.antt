@@ -1,27 +1,14 @@
 -- Flags for the truth of subtrees and for the positions of a branch, and the sides of an Or by its rows.
 use Rattle.std.proofs.Common.{◌≡◌, ◌<◌, inl, inr, ℕ, ◌+◌, Bool, true, false, ◌&&◌, ◌||◌, List, Some, None, length, refl, sym, ap, ◌∙◌, subst, arith}
-use Rattle.std.specs.Prelude.{slice_get, ◌↔◌, IsTrue}
-use Rattle.std.proofs.lemmas.Bool.{or_left, or_right}
-use Rattle.pc_ground.specs.declared.literal.Literal.{Literal}
-use Rattle.pc_ground.specs.declared.row.Row.{Row}
-use Rattle.pc_ground.specs.declared.row.RowKind.{RowKind}
-use Rattle.pc_ground.specs.declared.row.RowKind.TheVariants.{True, False, Lit, And, Or}
-use Rattle.pc_common.specs.Chain.{Chain}
-use Rattle.pc_common.proofs.Bools.{true_or_false, and_first, and_second, or_second}
-use Rattle.pc_ground.specs.Literals.{Joins, IsPresent, Holds}
-use Rattle.pc_ground.specs.Tree.{Tree, always, never, leaf, both, either, negation, turned, size_of}
-use Rattle.pc_ground.specs.Rows.{root_kind, rows_of}
-use Rattle.pc_ground.specs.declared.version.Version.{Version}
-use Rattle.pc_ground.specs.declared.version.Version.TheVariants.{One, Two}
-use Rattle.pc_ground.specs.Refutes.{Signed, subtree_at}
+use Rattle.std.{proofs.lemmas.Bool.{or_left, or_right}, specs.Prelude.{slice_get, ◌↔◌, IsTrue}}
+use Rattle.pc_ground.specs.declared.{literal.Literal.{Literal}, row.{Row.{Row}, RowKind.TheVariants.{True, False, Lit, And, Or}}, version.Version.{Version}}
+use Rattle.pc_ground.specs.{declared.version.Version.TheVariants.{One, Two}, Literals.{Joins, IsPresent, Holds}}
+use Rattle.pc_ground.specs.{Tree.{Tree, always, never, leaf, both, either, negation, turned, size_of}, Rows.{root_kind, rows_of}, Refutes.{Signed, subtree_at}}
 use Rattle.pc_ground.proofs.Turned.{subtree_denied, size_negation, size_turned}
-use Rattle.pc_ground.proofs.FlatRows.{length_rows, size_pos, subtree_size, subtree_past, children_both, children_either}
-use Rattle.pc_ground.proofs.StageWalks.{some_same}
-use Rattle.solver.specs.Spelled.{spelled, IsSpelled}
-use Rattle.solver.specs.Met.{IsMet}
-use Rattle.solver.specs.Flags.{AreTruths, HasChildren, of_both, of_either, SomeChildren, AreChildFlags}
-use Rattle.solver.specs.Places.{left_side, denied_left, right_side, IsOr, IsDeniedIn, AreSides}
-use Rattle.solver.specs.declared.side.Side.{Side}
+use Rattle.pc_ground.proofs.{FlatRows.{length_rows, size_pos, subtree_size, subtree_past, children_both, children_either}, StageWalks.{some_same}}
+use Rattle.pc_common.{specs.Chain.{Chain}, proofs.Bools.{true_or_false, and_first, and_second, or_second}}
+use Rattle.solver.specs.{Spelled.{spelled, IsSpelled}, Met.{IsMet}, Flags.{AreTruths, HasChildren, of_both, of_either, SomeChildren, AreChildFlags}}
+use Rattle.solver.specs.{Places.{left_side, denied_left, right_side, IsOr, IsDeniedIn, AreSides}, declared.side.Side.{Side}}
 use Rattle.solver.proofs.HasAsserted.{row_root, length_spelled}
 
 pub children_inside : (rows : List (Row ℕ)) (p right : ℕ) → IsSpelled rows → HasChildren (spelled rows) p right → (p + 1 < length rows) × (right < length rows)

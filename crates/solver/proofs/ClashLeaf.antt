@@ -1,36 +1,19 @@
 -- A clash of asserted literals closes a branch: over numbers, and so over nodes.
 use Rattle.std.proofs.Common.{◌≡◌, ◌≤◌, ◌<◌, inl, inr, ℕ, Bool, List, [], ◌∷◌, ◌++◌, map, length, get_or, Option, Some, None, ◌⊎◌, refl, sym, ap, ◌∙◌, subst}
-use Rattle.std.specs.Prelude.{Contains, All, slice_get}
-use Rattle.std.proofs.lemmas.List.Elements.{All-contains, All-nil, All-cons, All-push, All-append}
-use Rattle.std.proofs.lemmas.Option.{slice_get_cases, slice_get_read, slice_get-map}
-use Rattle.std.specs.Option.{unwrap_or, option_map}
-use Rattle.pc_ground.specs.declared.node_key.NodeKey.{NodeKey}
-use Rattle.pc_ground.specs.declared.row.Row.{Row}
-use Rattle.pc_ground.specs.declared.row.RowKind.{RowKind}
-use Rattle.pc_ground.specs.declared.row.RowKind.TheVariants.{True, False, Lit, And, Or}
-use Rattle.pc_ground.specs.Rows.{literals_of_kind, turned_row, turned_rows}
-use Rattle.pc_ground.proofs.FlatRows.{literal_by_row, literals_of_row}
-use Rattle.solver.specs.Spelled.{spelled, IsSpelled}
-use Rattle.solver.specs.Below.{IsKindBelow, IsRowBelow}
-use Rattle.pc_common.specs.World.{Node as PlainNode}
-use Rattle.pc_common.specs.Chain.{Leads}
-use Rattle.pc_common.specs.Steps.{Leaf, path}
-use Rattle.pc_common.proofs.Elements.{In, in_from_contains, contains_from_in, in_map, from_map}
-use Rattle.pc_ground.specs.declared.literal.Literal.{Literal}
-use Rattle.pc_ground.specs.declared.literal.Literal.TheVariants.{Node, Edge, NoNode, NoEdge}
-use Rattle.pc_ground.specs.Keys.{renamed, key_node}
-use Rattle.pc_ground.specs.Tree.{Tree, turned}
-use Rattle.pc_ground.specs.Literals.{Joins, IsPresent, as_node, as_start, as_end}
+use Rattle.std.proofs.lemmas.{List.Elements.{All-contains, All-nil, All-cons, All-push, All-append}, Option.{slice_get_cases, slice_get_read, slice_get-map}}
+use Rattle.std.specs.{Prelude.{Contains, All, slice_get}, Option.{unwrap_or, option_map}}
+use Rattle.pc_ground.specs.declared.{node_key.NodeKey.{NodeKey}, row.{Row.{Row}, RowKind.{RowKind, TheVariants.{True, False, Lit, And, Or}}}}
+use Rattle.pc_ground.specs.{declared.literal.Literal.{Literal, TheVariants.{Node, Edge, NoNode, NoEdge}}, Rows.{literals_of_kind, turned_row, turned_rows}}
+use Rattle.pc_ground.specs.{Keys.{renamed, key_node}, Tree.{Tree, turned}, Literals.{Joins, IsPresent, as_node, as_start, as_end}}
 use Rattle.pc_ground.specs.Refutes.{Branch, part_at, literal_of, literals_of, IsContradiction, a_cycle, a_path, an_absence, Closes, a_contradiction}
-use Rattle.refutation.specs.Steps.{HasItsNodes, IsLeaf}
-use Rattle.order_graph.specs.Ways.{IsBelow}
-use Rattle.order_graph.specs.Clashes.{leaf_of, IsClash}
-use Rattle.order_graph.specs.declared.clash.Clash.{Clash}
-use Rattle.solver.specs.Renamed.{tree_over, node_at, renamed_leaf}
-use Rattle.solver.specs.Leaves.{clash_step, IsLeafBelow, IsClashBelow}
-use Rattle.solver.proofs.RenamedTree.{literals_renamed}
-use Rattle.solver.proofs.IsSpelled.{turned_flat}
+use Rattle.pc_ground.proofs.FlatRows.{literal_by_row, literals_of_row}
+use Rattle.solver.specs.{Spelled.{spelled, IsSpelled}, Below.{IsKindBelow, IsRowBelow}, Renamed.{tree_over, node_at, renamed_leaf}}
+use Rattle.solver.{specs.Leaves.{clash_step, IsLeafBelow, IsClashBelow}, proofs.{RenamedTree.{literals_renamed}, IsSpelled.{turned_flat}}}
 use Rattle.solver.proofs.HasAsserted.{turned_below}
+use Rattle.pc_common.specs.{World.{Node as PlainNode}, Chain.{Leads}, Steps.{Leaf, path}}
+use Rattle.pc_common.proofs.Elements.{In, in_from_contains, contains_from_in, in_map, from_map}
+use Rattle.refutation.specs.Steps.{HasItsNodes, IsLeaf}
+use Rattle.order_graph.specs.{Ways.{IsBelow}, Clashes.{leaf_of, IsClash}, declared.clash.Clash.{Clash}}
 
 renamed_in : {M N : Type 0} (f : M → N) (l : Literal M) (ls : List (Literal M)) → Contains ls l → Contains (map (renamed f) ls) (renamed f l)
 renamed_in f l ls h = contains_from_in (renamed f l) (map (renamed f) ls) (in_map (renamed f) l ls (in_from_contains l ls h))

@@ -1,19 +1,11 @@
 -- Consistent literals over nodes are true in the world that they generate.
-use Rattle.std.proofs.Common.{inl, inr, List, [], ◌∷◌, refl, sym, subst}
-use Rattle.std.specs.Prelude.{Contains, IsTrue}
-use Rattle.std.specs.List.{flat_map}
-use Rattle.pc_common.specs.World.{Node, Edge, World, has_node, has_edge, same_node}
-use Rattle.pc_common.specs.Chain.{Leads, Acyclic}
-use Rattle.pc_common.specs.Generated.{IsListed, HasEnds, IsGenerated}
-use Rattle.pc_common.proofs.Elements.{In, in_from_contains, contains_from_in, in_flat, from_flat}
-use Rattle.pc_common.proofs.Nodes.{has_node_is, has_edge_is}
+use Rattle.std.{proofs.Common.{inl, inr, List, [], ◌∷◌, refl, sym, subst}, specs.{Prelude.{Contains, IsTrue}, List.{flat_map}}}
+use Rattle.pc_common.specs.{World.{Node, Edge, World, has_node, has_edge, same_node}, Chain.{Leads, Acyclic}, Generated.{IsListed, HasEnds, IsGenerated}}
+use Rattle.pc_common.proofs.{Elements.{In, in_from_contains, contains_from_in, in_flat, from_flat}, Nodes.{has_node_is, has_edge_is}}
 use Rattle.pc_common.proofs.GeneratedWorlds.{generates, node_tells}
-use Rattle.pc_ground.specs.declared.literal.Literal.{Literal}
-use Rattle.pc_ground.specs.declared.literal.Literal.TheVariants.{Node as a_node, Edge as an_edge, NoNode, NoEdge}
-use Rattle.pc_ground.specs.Tree.{literal_true}
+use Rattle.pc_ground.specs.{declared.literal.Literal.{Literal, TheVariants.{Node as a_node, Edge as an_edge, NoNode, NoEdge}}, Tree.{literal_true}}
 use Rattle.pc_ground.specs.Literals.{Joins, IsPresent, as_node, as_start, as_end, IsConsistent}
-use Rattle.solver.specs.Laws.{literal_nodes, literal_edges, ConsistentHaveWorld}
-use Rattle.solver.proofs.ShownWorld.{not_true}
+use Rattle.solver.{specs.Laws.{literal_nodes, literal_edges, ConsistentHaveWorld}, proofs.ShownWorld.{not_true}}
 
 listed_present : (ls : List (Literal Node)) (a : Node) → IsPresent ls a → Contains (flat_map literal_nodes ls) a
 listed_present ls a present = contains_from_in a (flat_map literal_nodes ls) (go present)

@@ -1,38 +1,20 @@
 -- Asserting a side: where a part's walk starts, one row more, one part more, and what a clash of a first part says of the whole.
 use Rattle.std.proofs.Common.{◌≡◌, ◌≤◌, ◌<◌, ℕ, ◌+◌, Bool, true, false, List, [], ◌∷◌, ◌++◌, Option, Some, None, map, take, length, refl, sym, ap, ◌∙◌, subst, arith, append_assoc}
-use Rattle.std.specs.Prelude.{slice_get, All}
-use Rattle.std.proofs.lemmas.List.{append-nil, take-append-le}
-use Rattle.std.proofs.lemmas.List.Elements.{All-contains, Contains-append_left}
-use Rattle.std.proofs.lemmas.Option.{slice_get_within, get_or_from_slice_get}
-use Rattle.std.proofs.lemmas.Grind.{flat_map-append}
-use Rattle.pc_common.specs.Chain.{Leads}
-use Rattle.pc_common.specs.Steps.{Leaf}
-use Rattle.pc_ground.specs.declared.literal.Literal.{Literal}
-use Rattle.pc_ground.specs.declared.literal.Literal.TheVariants.{Node, Edge, NoNode, NoEdge}
-use Rattle.pc_ground.specs.declared.row.Row.{Row}
-use Rattle.pc_ground.specs.declared.row.RowKind.{RowKind}
+use Rattle.std.proofs.lemmas.List.{append-nil, take-append-le, Elements.{All-contains, Contains-append_left}}
+use Rattle.std.{proofs.lemmas.{Option.{slice_get_within, get_or_from_slice_get}, Grind.{flat_map-append}}, specs.Prelude.{slice_get, All}}
+use Rattle.pc_common.specs.{Chain.{Leads}, Steps.{Leaf}}
+use Rattle.pc_ground.specs.declared.{literal.Literal.{Literal, TheVariants.{Node, Edge, NoNode, NoEdge}}, row.{Row.{Row}, RowKind.{RowKind}}}
 use Rattle.pc_ground.specs.declared.row.RowKind.TheVariants.{True, False, Lit, And, Or}
 use Rattle.pc_ground.specs.Tree.{Tree, always, never, leaf, both, either, contrary, turned, size_of}
-use Rattle.pc_ground.specs.Rows.{rows_of, literals_of_kind, turned_kind, turned_row, turned_rows}
-use Rattle.pc_ground.specs.Literals.{Joins, IsPresent, as_node, as_start, as_end}
+use Rattle.pc_ground.specs.{Rows.{rows_of, literals_of_kind, turned_kind, turned_row, turned_rows}, Literals.{Joins, IsPresent, as_node, as_start, as_end}}
 use Rattle.pc_ground.specs.Refutes.{Signed, Branch, all_signed, subtree_at, part_at, asserted, literal_of, literals_of, IsContradiction, a_cycle, a_path, an_absence}
 use Rattle.pc_ground.specs.Walks.{stride, Walk}
 use Rattle.pc_ground.proofs.FlatRows.{root_of, row_subtree, subtree_within, subtree_row, subtree_size, length_rows, literal_by_row, literals_of_row}
-use Rattle.pc_ground.proofs.Walks.{walk_side, walk_turn, walk_within}
-use Rattle.pc_ground.proofs.StageWalks.{some_same}
-use Rattle.order_graph.specs.Clashes.{leaf_of, IsClash}
-use Rattle.order_graph.specs.State.{Graph}
-use Rattle.order_graph.specs.Adding.{IsAdded}
-use Rattle.order_graph.specs.declared.clash.Added.{Added}
-use Rattle.order_graph.specs.declared.clash.Added.TheVariants.{Kept as was_kept, Clash as clashed}
-use Rattle.order_graph.specs.declared.clash.Clash.{Clash}
-use Rattle.order_graph.specs.Ways.{IsBelow}
-use Rattle.solver.specs.Spelled.{spelled, IsSpelled}
-use Rattle.solver.specs.Below.{IsKindBelow, IsRowBelow}
-use Rattle.solver.specs.Places.{place_signed, asserted_in, asserted_at}
-use Rattle.solver.specs.Opens.{positions, IsFurther, HasAsserted, HasAddedRow}
-use Rattle.solver.specs.declared.place.Place.{Place}
-use Rattle.solver.proofs.IsSpelled.{turned_flat}
+use Rattle.pc_ground.proofs.{Walks.{walk_side, walk_turn, walk_within}, StageWalks.{some_same}}
+use Rattle.order_graph.specs.{Clashes.{leaf_of, IsClash}, State.{Graph}, Adding.{IsAdded}, declared.clash.Added.{Added}}
+use Rattle.order_graph.specs.{declared.clash.{Added.TheVariants.{Kept as was_kept, Clash as clashed}, Clash.{Clash}}, Ways.{IsBelow}}
+use Rattle.solver.specs.{Spelled.{spelled, IsSpelled}, Below.{IsKindBelow, IsRowBelow}, Places.{place_signed, asserted_in, asserted_at}}
+use Rattle.solver.{specs.{Opens.{positions, IsFurther, HasAsserted, HasAddedRow}, declared.place.Place.{Place}}, proofs.IsSpelled.{turned_flat}}
 
 pub asserted_is : {N : Type 0} (t : Tree N) (n : Bool) (p : ℕ) (s : Tree N) → subtree_at (turned n t) p ≡ Some s
     → asserted_at t n p ≡ all_signed n (asserted s p)

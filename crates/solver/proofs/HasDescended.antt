@@ -1,37 +1,17 @@
 -- One turn of a descent, and its end.
 use Rattle.std.proofs.Common.{◌≡◌, ◌≤◌, ◌<◌, ℕ, ◌+◌, List, [], ◌∷◌, ◌++◌, take, reverse, length, refl, sym, ap, ◌∙◌, subst, arith, append_assoc}
-use Rattle.std.specs.Prelude.{All}
-use Rattle.std.proofs.lemmas.List.{reverse-append, length-map}
-use Rattle.pc_common.specs.World.{Node}
-use Rattle.pc_common.specs.Steps.{Step, split}
-use Rattle.pc_common.proofs.Elements.{contains_from_in}
-use Rattle.pc_ground.specs.declared.row.Row.{Row}
-use Rattle.pc_ground.specs.Tree.{Tree, turned, size_of}
-use Rattle.pc_ground.specs.declared.version.Version.{Version}
-use Rattle.pc_ground.specs.Refutes.{Branch, Signed, signed, literals_of, left_branch, right_branch}
+use Rattle.std.{proofs.lemmas.List.{reverse-append, length-map}, specs.Prelude.{All}}
+use Rattle.pc_common.{specs.{World.{Node}, Steps.{Step, split}}, proofs.Elements.{contains_from_in}}
+use Rattle.pc_ground.specs.{declared.{row.Row.{Row}, version.Version.{Version}}, Tree.{Tree, turned, size_of}}
+use Rattle.pc_ground.{specs.Refutes.{Branch, Signed, signed, literals_of, left_branch, right_branch}, proofs.FlatRows.{children_either}}
 use Rattle.refutation.specs.Steps.{open_branches}
-use Rattle.order_graph.specs.State.{Graph}
-use Rattle.order_graph.specs.Clashes.{IsClash}
-use Rattle.order_graph.specs.declared.clash.Clash.{Clash}
-use Rattle.solver.specs.Spelled.{spelled, IsSpelled}
-use Rattle.solver.specs.Below.{IsRowBelow}
-use Rattle.solver.specs.Renamed.{tree_over}
-use Rattle.solver.specs.Places.{place_signed, side_positions, left_side, right_side, IsCandidate, AreSides}
-use Rattle.solver.specs.Leaves.{IsClashBelow}
-use Rattle.solver.specs.Opens.{positions, waiting, IsLater, AreLater, opens, KeepsState, state_of, IsSame}
-use Rattle.solver.specs.Numbered.{Numbered}
-use Rattle.solver.specs.Branches.{branches_with, HasOpenBranch}
-use Rattle.solver.specs.declared.branch.Branch.{Branch as OpenBranch}
-use Rattle.solver.specs.Weights.{weight}
-use Rattle.solver.specs.Descents.{IsLonger, HasMore}
-use Rattle.solver.specs.declared.place.Place.{Place}
-use Rattle.solver.specs.declared.side.Side.{Side}
-use Rattle.solver.specs.declared.later.Later.{Later}
-use Rattle.solver.proofs.Runs.{open_partial}
-use Rattle.solver.proofs.ClashLeaf.{clash_below, literals_below}
-use Rattle.solver.proofs.KeepsState.{split_kept, left_is, right_is}
-use Rattle.solver.proofs.Weight.{weight_more, weight_split}
-use Rattle.pc_ground.proofs.FlatRows.{children_either}
+use Rattle.order_graph.specs.{State.{Graph}, Clashes.{IsClash}, declared.clash.Clash.{Clash}}
+use Rattle.solver.specs.{Spelled.{spelled, IsSpelled}, Below.{IsRowBelow}, Renamed.{tree_over}}
+use Rattle.solver.specs.{Places.{place_signed, side_positions, left_side, right_side, IsCandidate, AreSides}, Leaves.{IsClashBelow}}
+use Rattle.solver.specs.{Opens.{positions, waiting, IsLater, AreLater, opens, KeepsState, state_of, IsSame}, Numbered.{Numbered}}
+use Rattle.solver.specs.{Branches.{branches_with, HasOpenBranch}, declared.{branch.Branch.{Branch as OpenBranch}, place.Place.{Place}, side.Side.{Side}}}
+use Rattle.solver.{specs.{declared.later.Later.{Later}, Weights.{weight}, Descents.{IsLonger, HasMore}}, proofs.Runs.{open_partial}}
+use Rattle.solver.proofs.{ClashLeaf.{clash_below, literals_below}, KeepsState.{split_kept, left_is, right_is}, Weight.{weight_more, weight_split}}
 
 pub clash_in : (n : ℕ) (rows : List (Row ℕ)) (ps : Branch) (k : Clash) → IsSpelled rows → All (IsRowBelow n) rows
     → IsClash (literals_of (spelled rows) ps) k → IsClashBelow n k

@@ -1,28 +1,14 @@
 -- Candidates by their flags.
 use Rattle.std.proofs.Common.{◌≡◌, ◌≤◌, ◌<◌, inl, inr, ℕ, ◌+◌, Bool, true, false, ◌&&◌, List, [], ◌∷◌, ◌++◌, Some, None, length, refl, sym, ap, ◌∙◌, subst, arith}
-use Rattle.std.specs.Prelude.{slice_get, Contains, not, MatchBool, All, if◌then◌else◌}
-use Rattle.std.proofs.lemmas.Bool.{cases_lt}
-use Rattle.std.proofs.lemmas.List.Elements.{All-push}
+use Rattle.std.{proofs.lemmas.{Bool.{cases_lt}, List.Elements.{All-push}}, specs.Prelude.{slice_get, Contains, not, MatchBool, All, if◌then◌else◌}}
 use Rattle.pc_common.proofs.Elements.{in_from_contains, contains_from_in}
-use Rattle.pc_ground.specs.declared.literal.Literal.{Literal}
-use Rattle.pc_ground.specs.declared.row.Row.{Row}
-use Rattle.pc_ground.specs.declared.row.RowKind.TheVariants.{Or}
-use Rattle.pc_ground.specs.Rows.{root_kind, turned_rows}
-use Rattle.pc_ground.specs.Tree.{Tree, either, turned, size_of}
-use Rattle.pc_ground.specs.declared.version.Version.TheVariants.{One}
-use Rattle.pc_ground.specs.Refutes.{Signed, Branch, signed, subtree_at, part_at, literals_of}
-use Rattle.pc_ground.proofs.Turned.{subtree_denied, size_turned}
-use Rattle.pc_ground.proofs.FlatRows.{subtree_past, length_rows}
-use Rattle.pc_ground.proofs.StageWalks.{some_same}
-use Rattle.solver.specs.Spelled.{spelled, IsSpelled}
-use Rattle.solver.specs.Met.{IsMet, IsMetUnder}
-use Rattle.solver.specs.Places.{place_signed, HasSignsOf, IsCandidate, IsChosen, AreChosen, IsNoted}
-use Rattle.solver.specs.declared.place.Place.{Place}
-use Rattle.solver.specs.Flags.{flag, AreTruths, SomeChildren, AreChildFlags}
-use Rattle.solver.specs.Weights.{under, is_on}
-use Rattle.solver.proofs.Weight.{on_from_in, in_from_on, in_under, from_under}
-use Rattle.solver.proofs.AreTruths.{or_tree, signed_children}
-use Rattle.solver.proofs.HasAsserted.{length_spelled, row_root}
+use Rattle.pc_ground.specs.declared.{literal.Literal.{Literal}, row.{Row.{Row}, RowKind.TheVariants.{Or}}, version.Version.TheVariants.{One}}
+use Rattle.pc_ground.specs.{Rows.{root_kind, turned_rows}, Tree.{Tree, either, turned, size_of}}
+use Rattle.pc_ground.{specs.Refutes.{Signed, Branch, signed, subtree_at, part_at, literals_of}, proofs.Turned.{subtree_denied, size_turned}}
+use Rattle.pc_ground.proofs.{FlatRows.{subtree_past, length_rows}, StageWalks.{some_same}}
+use Rattle.solver.specs.{Spelled.{spelled, IsSpelled}, Met.{IsMet, IsMetUnder}, Places.{place_signed, HasSignsOf, IsCandidate, IsChosen, AreChosen, IsNoted}}
+use Rattle.solver.specs.{declared.place.Place.{Place}, Flags.{flag, AreTruths, SomeChildren, AreChildFlags}, Weights.{under, is_on}}
+use Rattle.solver.proofs.{Weight.{on_from_in, in_from_on, in_under, from_under}, AreTruths.{or_tree, signed_children}, HasAsserted.{length_spelled, row_root}}
 use Rattle.solver.proofs.IsSpelled.{turned_flat}
 
 sides_same : {N : Type 0} (a b c d : Tree N) → either a b ≡ either c d → a ≡ c

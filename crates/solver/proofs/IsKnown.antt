@@ -1,20 +1,12 @@
 -- Numbers for nodes, and lists that are copied one by one.
 use Rattle.std.proofs.Common.{◌≡◌, inl, inr, ℕ, ◌+◌, List, [], ◌∷◌, ◌++◌, Option, Some, map, take, refl, sym, ap, ◌∙◌, subst}
-use Rattle.std.specs.Prelude.{slice_get, Contains}
-use Rattle.std.specs.Option.{unwrap_or}
-use Rattle.std.proofs.lemmas.List.{take_more, map_push}
-use Rattle.std.proofs.lemmas.Option.{slice_get_within, get_or_from_slice_get, slice_get-get_or}
-use Rattle.pc_common.specs.World.{Node}
-use Rattle.pc_common.proofs.Elements.{In, in_from_contains, contains_from_in, in_either, in_front, in_back}
-use Rattle.pc_ground.specs.declared.literal.Literal.{Literal}
-use Rattle.pc_ground.specs.declared.literal.Literal.TheVariants.{Node as a_node, Edge, NoNode, NoEdge}
-use Rattle.pc_ground.specs.declared.row.Row.{Row}
-use Rattle.pc_ground.specs.Tree.{Tree, always, never, leaf, both, either}
-use Rattle.pc_ground.specs.Rows.{rows_of}
-use Rattle.pc_ground.specs.Numbers.{nodes_of_literal, nodes_of_tree, numbered}
+use Rattle.std.proofs.lemmas.{List.{take_more, map_push}, Option.{slice_get_within, get_or_from_slice_get, slice_get-get_or}}
+use Rattle.std.specs.{Prelude.{slice_get, Contains}, Option.{unwrap_or}}
+use Rattle.pc_common.{specs.World.{Node}, proofs.Elements.{In, in_from_contains, contains_from_in, in_either, in_front, in_back}}
+use Rattle.pc_ground.specs.declared.{literal.Literal.{Literal, TheVariants.{Node as a_node, Edge, NoNode, NoEdge}}, row.Row.{Row}}
+use Rattle.pc_ground.specs.{Tree.{Tree, always, never, leaf, both, either}, Rows.{rows_of}, Numbers.{nodes_of_literal, nodes_of_tree, numbered}}
 use Rattle.pc_ground.proofs.FirstSeen.{numbered_has}
-use Rattle.solver.specs.Renamed.{node_at}
-use Rattle.solver.specs.Known.{IsNumbered, IsLiteralKnown, IsRowKnown}
+use Rattle.solver.specs.{Renamed.{node_at}, Known.{IsNumbered, IsLiteralKnown, IsRowKnown}}
 
 pub number_named : (nodes : List Node) (k : ℕ) (a : Node) → slice_get nodes k ≡ Some a → node_at nodes k ≡ a
 unfolding node_at

@@ -1,15 +1,9 @@
 -- A branch on which nothing is left to choose meets its tree.
-use Rattle.std.proofs.Common.{◌≡◌, inl, inr, ℕ, ◌+◌, false, List, Some, refl, sym, ap, subst}
-use Rattle.std.specs.Prelude.{Contains}
+use Rattle.std.{proofs.Common.{◌≡◌, inl, inr, ℕ, ◌+◌, false, List, Some, refl, sym, ap, subst}, specs.Prelude.{Contains}}
 use Rattle.pc_common.proofs.Elements.{In, in_from_contains, contains_from_in, in_flat}
-use Rattle.pc_ground.specs.declared.literal.Literal.{Literal}
-use Rattle.pc_ground.specs.Tree.{Tree, always, never, leaf, both, either, size_of}
-use Rattle.pc_ground.specs.Literals.{AreMet}
-use Rattle.pc_ground.specs.Refutes.{Branch, Signed, signed, subtree_at, part_at, literal_of, literals_of}
-use Rattle.pc_ground.proofs.FlatRows.{children_both, children_either}
-use Rattle.solver.specs.Met.{IsMet}
-use Rattle.solver.specs.Places.{AreChosen}
-use Rattle.solver.proofs.IsGrown.{IsGrown}
+use Rattle.pc_ground.specs.{declared.literal.Literal.{Literal}, Tree.{Tree, always, never, leaf, both, either, size_of}, Literals.{AreMet}}
+use Rattle.pc_ground.{specs.Refutes.{Branch, Signed, signed, subtree_at, part_at, literal_of, literals_of}, proofs.FlatRows.{children_both, children_either}}
+use Rattle.solver.{specs.{Met.{IsMet}, Places.{AreChosen}}, proofs.IsGrown.{IsGrown}}
 
 -- no False stands in the tree
 abbrev pub NoFalse : {N : Type 0} → Tree N → Type 0

@@ -1,18 +1,10 @@
 -- An Or that is on the branch with no side, from what is asked of it.
-use Rattle.std.proofs.Common.{◌≡◌, inl, inr, ℕ, ◌+◌, Bool, true, false, List, [], ◌∷◌, Some, sym, ap, ◌∙◌, subst}
-use Rattle.std.specs.Prelude.{Contains, IsTrue, ◌↔◌}
+use Rattle.std.{proofs.Common.{◌≡◌, inl, inr, ℕ, ◌+◌, Bool, true, false, List, [], ◌∷◌, Some, sym, ap, ◌∙◌, subst}, specs.Prelude.{Contains, IsTrue, ◌↔◌}}
 use Rattle.pc_common.proofs.Elements.{In, in_from_contains, contains_from_in, in_map}
-use Rattle.pc_ground.specs.declared.literal.Literal.{Literal}
-use Rattle.pc_ground.specs.Tree.{Tree, either, turned, size_of}
-use Rattle.pc_ground.specs.declared.version.Version.TheVariants.{One}
-use Rattle.pc_ground.specs.Refutes.{Signed, signed, subtree_at, literals_of}
-use Rattle.pc_ground.proofs.Turned.{subtree_denied}
-use Rattle.solver.specs.Met.{IsMet, IsMetUnder}
-use Rattle.solver.specs.Places.{place_signed, IsOr, IsCandidate, IsUntaken, AreSides}
-use Rattle.solver.specs.Opens.{positions}
-use Rattle.solver.specs.declared.place.Place.{Place}
-use Rattle.solver.specs.declared.side.Side.{Side}
-use Rattle.solver.proofs.IsIndexed.{place_is}
+use Rattle.pc_ground.specs.{declared.{literal.Literal.{Literal}, version.Version.TheVariants.{One}}, Tree.{Tree, either, turned, size_of}}
+use Rattle.pc_ground.{specs.Refutes.{Signed, signed, subtree_at, literals_of}, proofs.Turned.{subtree_denied}}
+use Rattle.solver.specs.{Met.{IsMet, IsMetUnder}, Places.{place_signed, IsOr, IsCandidate, IsUntaken, AreSides}, Opens.{positions}}
+use Rattle.solver.{specs.declared.{place.Place.{Place}, side.Side.{Side}}, proofs.IsIndexed.{place_is}}
 
 pub has_signed : (xs : List Place) (q : Place) → Contains xs q → Contains (positions xs) (place_signed q)
 has_signed xs q has = contains_from_in (place_signed q) (positions xs) (in_map place_signed q xs (in_from_contains q xs has))

@@ -1,13 +1,8 @@
 -- The rows of a tree spell it, and turned they spell the turned tree.
-use Rattle.std.proofs.Common.{◌≡◌, ℕ, Bool, List, [], ◌∷◌, ◌++◌, Some, refl, sym, ap, ◌∙◌, append_assoc}
-use Rattle.std.specs.Prelude.{slice_get}
-use Rattle.std.specs.Option.{option_map}
-use Rattle.std.proofs.lemmas.List.{append-nil}
-use Rattle.pc_ground.specs.declared.row.Row.{Row}
-use Rattle.pc_ground.specs.declared.row.RowKind.TheVariants.{And, Or}
-use Rattle.pc_ground.specs.Tree.{Tree, always, never, leaf, both, either, turned}
-use Rattle.pc_ground.specs.Rows.{rows_of, turned_row, turned_rows}
-use Rattle.pc_ground.proofs.Turned.{rows_turned, row_turned}
+use Rattle.std.proofs.{Common.{◌≡◌, ℕ, Bool, List, [], ◌∷◌, ◌++◌, Some, refl, sym, ap, ◌∙◌, append_assoc}, lemmas.List.{append-nil}}
+use Rattle.std.specs.{Prelude.{slice_get}, Option.{option_map}}
+use Rattle.pc_ground.specs.{declared.row.{Row.{Row}, RowKind.TheVariants.{And, Or}}, Tree.{Tree, always, never, leaf, both, either, turned}}
+use Rattle.pc_ground.{specs.Rows.{rows_of, turned_row, turned_rows}, proofs.Turned.{rows_turned, row_turned}}
 use Rattle.solver.specs.Spelled.{before, trees, first_tree, spelled, IsSpelled}
 
 trees_rows : {N : Type 0} (t : Tree N) (rest : List (Row N)) → trees (rows_of t ++ rest) ≡ t ∷ trees rest

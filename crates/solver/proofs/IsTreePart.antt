@@ -1,19 +1,9 @@
 -- The rows of a subtree, by themselves.
 use Rattle.std.proofs.Common.{◌≡◌, ◌≤◌, ◌<◌, ℕ, ◌+◌, ◌-◌, Bool, List, [], ◌∷◌, ◌++◌, Some, take, drop, length, refl, sym, ap, ◌∙◌, subst, arith}
-use Rattle.std.specs.Prelude.{slice_get, slice_range, All, IsTrue, ◌↔◌}
-use Rattle.std.proofs.lemmas.List.Elements.{All-take, All-drop}
-use Rattle.pc_ground.specs.declared.literal.Literal.{Literal}
-use Rattle.pc_ground.specs.declared.row.Row.{Row}
-use Rattle.pc_ground.specs.Tree.{Tree, size_of}
-use Rattle.pc_ground.specs.Rows.{rows_of}
-use Rattle.pc_ground.specs.Refutes.{subtree_at}
-use Rattle.pc_ground.proofs.FlatRows.{IsPart, subtree_part, subtree_size, length_rows}
-use Rattle.pc_ground.proofs.StageWalks.{some_same}
-use Rattle.solver.specs.Spelled.{spelled, IsSpelled}
-use Rattle.solver.specs.Below.{IsRowBelow}
-use Rattle.solver.specs.Met.{IsMet}
-use Rattle.solver.specs.Flags.{IsTreePart}
-use Rattle.solver.proofs.IsSpelled.{spelled_is, is_spelled}
+use Rattle.std.{proofs.lemmas.List.Elements.{All-take, All-drop}, specs.Prelude.{slice_get, slice_range, All, IsTrue, ◌↔◌}}
+use Rattle.pc_ground.specs.{declared.{literal.Literal.{Literal}, row.Row.{Row}}, Tree.{Tree, size_of}, Rows.{rows_of}, Refutes.{subtree_at}}
+use Rattle.pc_ground.proofs.{FlatRows.{IsPart, subtree_part, subtree_size, length_rows}, StageWalks.{some_same}}
+use Rattle.solver.{specs.{Spelled.{spelled, IsSpelled}, Below.{IsRowBelow}, Met.{IsMet}, Flags.{IsTreePart}}, proofs.IsSpelled.{spelled_is, is_spelled}}
 use Rattle.solver.proofs.HasAsserted.{row_root, length_spelled}
 
 take_first : {X : Type 0} (xs ys : List X) → take (length xs) (xs ++ ys) ≡ xs

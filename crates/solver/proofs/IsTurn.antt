@@ -1,59 +1,24 @@
 -- From what a search keeps to what it hands out.
 use Rattle.std.proofs.Common.{◌≡◌, ◌<◌, inl, inr, ℕ, zero, suc, ◌+◌, ◌-◌, ◌^◌, true, List, [], ◌∷◌, Option, Some, None, reverse, length, refl, sym, ap, ◌∙◌, subst, arith, get_or}
-use Rattle.std.specs.Prelude.{Contains, All, slice_get, Bool, false, ◌==◌, nat_lt}
-use Rattle.std.specs.Option.{option_map}
-use Rattle.std.proofs.lemmas.List.{append-nil}
-use Rattle.std.proofs.lemmas.List.Elements.{All-contains}
-use Rattle.std.proofs.lemmas.Option.{slice_get-get_or, get_or_from_slice_get}
-use Rattle.pc_common.specs.World.{Node}
-use Rattle.pc_common.specs.Steps.{Step, close, false_step}
-use Rattle.pc_common.proofs.Elements.{In, contains_from_in, in_map, in_front, in_back}
+use Rattle.std.proofs.lemmas.{List.{append-nil, Elements.{All-contains}}, Option.{slice_get-get_or, get_or_from_slice_get}}
+use Rattle.std.specs.{Prelude.{Contains, All, slice_get, Bool, false, ◌==◌, nat_lt}, Option.{option_map}}
+use Rattle.pc_common.{specs.{World.{Node}, Steps.{Step, close, false_step}}, proofs.Elements.{In, contains_from_in, in_map, in_front, in_back}}
 use Rattle.pc_common.proofs.Bools.{true_or_false, not_both}
-use Rattle.pc_ground.specs.declared.literal.Literal.{Literal}
-use Rattle.pc_ground.specs.declared.row.Row.{Row}
-use Rattle.pc_ground.specs.Rows.{rows_of}
-use Rattle.pc_ground.specs.Tree.{Tree, always, never, leaf, both, either, turned, size_of}
-use Rattle.pc_ground.specs.declared.version.Version.{Version}
-use Rattle.pc_ground.specs.declared.version.Version.TheVariants.{One, Two}
-use Rattle.pc_ground.specs.Literals.{IsConsistent}
+use Rattle.pc_ground.specs.declared.{literal.Literal.{Literal}, row.{Row.{Row}, RowKind.TheVariants.{False}}, version.Version.{Version, TheVariants.{One, Two}}}
+use Rattle.pc_ground.specs.{Rows.{rows_of, root_kind}, Tree.{Tree, always, never, leaf, both, either, turned, size_of}, Literals.{IsConsistent}}
 use Rattle.pc_ground.specs.Refutes.{Branch, signed, all_signed, subtree_at, part_at, literals_of, a_falsity, IsPartial, IsRefutation}
-use Rattle.pc_ground.specs.Rows.{root_kind}
-use Rattle.pc_ground.proofs.FlatRows.{subtree_size, size_pos}
-use Rattle.pc_ground.proofs.Turned.{subtree_denied, size_turned}
-use Rattle.pc_ground.proofs.Refuted.{one_has_no_sign}
-use Rattle.pc_ground.proofs.StageWalks.{some_same}
-use Rattle.pc_ground.specs.Folded.{HasNoConstant, IsFolded}
-use Rattle.pc_ground.specs.declared.row.RowKind.TheVariants.{False}
-use Rattle.graph_text.specs.Graphs.{graph_nodes, graph_edges}
-use Rattle.graph_text.specs.declared.graph.Graph.{Graph as PlainGraph}
-use Rattle.order_graph.specs.State.{IsGraph}
-use Rattle.order_graph.proofs.GeneratesWorld.{consistent_generate}
-use Rattle.solver.specs.Spelled.{spelled, IsSpelled}
-use Rattle.solver.specs.Numbered.{Numbered, IsNumbered, HasNoFalse}
-use Rattle.solver.specs.Renamed.{tree_over, rows_over, node_at, renamed_tree}
-use Rattle.solver.specs.Below.{IsRowBelow}
-use Rattle.solver.specs.Met.{IsMet, IsMetUnder}
-use Rattle.solver.specs.Places.{place_signed, IsCandidate, HasSignsOf, AreChosen, root_side, side_positions}
-use Rattle.solver.specs.Opens.{positions, waiting, opens, KeepsState, state_of}
-use Rattle.solver.specs.Shown.{ArePresent, AreEdges}
-use Rattle.solver.specs.Answers.{IsWitness, IsAnswer}
-use Rattle.solver.specs.Turns.{IsTurnOfRows, IsTurnOfTree}
-use Rattle.solver.specs.declared.search.Turn.{Turn}
-use Rattle.solver.specs.declared.search.Turn.TheVariants.{More, Done}
-use Rattle.solver.specs.Branches.{branches_of, HasOpenBranch, IsBlank}
-use Rattle.solver.specs.Searched.{HasUnmetBranch, HasCandidate}
-use Rattle.solver.specs.declared.branch.Branch.{Branch as OpenBranch}
-use Rattle.solver.specs.declared.place.Place.{Place}
-use Rattle.solver.specs.declared.later.Later.{Later}
-use Rattle.solver.proofs.RenamedTree.{part_renamed, size_renamed, asserted_renamed, tree_of_names}
-use Rattle.solver.proofs.IsSpelled.{spelled_is, is_spelled}
-use Rattle.solver.proofs.IsGrown.{IsGrown, grown_first}
-use Rattle.solver.proofs.IsMet.{met_whole}
-use Rattle.solver.proofs.ShownWorld.{Shows, AreBelow, shown_world}
-use Rattle.solver.proofs.Shown.{all_by_in}
-use Rattle.solver.proofs.IsKnown.{number_named}
-use Rattle.order_graph.specs.Ways.{IsBelow}
-use Rattle.solver.proofs.HasAsserted.{length_spelled, row_root}
+use Rattle.pc_ground.{specs.Folded.{HasNoConstant, IsFolded}, proofs.{FlatRows.{subtree_size, size_pos}, Turned.{subtree_denied, size_turned}}}
+use Rattle.pc_ground.proofs.{Refuted.{one_has_no_sign}, StageWalks.{some_same}}
+use Rattle.graph_text.specs.{Graphs.{graph_nodes, graph_edges}, declared.graph.Graph.{Graph as PlainGraph}}
+use Rattle.order_graph.{specs.{State.{IsGraph}, Ways.{IsBelow}}, proofs.GeneratesWorld.{consistent_generate}}
+use Rattle.solver.specs.{Spelled.{spelled, IsSpelled}, Numbered.{Numbered, IsNumbered, HasNoFalse}, Renamed.{tree_over, rows_over, node_at, renamed_tree}}
+use Rattle.solver.specs.{Below.{IsRowBelow}, Met.{IsMet, IsMetUnder}, Places.{place_signed, IsCandidate, HasSignsOf, AreChosen, root_side, side_positions}}
+use Rattle.solver.specs.{Opens.{positions, waiting, opens, KeepsState, state_of}, Shown.{ArePresent, AreEdges}, Answers.{IsWitness, IsAnswer}}
+use Rattle.solver.specs.{Turns.{IsTurnOfRows, IsTurnOfTree}, declared.{search.Turn.{Turn, TheVariants.{More, Done}}, branch.Branch.{Branch as OpenBranch}}}
+use Rattle.solver.specs.{declared.{place.Place.{Place}, later.Later.{Later}}, Branches.{branches_of, HasOpenBranch, IsBlank}}
+use Rattle.solver.{specs.Searched.{HasUnmetBranch, HasCandidate}, proofs.RenamedTree.{part_renamed, size_renamed, asserted_renamed, tree_of_names}}
+use Rattle.solver.proofs.{IsSpelled.{spelled_is, is_spelled}, IsGrown.{IsGrown, grown_first}, IsMet.{met_whole}, ShownWorld.{Shows, AreBelow, shown_world}}
+use Rattle.solver.proofs.{Shown.{all_by_in}, IsKnown.{number_named}, HasAsserted.{length_spelled, row_root}}
 
 option_back : {X Y : Type 0} (g : X → Y) (o : Option X) (y : Y) → option_map g o ≡ Some y → (x : X) × (o ≡ Some x) × (g x ≡ y)
 option_back g None y e = cc

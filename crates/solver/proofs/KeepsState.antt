@@ -1,27 +1,16 @@
 -- What a search keeps: after a split, after a side is entered, and after a side's clash.
 use Rattle.std.proofs.Common.{◌≡◌, ◌≤◌, ◌<◌, ℕ, zero, suc, ◌+◌, Bool, not, List, [], ◌∷◌, ◌++◌, Option, Some, take, drop, reverse, length, refl, sym, ap, ◌∙◌, subst, arith, append_assoc, length-append}
-use Rattle.std.specs.Prelude.{slice_index, Contains}
 use Rattle.std.proofs.lemmas.List.{append-nil, take-append-le, length-map, length-take, get_or_append_left, reverse-append}
-use Rattle.std.specs.Option.{option_map}
-use Rattle.std.specs.List.{take-map}
-use Rattle.pc_common.specs.World.{Node}
-use Rattle.pc_common.specs.Steps.{Leaf, Step, split, close}
-use Rattle.pc_ground.specs.Tree.{Tree, either, negation, turned, size_of}
-use Rattle.pc_ground.specs.declared.version.Version.{Version}
-use Rattle.pc_ground.specs.declared.version.Version.TheVariants.{One, Two}
+use Rattle.std.specs.{Prelude.{slice_index, Contains}, Option.{option_map}, List.{take-map}}
+use Rattle.pc_common.specs.{World.{Node}, Steps.{Leaf, Step, split, close}}
+use Rattle.pc_ground.specs.{Tree.{Tree, either, negation, turned, size_of}, declared.version.Version.{Version, TheVariants.{One, Two}}}
 use Rattle.pc_ground.specs.Refutes.{Branch, Signed, signed, all_signed, subtree_at, part_at, asserted, literals_of, Closes, left_branch, right_branch, IsPartial}
-use Rattle.pc_ground.proofs.Turned.{subtree_denied, size_turned}
-use Rattle.pc_ground.proofs.FlatRows.{children_either, subtree_size, size_pos}
+use Rattle.pc_ground.proofs.{Turned.{subtree_denied, size_turned}, FlatRows.{children_either, subtree_size, size_pos}}
 use Rattle.order_graph.specs.State.{Graph, IsCut}
-use Rattle.solver.specs.Renamed.{tree_over, renamed_tree, node_at}
-use Rattle.solver.specs.Places.{place_signed, asserted_at, side_positions, left_side, right_side, IsSideIn}
-use Rattle.solver.specs.Opens.{positions, waiting, IsLater, AreLater, opens, KeepsState, state_of, IsFurther}
-use Rattle.solver.specs.declared.place.Place.{Place}
-use Rattle.solver.specs.declared.later.Later.{Later}
-use Rattle.solver.specs.declared.side.Side.{Side}
-use Rattle.solver.proofs.Runs.{runs_split, runs_close}
-use Rattle.solver.proofs.RenamedTree.{part_renamed, negation_renamed, asserted_renamed, size_renamed}
-use Rattle.solver.proofs.HasAsserted.{asserted_is, literals_more}
+use Rattle.solver.specs.{Renamed.{tree_over, renamed_tree, node_at}, Places.{place_signed, asserted_at, side_positions, left_side, right_side, IsSideIn}}
+use Rattle.solver.specs.{Opens.{positions, waiting, IsLater, AreLater, opens, KeepsState, state_of, IsFurther}, declared.place.Place.{Place}}
+use Rattle.solver.{specs.declared.{later.Later.{Later}, side.Side.{Side}}, proofs.Runs.{runs_split, runs_close}}
+use Rattle.solver.proofs.{RenamedTree.{part_renamed, negation_renamed, asserted_renamed, size_renamed}, HasAsserted.{asserted_is, literals_more}}
 use Rattle.solver.proofs.AreTruths.{denied_in}
 
 -- reading and taking before an end that is put after it

@@ -1,17 +1,10 @@
 -- What stays the same where the nodes of a tree are renamed: its rows' form, its positions, and where its literals stand.
 use Rattle.std.proofs.Common.{◌≡◌, ℕ, zero, suc, ◌+◌, ◌-◌, Bool, true, false, List, [], ◌∷◌, ◌++◌, Option, Some, None, map, refl, sym, ap, ◌∙◌, arith, append_assoc}
-use Rattle.std.specs.Prelude.{nat_lt, if◌then◌else◌}
-use Rattle.std.specs.Option.{option_map}
-use Rattle.std.proofs.lemmas.List.{append-nil}
-use Rattle.pc_ground.specs.declared.literal.Literal.{Literal}
-use Rattle.pc_ground.specs.declared.literal.Literal.TheVariants.{Node, Edge, NoNode, NoEdge}
-use Rattle.pc_ground.specs.declared.row.Row.{Row}
-use Rattle.pc_ground.specs.declared.row.RowKind.{RowKind}
+use Rattle.std.{proofs.lemmas.List.{append-nil}, specs.{Prelude.{nat_lt, if◌then◌else◌}, Option.{option_map}}}
+use Rattle.pc_ground.specs.declared.{literal.Literal.{Literal, TheVariants.{Node, Edge, NoNode, NoEdge}}, row.{Row.{Row}, RowKind.{RowKind}}}
 use Rattle.pc_ground.specs.declared.row.RowKind.TheVariants.{True, False, Lit, And, Or}
-use Rattle.pc_ground.specs.Tree.{Tree, always, never, leaf, both, either, contrary, negation, turned, size_of}
-use Rattle.pc_ground.specs.Rows.{rows_of}
-use Rattle.pc_ground.specs.Keys.{renamed, renamed_kind, renamed_row}
-use Rattle.pc_ground.specs.Refutes.{Signed, Branch, subtree_at, part_at, asserted, literal_of, literals_of}
+use Rattle.pc_ground.specs.{Tree.{Tree, always, never, leaf, both, either, contrary, negation, turned, size_of}, Rows.{rows_of}}
+use Rattle.pc_ground.specs.{Keys.{renamed, renamed_kind, renamed_row}, Refutes.{Signed, Branch, subtree_at, part_at, asserted, literal_of, literals_of}}
 use Rattle.solver.specs.Renamed.{renamed_tree}
 
 pub size_renamed : {M N : Type 0} (f : M → N) (t : Tree M) → size_of (renamed_tree f t) ≡ size_of t

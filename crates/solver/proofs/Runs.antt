@@ -1,10 +1,8 @@
 -- The steps of a refutation so far, with a split or a leaf put last.
 use Rattle.std.proofs.Common.{◌≡◌, ℕ, ◌+◌, ◌-◌, Bool, false, List, [], ◌∷◌, ◌++◌, Some, length, refl, sym, ap, ◌∙◌, subst, arith}
 use Rattle.std.specs.Prelude.{Contains, fold}
-use Rattle.pc_common.specs.World.{Node}
-use Rattle.pc_common.specs.Steps.{Leaf, Step, split, close}
-use Rattle.pc_ground.specs.Tree.{Tree, either, turned}
-use Rattle.pc_ground.specs.declared.version.Version.{Version}
+use Rattle.pc_common.specs.{World.{Node}, Steps.{Leaf, Step, split, close}}
+use Rattle.pc_ground.specs.{Tree.{Tree, either, turned}, declared.version.Version.{Version}}
 use Rattle.pc_ground.specs.Refutes.{Branch, signed, all_signed, subtree_at, asserted, literals_of, Closes, left_branch, right_branch, Runs, IsPartial}
 use Rattle.refutation.specs.Steps.{open_after, open_branches}
 

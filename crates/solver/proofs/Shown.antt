@@ -1,21 +1,14 @@
 -- The graph of a list of literals, node by node and edge by edge.
 use Rattle.std.proofs.Common.{◌≡◌, ◌≤◌, ◌<◌, ◌⊎◌, inl, inr, ℕ, ◌+◌, Bool, true, ◌&&◌, List, [], ◌∷◌, ◌++◌, Some, map, take, length, refl, sym, ap, ◌∙◌, subst, arith, eqb, eqb-true}
-use Rattle.std.specs.Prelude.{Contains, All, ◌↔◌, slice_get}
-use Rattle.std.specs.List.{list_any}
-use Rattle.std.proofs.lemmas.Bool.{cases_lt}
-use Rattle.std.proofs.lemmas.List.{take_more, take_all}
-use Rattle.std.proofs.lemmas.List.Elements.{All-contains, All-nil, All-cons}
-use Rattle.std.proofs.lemmas.Option.{slice_get_within, get_or_from_slice_get}
+use Rattle.std.proofs.lemmas.{Bool.{cases_lt}, List.{take_more, take_all, Elements.{All-contains, All-nil, All-cons}}}
+use Rattle.std.{proofs.lemmas.Option.{slice_get_within, get_or_from_slice_get}, specs.{Prelude.{Contains, All, ◌↔◌, slice_get}, List.{list_any}}}
 use Rattle.indexmap.specs.IndexSet.{insert_key}
 use Rattle.pc_common.specs.World.{Node, Edge}
 use Rattle.pc_common.proofs.Elements.{In, in_from_contains, contains_from_in, in_front, in_back, in_either, in_map, from_map, any_holds}
 use Rattle.pc_common.proofs.Bools.{true_or_false, and_first, and_second}
-use Rattle.pc_ground.specs.declared.literal.Literal.{Literal}
-use Rattle.pc_ground.specs.declared.literal.Literal.TheVariants.{Edge as an_edge}
-use Rattle.pc_ground.specs.Literals.{Joins, IsPresent}
+use Rattle.pc_ground.specs.{declared.literal.Literal.{Literal, TheVariants.{Edge as an_edge}}, Literals.{Joins, IsPresent}}
 use Rattle.order_graph.specs.Ways.{IsBelow}
-use Rattle.solver.specs.Renamed.{node_at}
-use Rattle.solver.specs.Shown.{ArePresent, AreEdges, IsPresentNoted, edge_over}
+use Rattle.solver.specs.{Renamed.{node_at}, Shown.{ArePresent, AreEdges, IsPresentNoted, edge_over}}
 
 pub all_by_in : {X : Type 0} (P : X → Type 0) (xs : List X) → ((x : X) → In x xs → P x) → All P xs
 all_by_in P [] f = All-nil P

@@ -1,24 +1,12 @@
 -- A consistent list of literals over numbers gives a graph over the nodes, whose world makes a tree true that the literals meet.
 use Rattle.std.proofs.Common.{◌≡◌, ◌<◌, inl, inr, ℕ, Bool, true, false, ◌&&◌, List, [], ◌∷◌, Some, map, length, refl, sym, ap, ◌∙◌, subst}
-use Rattle.std.specs.Prelude.{Contains, All, IsTrue, not}
-use Rattle.std.proofs.lemmas.List.Elements.{All-contains}
-use Rattle.std.proofs.lemmas.Option.{slice_get-get_or}
-use Rattle.std.proofs.lemmas.Bool.{or_left, or_right}
-use Rattle.pc_common.specs.World.{Node, Edge, World, IsWorld, has_node, has_edge, same_node}
-use Rattle.pc_common.specs.Chain.{Leads, Chain, Acyclic}
-use Rattle.pc_common.specs.Generated.{IsListed, HasEnds, IsGenerated}
-use Rattle.pc_common.proofs.Nodes.{has_node_is, has_edge_is}
-use Rattle.pc_common.proofs.GeneratedWorlds.{generates, node_tells}
-use Rattle.pc_ground.specs.declared.literal.Literal.{Literal}
-use Rattle.pc_ground.specs.declared.literal.Literal.TheVariants.{Node as a_node, Edge as an_edge, NoNode, NoEdge}
-use Rattle.pc_ground.specs.Numbers.{AreDistinct}
-use Rattle.pc_ground.specs.Tree.{Tree, always, never, leaf, both, either, tree_true}
-use Rattle.pc_ground.specs.Literals.{Joins, IsPresent, as_start, as_end, IsConsistent}
+use Rattle.std.{proofs.lemmas.{List.Elements.{All-contains}, Option.{slice_get-get_or}, Bool.{or_left, or_right}}, specs.Prelude.{Contains, All, IsTrue, not}}
+use Rattle.pc_common.specs.{World.{Node, Edge, World, IsWorld, has_node, has_edge, same_node}, Chain.{Leads, Chain, Acyclic}}
+use Rattle.pc_common.{specs.Generated.{IsListed, HasEnds, IsGenerated}, proofs.{Nodes.{has_node_is, has_edge_is}, GeneratedWorlds.{generates, node_tells}}}
+use Rattle.pc_ground.specs.{declared.literal.Literal.{Literal, TheVariants.{Node as a_node, Edge as an_edge, NoNode, NoEdge}}, Numbers.{AreDistinct}}
+use Rattle.pc_ground.specs.{Tree.{Tree, always, never, leaf, both, either, tree_true}, Literals.{Joins, IsPresent, as_start, as_end, IsConsistent}}
 use Rattle.order_graph.specs.Ways.{IsBelow}
-use Rattle.solver.specs.Renamed.{tree_over, node_at}
-use Rattle.solver.specs.Met.{IsMet}
-use Rattle.solver.specs.Shown.{ArePresent, AreEdges}
-use Rattle.solver.proofs.IsKnown.{number_named}
+use Rattle.solver.{specs.{Renamed.{tree_over, node_at}, Met.{IsMet}, Shown.{ArePresent, AreEdges}}, proofs.IsKnown.{number_named}}
 
 -- two numbers of one node are one
 pub one_number : (nodes : List Node) → AreDistinct nodes → (j k : ℕ) → j < length nodes → k < length nodes → node_at nodes j ≡ node_at nodes k → j ≡ k

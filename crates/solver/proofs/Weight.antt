@@ -1,20 +1,14 @@
 -- The weight of open branches falls with each split, and with each branch that is closed.
 use Rattle.std.proofs.Common.{◌≡◌, ◌≤◌, ◌<◌, inl, inr, ℕ, zero, suc, ◌+◌, ◌-◌, ◌*◌, ◌^◌, Bool, true, false, not, ◌&&◌, ◌||◌, ◌⊎◌, List, [], ◌∷◌, ◌++◌, Option, Some, map, refl, sym, ap, ◌∙◌, subst, arith, eq-eqb, eqb-true}
+use Rattle.std.proofs.{Math.Nat.{pow-le-pow_right, pow-suc, one-le-pow}, lemmas.{List.Sums.{sum_by-cons}, Bool.{ltb-false, or_left, or_right}}}
 use Rattle.std.specs.Prelude.{if◌then◌else◌, nat_lt, ◌==◌}
-use Rattle.std.proofs.Math.Nat.{pow-le-pow_right, pow-suc, one-le-pow}
-use Rattle.std.proofs.lemmas.List.Sums.{sum_by-cons}
-use Rattle.std.proofs.lemmas.Bool.{ltb-false, or_left, or_right}
 use Rattle.pc_common.proofs.Elements.{In, in_from_contains, contains_from_in, in_front, in_back, in_map, any_holds, holds_any}
 use Rattle.pc_common.proofs.Bools.{true_or_false, or_second}
-use Rattle.pc_ground.specs.Tree.{Tree, always, never, leaf, both, either, negation, turned, size_of}
-use Rattle.pc_ground.specs.declared.version.Version.{Version}
+use Rattle.pc_ground.specs.{Tree.{Tree, always, never, leaf, both, either, negation, turned, size_of}, declared.version.Version.{Version}}
 use Rattle.pc_ground.specs.declared.version.Version.TheVariants.{One, Two}
 use Rattle.pc_ground.specs.Refutes.{Branch, Signed, signed, all_signed, subtree_at, asserted, with_side, left_branch, right_branch}
-use Rattle.solver.specs.Places.{place_signed, HasSignsOf}
-use Rattle.solver.specs.Opens.{positions}
-use Rattle.solver.specs.declared.place.Place.{Place}
-use Rattle.solver.specs.Weights.{is_sign, under, is_on, pending_ors, pending_splits, weight}
-use Rattle.solver.proofs.IsGrown.{asserted_root}
+use Rattle.solver.specs.{Places.{place_signed, HasSignsOf}, Opens.{positions}, declared.place.Place.{Place}}
+use Rattle.solver.{specs.Weights.{is_sign, under, is_on, pending_ors, pending_splits, weight}, proofs.IsGrown.{asserted_root}}
 
 -- the second list has all that the first has
 abbrev pub IsWithin : List ℕ → List ℕ → Type 0

@@ -1,8 +1,6 @@
 -- Rows whose nodes are numbers below a bound.
 use Rattle.std.specs.Prelude.{ℕ}
-use Rattle.pc_ground.specs.declared.row.Row.{Row}
-use Rattle.pc_ground.specs.declared.row.RowKind.{RowKind}
-use Rattle.pc_ground.specs.declared.row.RowKind.TheVariants.{True, False, Lit, And, Or}
+use Rattle.pc_ground.specs.declared.row.{Row.{Row}, RowKind.{RowKind, TheVariants.{True, False, Lit, And, Or}}}
 use Rattle.order_graph.specs.Ways.{IsBelow}
 
 abbrev pub IsKindBelow : ℕ → RowKind ℕ → Type 0

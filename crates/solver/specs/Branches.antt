@@ -1,14 +1,9 @@
 -- The first open branch of a search, with those that wait after it, over the search's tree.
 use Rattle.std.specs.Prelude.{◌≡◌, List, [], ◌∷◌, ◌++◌, Option, Some, None, length, take, slice_index}
-use Rattle.pc_ground.specs.declared.version.Version.{Version}
-use Rattle.pc_ground.specs.Refutes.{Branch as Positions}
+use Rattle.pc_ground.specs.{declared.version.Version.{Version}, Refutes.{Branch as Positions}}
 use Rattle.order_graph.specs.State.{IsCut}
-use Rattle.solver.specs.Numbered.{Numbered}
-use Rattle.solver.specs.Spelled.{spelled}
-use Rattle.solver.specs.Opens.{positions, opens, KeepsState, state_of}
-use Rattle.solver.specs.declared.branch.Branch.{Branch}
-use Rattle.solver.specs.declared.later.Later.{Later}
-use Rattle.solver.specs.declared.side.Side.{Side}
+use Rattle.solver.specs.{Numbered.{Numbered}, Spelled.{spelled}, Opens.{positions, opens, KeepsState, state_of}, declared.branch.Branch.{Branch}}
+use Rattle.solver.specs.declared.{later.Later.{Later}, side.Side.{Side}}
 
 -- all open branches
 abbrev pub branches_of : Numbered → Branch → List Positions

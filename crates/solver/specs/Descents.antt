@@ -1,14 +1,8 @@
 -- What comes of entering a side, and of the branches that wait after it.
 use Rattle.std.specs.Prelude.{ℕ, ◌≡◌, ◌<◌, Bool, true, false, List, [], ◌∷◌, ◌++◌}
-use Rattle.pc_common.specs.World.{Node}
-use Rattle.pc_common.specs.Steps.{Step}
-use Rattle.pc_ground.specs.declared.version.Version.{Version}
-use Rattle.pc_ground.specs.Refutes.{IsPartial}
-use Rattle.solver.specs.Numbered.{Numbered}
-use Rattle.solver.specs.Spelled.{spelled}
-use Rattle.solver.specs.Renamed.{tree_over}
-use Rattle.solver.specs.Branches.{branches_with, HasOpenBranch}
-use Rattle.solver.specs.Weights.{weight}
+use Rattle.pc_common.specs.{World.{Node}, Steps.{Step}}
+use Rattle.pc_ground.specs.{declared.version.Version.{Version}, Refutes.{IsPartial}}
+use Rattle.solver.specs.{Numbered.{Numbered}, Spelled.{spelled}, Renamed.{tree_over}, Branches.{branches_with, HasOpenBranch}, Weights.{weight}}
 use Rattle.solver.specs.declared.branch.Branch.{Branch}
 
 -- a branch is open, and what is open weighs less than `most`; or all are closed

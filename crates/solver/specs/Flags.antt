@@ -1,10 +1,6 @@
 -- Lists of flags, one for each position.
 use Rattle.std.specs.Prelude.{ℕ, Bool, true, false, List, ◌≡◌, ◌+◌, ◌≤◌, ◌↔◌, Some, slice_index_or}
-use Rattle.pc_ground.specs.declared.literal.Literal.{Literal}
-use Rattle.pc_ground.specs.declared.row.Row.{Row}
-use Rattle.pc_ground.specs.Tree.{Tree, both, either, size_of}
-use Rattle.pc_ground.specs.Rows.{rows_of}
-use Rattle.pc_ground.specs.Refutes.{subtree_at}
+use Rattle.pc_ground.specs.{declared.{literal.Literal.{Literal}, row.Row.{Row}}, Tree.{Tree, both, either, size_of}, Rows.{rows_of}, Refutes.{subtree_at}}
 use Rattle.solver.specs.Met.{IsMet}
 
 -- false past the end

@@ -1,12 +1,8 @@
 -- Rows whose nodes have numbers.
 use Rattle.std.specs.Prelude.{ℕ, List}
 use Rattle.pc_common.specs.World.{Node}
-use Rattle.pc_ground.specs.declared.literal.Literal.{Literal}
-use Rattle.pc_ground.specs.declared.literal.Literal.TheVariants.{Node as a_node, Edge, NoNode, NoEdge}
-use Rattle.pc_ground.specs.declared.row.Row.{Row}
-use Rattle.pc_ground.specs.declared.row.RowKind.{RowKind}
-use Rattle.pc_ground.specs.declared.row.RowKind.TheVariants.{True, False, Lit, And, Or}
-use Rattle.pc_ground.specs.Numbers.{IsNumberOf}
+use Rattle.pc_ground.specs.declared.{literal.Literal.{Literal, TheVariants.{Node as a_node, Edge, NoNode, NoEdge}}, row.{Row.{Row}, RowKind.{RowKind}}}
+use Rattle.pc_ground.specs.{declared.row.RowKind.TheVariants.{True, False, Lit, And, Or}, Numbers.{IsNumberOf}}
 
 abbrev pub IsNumbered : List Node → Node → Type 0
 IsNumbered nodes a = (k : ℕ) × IsNumberOf nodes k a

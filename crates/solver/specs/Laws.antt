@@ -1,11 +1,7 @@
 -- The world that literals over nodes generate, and what holds of it where they are consistent.
-use Rattle.std.specs.Prelude.{List, [], ◌∷◌, Contains, IsTrue}
-use Rattle.std.specs.List.{flat_map}
-use Rattle.pc_common.specs.World.{Node, Edge, World, IsWorld}
-use Rattle.pc_common.specs.Generated.{IsGenerated}
-use Rattle.pc_ground.specs.declared.literal.Literal.{Literal}
-use Rattle.pc_ground.specs.declared.literal.Literal.TheVariants.{Node as a_node, Edge as an_edge, NoNode, NoEdge}
-use Rattle.pc_ground.specs.Tree.{literal_true}
+use Rattle.std.specs.{Prelude.{List, [], ◌∷◌, Contains, IsTrue}, List.{flat_map}}
+use Rattle.pc_common.specs.{World.{Node, Edge, World, IsWorld}, Generated.{IsGenerated}}
+use Rattle.pc_ground.specs.{declared.literal.Literal.{Literal, TheVariants.{Node as a_node, Edge as an_edge, NoNode, NoEdge}}, Tree.{literal_true}}
 use Rattle.pc_ground.specs.Literals.{IsConsistent}
 
 -- the nodes that a literal asserts

@@ -1,9 +1,7 @@
 -- The leaf of a refutation that a clash gives.
 use Rattle.std.specs.Prelude.{ℕ, ◌<◌, List, All}
-use Rattle.pc_common.specs.World.{Node}
-use Rattle.pc_common.specs.Steps.{Leaf, cycle, path, absent, false_step, Step, close}
-use Rattle.order_graph.specs.Clashes.{leaf_of}
-use Rattle.order_graph.specs.declared.clash.Clash.{Clash}
+use Rattle.pc_common.specs.{World.{Node}, Steps.{Leaf, cycle, path, absent, false_step, Step, close}}
+use Rattle.order_graph.specs.{Clashes.{leaf_of}, declared.clash.Clash.{Clash}}
 use Rattle.solver.specs.Renamed.{node_at, renamed_leaf}
 
 abbrev pub clash_step : List Node → Clash → Step Node

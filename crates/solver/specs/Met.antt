@@ -2,9 +2,7 @@
 -- their edges.
 use Rattle.std.specs.Prelude.{List, ◌⊎◌, Bool, true, false}
 use Rattle.pc_common.specs.Chain.{Chain}
-use Rattle.pc_ground.specs.declared.literal.Literal.{Literal}
-use Rattle.pc_ground.specs.Tree.{Tree, always, never, leaf, both, either}
-use Rattle.pc_ground.specs.Literals.{Joins, IsPresent, Holds}
+use Rattle.pc_ground.specs.{declared.literal.Literal.{Literal}, Tree.{Tree, always, never, leaf, both, either}, Literals.{Joins, IsPresent, Holds}}
 
 abbrev pub IsMet : {N : Type 0} → List (Literal N) → Tree N → Type 0
 IsMet ls always = Unit {0}

@@ -1,14 +1,8 @@
 -- A tree over the numbers of its nodes.
 use Rattle.std.specs.Prelude.{ℕ, ◌≡◌, ◌≤◌, List, Some, All, length}
-use Rattle.pc_common.specs.World.{Node}
-use Rattle.pc_common.specs.declared.limits.TheConstants.{MAX_NODES}
-use Rattle.pc_ground.specs.declared.row.Row.{Row}
-use Rattle.pc_ground.specs.Tree.{never}
-use Rattle.pc_ground.specs.Folded.{IsFolded}
-use Rattle.pc_ground.specs.Numbers.{AreDistinct}
-use Rattle.pc_ground.specs.Refutes.{subtree_at}
-use Rattle.solver.specs.Spelled.{spelled, IsSpelled}
-use Rattle.solver.specs.Below.{IsRowBelow}
+use Rattle.pc_common.specs.{World.{Node}, declared.limits.TheConstants.{MAX_NODES}}
+use Rattle.pc_ground.specs.{declared.row.Row.{Row}, Tree.{never}, Folded.{IsFolded}, Numbers.{AreDistinct}, Refutes.{subtree_at}}
+use Rattle.solver.specs.{Spelled.{spelled, IsSpelled}, Below.{IsRowBelow}}
 
 pub record Numbered : Type 0 where
   -- the nodes by their numbers

@@ -1,21 +1,9 @@
 -- The branches that a search has open, and what the search keeps of them.
 use Rattle.std.specs.Prelude.{ℕ, ◌≡◌, ◌<◌, ◌≤◌, ◌+◌, List, [], ◌∷◌, ◌++◌, Option, Some, None, length, map, take, reverse, slice_index}
-use Rattle.pc_common.specs.World.{Node}
-use Rattle.pc_common.specs.Steps.{Step}
-use Rattle.pc_ground.specs.declared.row.Row.{Row}
-use Rattle.pc_ground.specs.Tree.{Tree}
-use Rattle.pc_ground.specs.Rows.{literals_of_kind}
-use Rattle.pc_ground.specs.declared.version.Version.{Version}
-use Rattle.pc_ground.specs.Refutes.{Branch, literals_of, IsPartial}
-use Rattle.order_graph.specs.State.{Graph}
-use Rattle.order_graph.specs.Clashes.{IsClash}
-use Rattle.order_graph.specs.declared.clash.Clash.{Clash}
-use Rattle.order_graph.specs.declared.clash.Added.{Added}
-use Rattle.order_graph.specs.declared.clash.Added.TheVariants.{Kept as was_kept, Clash as clashed}
-use Rattle.solver.specs.Renamed.{tree_over}
-use Rattle.solver.specs.Places.{place_signed, side_positions, IsSideIn}
-use Rattle.solver.specs.declared.place.Place.{Place}
-use Rattle.solver.specs.declared.later.Later.{Later}
+use Rattle.pc_common.specs.{World.{Node}, Steps.{Step}}
+use Rattle.pc_ground.specs.{declared.{row.Row.{Row}, version.Version.{Version}}, Tree.{Tree}, Rows.{literals_of_kind}, Refutes.{Branch, literals_of, IsPartial}}
+use Rattle.order_graph.specs.{State.{Graph}, Clashes.{IsClash}, declared.clash.{Clash.{Clash}, Added.{Added, TheVariants.{Kept as was_kept, Clash as clashed}}}}
+use Rattle.solver.specs.{Renamed.{tree_over}, Places.{place_signed, side_positions, IsSideIn}, declared.{place.Place.{Place}, later.Later.{Later}}}
 
 abbrev pub positions : List Place → Branch
 positions xs = map place_signed xs

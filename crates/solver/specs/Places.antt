@@ -1,12 +1,8 @@
 -- Positions of a tree on a branch, each under the sign `~` or not.
 use Rattle.std.specs.Prelude.{ℕ, ◌≡◌, ◌+◌, ◌<◌, ◌⊎◌, Bool, false, not, List, [], ◌∷◌, ◌++◌, Option, Some, None, Contains, All}
-use Rattle.pc_ground.specs.Tree.{Tree, either, turned, size_of}
-use Rattle.pc_ground.specs.declared.version.Version.{Version}
-use Rattle.pc_ground.specs.declared.version.Version.TheVariants.{One, Two}
+use Rattle.pc_ground.specs.{Tree.{Tree, either, turned, size_of}, declared.version.Version.{Version, TheVariants.{One, Two}}}
 use Rattle.pc_ground.specs.Refutes.{Branch, Signed, signed, all_signed, subtree_at, part_at, asserted, literals_of}
-use Rattle.solver.specs.Met.{IsMetUnder}
-use Rattle.solver.specs.declared.place.Place.{Place}
-use Rattle.solver.specs.declared.side.Side.{Side}
+use Rattle.solver.specs.{Met.{IsMetUnder}, declared.{place.Place.{Place}, side.Side.{Side}}}
 
 abbrev pub place_signed : Place → Signed
 place_signed a = signed a.negated a.position

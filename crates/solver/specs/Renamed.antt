@@ -1,11 +1,7 @@
 -- A tree over the numbers of nodes, read as one over the nodes.
-use Rattle.std.specs.Prelude.{ℕ, List, map, slice_get}
-use Rattle.std.specs.Option.{unwrap_or}
-use Rattle.pc_common.specs.World.{Node}
-use Rattle.pc_common.specs.Steps.{Leaf, cycle, path, absent, false_step}
-use Rattle.pc_ground.specs.declared.row.Row.{Row}
-use Rattle.pc_ground.specs.Tree.{Tree, always, never, leaf, both, either}
-use Rattle.pc_ground.specs.Keys.{renamed, renamed_row}
+use Rattle.std.specs.{Prelude.{ℕ, List, map, slice_get}, Option.{unwrap_or}}
+use Rattle.pc_common.specs.{World.{Node}, Steps.{Leaf, cycle, path, absent, false_step}}
+use Rattle.pc_ground.specs.{declared.row.Row.{Row}, Tree.{Tree, always, never, leaf, both, either}, Keys.{renamed, renamed_row}}
 
 -- the node of a number; past the list, which no number of a tree is, any node
 unfoldable pub node_at : List Node → ℕ → Node

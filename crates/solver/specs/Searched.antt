@@ -1,21 +1,11 @@
 -- What a search is seen as, and what it keeps.
 use Rattle.std.specs.Prelude.{ℕ, ◌≡◌, ◌<◌, ◌^◌, List, [], ◌∷◌, Some, Contains, length}
-use Rattle.pc_common.specs.World.{Node}
-use Rattle.pc_common.specs.Steps.{Step}
-use Rattle.pc_ground.specs.declared.row.Row.{Row}
-use Rattle.pc_ground.specs.Tree.{Tree}
-use Rattle.pc_ground.specs.declared.version.Version.{Version}
+use Rattle.pc_common.specs.{World.{Node}, Steps.{Step}}
+use Rattle.pc_ground.specs.{declared.{row.Row.{Row}, version.Version.{Version}}, Tree.{Tree}}
 use Rattle.pc_ground.specs.Refutes.{Signed, Branch as Positions, subtree_at, literals_of, IsPartial}
 use Rattle.order_graph.specs.State.{Graph}
-use Rattle.solver.specs.Spelled.{spelled}
-use Rattle.solver.specs.Numbered.{Numbered, HasNoFalse}
-use Rattle.solver.specs.Renamed.{tree_over}
-use Rattle.solver.specs.Met.{IsMetUnder}
-use Rattle.solver.specs.Places.{place_signed, IsCandidate}
-use Rattle.solver.specs.Opens.{positions}
-use Rattle.solver.specs.Branches.{HasOpenBranch}
-use Rattle.solver.specs.declared.place.Place.{Place}
-use Rattle.solver.specs.declared.branch.Branch.{Branch}
+use Rattle.solver.specs.{Spelled.{spelled}, Numbered.{Numbered, HasNoFalse}, Renamed.{tree_over}, Met.{IsMetUnder}, Places.{place_signed, IsCandidate}}
+use Rattle.solver.specs.{Opens.{positions}, Branches.{HasOpenBranch}, declared.{place.Place.{Place}, branch.Branch.{Branch}}}
 
 pub record Searched : Type 0 where
   -- how its steps are read

@@ -1,8 +1,7 @@
 -- The graph that a list of literals over numbers shows.
 use Rattle.std.specs.Prelude.{ℕ, ◌≡◌, ◌↔◌, ◌<◌, ◌⊎◌, List, [], ◌∷◌, ◌++◌, Contains}
 use Rattle.pc_common.specs.World.{Node, Edge}
-use Rattle.pc_ground.specs.declared.literal.Literal.{Literal}
-use Rattle.pc_ground.specs.Literals.{Joins, IsPresent}
+use Rattle.pc_ground.specs.{declared.literal.Literal.{Literal}, Literals.{Joins, IsPresent}}
 use Rattle.solver.specs.Renamed.{node_at}
 
 -- the nodes are those of the present numbers below n

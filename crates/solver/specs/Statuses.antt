@@ -1,17 +1,8 @@
 -- What a search finds on its open branches.
 use Rattle.std.specs.Prelude.{ℕ, ◌+◌, []}
-use Rattle.pc_ground.specs.declared.version.Version.{Version}
-use Rattle.pc_ground.specs.Refutes.{IsPartial}
-use Rattle.solver.specs.Numbered.{Numbered}
-use Rattle.solver.specs.Spelled.{spelled}
-use Rattle.solver.specs.Renamed.{tree_over}
-use Rattle.solver.specs.Branches.{branches_of}
-use Rattle.solver.specs.Searched.{HasCandidate}
-use Rattle.solver.specs.Answers.{IsWitness}
-use Rattle.solver.specs.Weights.{weight}
-use Rattle.solver.specs.declared.branch.Branch.{Branch}
-use Rattle.solver.specs.declared.find.SearchStatus.{SearchStatus}
-use Rattle.solver.specs.declared.find.SearchStatus.TheVariants.{Refuted, Satisfied, Undecided}
+use Rattle.pc_ground.specs.{declared.version.Version.{Version}, Refutes.{IsPartial}}
+use Rattle.solver.specs.{Numbered.{Numbered}, Spelled.{spelled}, Renamed.{tree_over}, Branches.{branches_of}, Searched.{HasCandidate}, Answers.{IsWitness}}
+use Rattle.solver.specs.{Weights.{weight}, declared.{branch.Branch.{Branch}, find.SearchStatus.{SearchStatus, TheVariants.{Refuted, Satisfied, Undecided}}}}
 
 abbrev pub IsStatus : Version → Numbered → Branch → SearchStatus → Type 0
 IsStatus v t b Refuted = IsPartial v (tree_over t.nodes (spelled t.rows)) b.refutation []

@@ -1,17 +1,9 @@
 -- What a turn of a search hands out.
 use Rattle.std.specs.Prelude.{ℕ, ◌≡◌, ◌+◌, List}
-use Rattle.pc_common.specs.World.{Node}
-use Rattle.pc_common.specs.Steps.{Step}
-use Rattle.pc_ground.specs.declared.row.Row.{Row}
-use Rattle.pc_ground.specs.Tree.{Tree}
-use Rattle.pc_ground.specs.declared.version.Version.{Version}
-use Rattle.solver.specs.Searched.{number_tree, searched_tree, HasUnmetBranch}
-use Rattle.solver.specs.Answers.{IsAnswer}
-use Rattle.solver.specs.Weights.{weight}
-use Rattle.solver.specs.Renamed.{tree_over}
-use Rattle.solver.specs.Spelled.{spelled}
-use Rattle.solver.specs.declared.search.Turn.{Turn}
-use Rattle.solver.specs.declared.search.Turn.TheVariants.{More, Done}
+use Rattle.pc_common.specs.{World.{Node}, Steps.{Step}}
+use Rattle.pc_ground.specs.{declared.{row.Row.{Row}, version.Version.{Version}}, Tree.{Tree}}
+use Rattle.solver.specs.{Searched.{number_tree, searched_tree, HasUnmetBranch}, Answers.{IsAnswer}, Weights.{weight}, Renamed.{tree_over}, Spelled.{spelled}}
+use Rattle.solver.specs.declared.search.Turn.{Turn, TheVariants.{More, Done}}
 
 -- how far a turn is from the end of the search
 abbrev pub turn_weight : Turn → ℕ

@@ -1,8 +1,6 @@
 -- How far a search is from its end.
-use Rattle.std.specs.Prelude.{ℕ, ◌+◌, ◌^◌, Bool, true, false, not, ◌||◌, ◌==◌, List, [], ◌∷◌, sum_by, if◌then◌else◌}
-use Rattle.std.specs.List.{list_any}
-use Rattle.pc_ground.specs.Tree.{Tree, always, never, leaf, both, either, turned, size_of}
-use Rattle.pc_ground.specs.Refutes.{Branch}
+use Rattle.std.specs.{Prelude.{ℕ, ◌+◌, ◌^◌, Bool, true, false, not, ◌||◌, ◌==◌, List, [], ◌∷◌, sum_by, if◌then◌else◌}, List.{list_any}}
+use Rattle.pc_ground.specs.{Tree.{Tree, always, never, leaf, both, either, turned, size_of}, Refutes.{Branch}}
 
 -- the sign is this one
 abbrev pub is_sign : Bool → Bool → Bool

@@ -37,7 +37,7 @@ fn is_candidate(rows: &[Row<u32>], negated: bool, truths: &[bool], on: &[bool], 
         → MatchBool result (IsCandidate (spelled rows.now) ps (signed negated p))
         (IsChosen (spelled rows.now) ps (signed negated p)) }
 {
-    match row_at(rows, p).turned(negated).kind {
+    match row_at(rows, p).negate_if(negated).kind {
         RowKind::Or => {
             let (left, right) = child_flags(rows, on, p);
             let here = on[p];

@@ -64,7 +64,7 @@ fn part_clashes<L: Ledger>(
         if at < next {
             continue;
         }
-        let row = row_at(rows, at).turned(negated);
+        let row = row_at(rows, at).negate_if(negated);
         if row_clashes(row, graph, steps)? {
             return Ok(true);
         }

@@ -11,7 +11,7 @@ use pc_ground::{Literal, Row, RowKind};
 
 /// Whether the part at `root` asserts no literal under this sign, since it is an Or.
 fn asserts_none(rows: &[Row<u32>], negated: bool, root: usize) -> bool {
-    root < rows.len() && matches!(row_at(rows, root).turned(negated).kind, RowKind::Or)
+    root < rows.len() && matches!(row_at(rows, root).negate_if(negated).kind, RowKind::Or)
 }
 
 /// Whether an edge from `c` to `d` would give a chain from `a` to `b`, which is denied.

@@ -77,7 +77,7 @@ fn enter_part<L: Ledger>(
     let end = root + tree.row(root).skip;
     let mut at = root;
     while at < end {
-        let row = tree.row(at).turned(negated);
+        let row = tree.row(at).negate_if(negated);
         let place = Place {
             negated,
             position: at,

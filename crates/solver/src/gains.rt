@@ -268,7 +268,7 @@ impl Gains {
         requires { b < graph.now.nodes }
     {
         self.reached.clear();
-        self.reached.put_words(graph.reached(b));
+        self.reached.put_words(graph.descendants(b));
         self.reached.put(b as usize, true);
     }
 
@@ -282,7 +282,7 @@ impl Gains {
             return;
         }
         self.some.put(from as usize, true);
-        self.closing.put_words(graph.reached(from));
+        self.closing.put_words(graph.descendants(from));
         self.closing.put(from as usize, true);
     }
 
@@ -327,7 +327,7 @@ impl Gains {
         self.joined.clear();
         self.joined.put_all(&self.some);
         for x in 0..nodes {
-            if self.some.meets(graph.reached(x)) {
+            if self.some.meets(graph.descendants(x)) {
                 self.joined.put(x as usize, true);
             }
         }
@@ -427,7 +427,7 @@ impl Gains {
             if let Some(literal) = literal_at(rows, negated, at) {
                 self.note_implied(graph, literal);
             }
-            next = at.saturating_add(row_at(rows, at).turned(negated).stride());
+            next = at.saturating_add(row_at(rows, at).negate_if(negated).stride());
         }
     }
 

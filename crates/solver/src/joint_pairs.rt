@@ -115,7 +115,7 @@ impl JointPairs {
             if at < next {
                 continue;
             }
-            let row = row_at(rows, at).turned(negated);
+            let row = row_at(rows, at).negate_if(negated);
             if let RowKind::Lit(literal) = row.kind {
                 self.is_refused |= self.side.push(literal).is_err();
             }

@@ -17,7 +17,7 @@ pub(crate) fn literal_at(rows: &[Row<u32>], negated: bool, p: usize) -> Option<L
     if p >= rows.len() {
         return None;
     }
-    match row_at(rows, p).turned(negated).kind {
+    match row_at(rows, p).negate_if(negated).kind {
         RowKind::Lit(literal) => Some(literal),
         _ => None,
     }
@@ -32,7 +32,7 @@ pub(crate) fn is_or(tree: &NumberedTree, place: Place) -> bool
     if place.position >= tree.len() {
         return false;
     }
-    match tree.row(place.position).turned(place.negated).kind {
+    match tree.row(place.position).negate_if(place.negated).kind {
         RowKind::Or => true,
         _ => false,
     }

@@ -81,7 +81,7 @@ fn shape_of(step: &Step) -> Shape {
     }
 }
 
-fn are(steps: &Refutation, shapes: &[Shape]) -> bool {
+fn have_shapes(steps: &Refutation, shapes: &[Shape]) -> bool {
     for k in 0..steps.len() {
         if shapes.get(k).copied() != Some(shape_of(steps.step(k))) {
             return false;
@@ -91,7 +91,7 @@ fn are(steps: &Refutation, shapes: &[Shape]) -> bool {
 }
 
 /// What the search finds of a front.
-fn solved<L: Ledger>(
+fn run_search<L: Ledger>(
     alloc: Global,
     front: &Front,
     version: Version,
@@ -118,8 +118,8 @@ fn is_solved_so(
     let Ok(front) = front(alloc, model.as_bytes(), test.as_bytes()) else {
         return Ok(false);
     };
-    match solved::<Brand>(alloc, &front, version, Blank::new(1))? {
-        Answer::Unobservable(steps) => Ok(are(&steps, shapes)),
+    match run_search::<Brand>(alloc, &front, version, Blank::new(1))? {
+        Answer::Unobservable(steps) => Ok(have_shapes(&steps, shapes)),
         Answer::Observable(_) => Ok(false),
     }
 }
@@ -156,7 +156,7 @@ fn splits(steps: &Refutation) -> usize {
 
 /// How many splits the search makes that refutes the front; none where it finds a world.
 fn splits_of(alloc: Global, front: &Front, version: Version) -> Result<Option<usize>, Memory> {
-    match solved::<Brand>(alloc, front, version, Blank::new(1))? {
+    match run_search::<Brand>(alloc, front, version, Blank::new(1))? {
         Answer::Unobservable(steps) => Ok(Some(splits(&steps))),
         Answer::Observable(_) => Ok(None),
     }

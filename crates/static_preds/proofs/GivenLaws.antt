@@ -1,18 +1,10 @@
 -- What stands at a place of the arguments that fit a predicate.
-use Rattle.std.proofs.Common.{◌≡◌, ℕ, zero, suc, ◌<◌, List, [], ◌∷◌, Some, get_or, slice_get, refl, ap, subst, ◌∙◌}
+use Rattle.std.proofs.{Common.{◌≡◌, ℕ, zero, suc, ◌<◌, List, [], ◌∷◌, Some, get_or, slice_get, refl, ap, subst, ◌∙◌}, lemmas.Option.{slice_get-map}}
 use Rattle.std.specs.Option.{option_map, option_and_then}
-use Rattle.std.proofs.lemmas.Option.{slice_get-map}
-use Rattle.pc_syntax.specs.declared.term.Sort.{Sort}
-use Rattle.pc_syntax.specs.declared.term.Sort.TheVariants.{Microop}
-use Rattle.pc_syntax.specs.declared.bound.Bound.{Bound}
-use Rattle.pc_syntax.specs.declared.pred.Takes.{Takes}
-use Rattle.pc_syntax.specs.declared.pred.Takes.TheVariants.{Op as takes_op}
-use Rattle.pc_syntax.specs.declared.closed_term.ClosedArg.{ClosedArg}
-use Rattle.pc_syntax.specs.declared.closed_term.ClosedArg.TheVariants.{Slot}
-use Rattle.pc_syntax.specs.Arguments.{Argument, op_at, core_at, plain_name, place_argument, place_in}
-use Rattle.pc_syntax.specs.IsClosed.{IsBound, FitsArg, FitArgs}
-use Rattle.pc_syntax.specs.Truth.{Meaning, an_op, a_core, op_of}
-use Rattle.pc_syntax.specs.Closed.{argument_at, value_at}
+use Rattle.pc_syntax.specs.declared.{term.Sort.{Sort, TheVariants.{Microop}}, bound.Bound.{Bound}, pred.Takes.{Takes, TheVariants.{Op as takes_op}}}
+use Rattle.pc_syntax.specs.declared.closed_term.ClosedArg.{ClosedArg, TheVariants.{Slot}}
+use Rattle.pc_syntax.specs.{Arguments.{Argument, op_at, core_at, plain_name, place_argument, place_in}, IsClosed.{IsBound, FitsArg, FitArgs}}
+use Rattle.pc_syntax.specs.{Truth.{Meaning, an_op, a_core, op_of}, Closed.{argument_at, value_at}}
 use Rattle.static_preds.specs.Values.{meanings, value_of, values_of, AreOpsBelow}
 
 -- there is one where one is taken, of the kind that is taken

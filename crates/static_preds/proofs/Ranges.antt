@@ -1,20 +1,12 @@
 -- The values that a quantifier ranges over, one by one, and the slots inside it at each.
 use Rattle.std.proofs.Common.{◌≡◌, ℕ, zero, suc, ◌+◌, ◌<◌, ◌≤◌, List, [], ◌∷◌, ◌++◌, Some, length, map, drop, slice_get, refl, ap, ◌∙◌, arith}
-use Rattle.std.specs.List.{range_with_len}
-use Rattle.std.proofs.lemmas.List.{map-append}
-use Rattle.std.proofs.lemmas.List.FromFn.{length-map-range_with_len}
+use Rattle.std.{proofs.lemmas.List.{map-append, FromFn.{length-map-range_with_len}}, specs.List.{range_with_len}}
 use Rattle.pc_common.specs.Case.{MicroOp, Case, cores_of}
 use Rattle.pc_case.specs.MicroOps.{AreMicroOps}
-use Rattle.pc_syntax.specs.declared.term.Sort.{Sort}
-use Rattle.pc_syntax.specs.declared.term.Sort.TheVariants.{Microop, Core}
-use Rattle.pc_syntax.specs.Truth.{an_op, a_core, range_of}
-use Rattle.pc_syntax.specs.Closed.{meaning_of}
+use Rattle.pc_syntax.specs.{declared.{term.Sort.{Sort, TheVariants.{Microop, Core}}, bound.Bound.{Bound}}, Truth.{an_op, a_core, range_of}, Closed.{meaning_of}}
 use Rattle.pc_syntax.specs.IsClosed.{with_sort}
-use Rattle.pc_syntax.specs.declared.bound.Bound.{Bound}
 use Rattle.pc_ground.proofs.TreeNodes.{cores_few}
-use Rattle.static_preds.specs.Values.{meanings, sort_bound, scope_of}
-use Rattle.static_preds.specs.Slots.{bound_at}
-use Rattle.static_preds.proofs.Walked.{drop_at}
+use Rattle.static_preds.{specs.{Values.{meanings, sort_bound, scope_of}, Slots.{bound_at}}, proofs.Walked.{drop_at}}
 
 pub op_count : (c : Case) → length (range_of c Microop) ≡ length c.ops
 op_count c = length-map-range_with_len an_op 0 (length c.ops)

@@ -1,9 +1,7 @@
 -- Slots that stand for micro-ops of the case and for cores below 64, and one slot more.
 use Rattle.std.proofs.Common.{◌≡◌, ℕ, ◌<◌, List, [], ◌∷◌, ◌++◌, inl, inr, length, arith}
-use Rattle.pc_common.specs.Case.{Case}
-use Rattle.pc_common.proofs.Places.{last_or}
-use Rattle.pc_syntax.specs.declared.bound.Bound.{Bound}
-use Rattle.pc_syntax.specs.declared.bound.Bound.TheVariants.{Op, Core}
+use Rattle.pc_common.{specs.Case.{Case}, proofs.Places.{last_or}}
+use Rattle.pc_syntax.specs.declared.bound.Bound.{Bound, TheVariants.{Op, Core}}
 use Rattle.static_preds.specs.Slots.{AreInRange, IsInRange}
 
 pub no_slots : (c : Case) → AreInRange c []

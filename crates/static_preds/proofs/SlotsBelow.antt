@@ -1,15 +1,9 @@
 -- For a caller that keeps one fact on its slots: where the micro-ops of all slots are below n, so are
 -- those among any arguments.
-use Rattle.std.proofs.Common.{◌≡◌, ℕ, ◌<◌, List, [], ◌∷◌, Option, Some, None, refl}
-use Rattle.std.specs.Prelude.{slice_get, unwrap_or}
+use Rattle.std.{proofs.{Common.{◌≡◌, ℕ, ◌<◌, List, [], ◌∷◌, Option, Some, None, refl}, lemmas.Option.{slice_get-map}}, specs.Prelude.{slice_get, unwrap_or}}
 use Rattle.std.specs.Option.{option_map}
-use Rattle.std.proofs.lemmas.Option.{slice_get-map}
-use Rattle.pc_syntax.specs.declared.bound.Bound.{Bound}
-use Rattle.pc_syntax.specs.declared.bound.Bound.TheVariants.{Op, Core}
-use Rattle.pc_syntax.specs.declared.closed_term.ClosedArg.{ClosedArg}
-use Rattle.pc_syntax.specs.declared.closed_term.ClosedArg.TheVariants.{Slot, Core as core_arg, Plain}
-use Rattle.pc_syntax.specs.Arguments.{Argument}
-use Rattle.pc_syntax.specs.Truth.{a_core}
+use Rattle.pc_syntax.specs.declared.{bound.Bound.{Bound, TheVariants.{Op, Core}}, closed_term.ClosedArg.{ClosedArg}}
+use Rattle.pc_syntax.specs.{declared.closed_term.ClosedArg.TheVariants.{Slot, Core as core_arg, Plain}, Arguments.{Argument}, Truth.{a_core}}
 use Rattle.pc_syntax.specs.Closed.{meaning_of, argument_at}
 use Rattle.static_preds.specs.Values.{values_of, AreOpsBelow}
 

@@ -1,9 +1,7 @@
 -- The node of a term, from its micro-op and its core.
 use Rattle.std.proofs.Common.{◌≡◌, ℕ, List, Option, Some, slice_get, ap, ◌∙◌}
 use Rattle.pc_common.specs.Case.{Case, MicroOp}
-use Rattle.pc_syntax.specs.declared.closed_term.ClosedArg.{ClosedArg}
-use Rattle.pc_syntax.specs.declared.closed_term.ClosedNode.{ClosedNode}
-use Rattle.pc_syntax.specs.Truth.{Meaning, op_of, node_at}
+use Rattle.pc_syntax.specs.{declared.closed_term.{ClosedArg.{ClosedArg}, ClosedNode.{ClosedNode}}, Truth.{Meaning, op_of, node_at}}
 use Rattle.pc_syntax.specs.Closed.{value_at, closed_core, core_at_op, closed_node}
 
 core_named : (c : Case) (slots : List Meaning) (core : Option ClosedArg) (i k : ℕ) (o : MicroOp)

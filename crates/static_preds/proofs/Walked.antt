@@ -2,10 +2,7 @@
 use Rattle.std.proofs.Common.{◌≡◌, ℕ, zero, suc, ◌+◌, List, [], ◌∷◌, ◌++◌, Some, map, take, drop, slice_get, ap, ◌∙◌, subst, append_assoc, arith, add-one}
 use Rattle.std.proofs.lemmas.List.{map-append}
 use Rattle.pc_common.proofs.Places.{take-next}
-use Rattle.pc_syntax.specs.declared.term.Sort.{Sort}
-use Rattle.pc_syntax.specs.declared.closed_term.ClosedArg.{ClosedArg}
-use Rattle.pc_syntax.specs.declared.closed_term.ClosedNode.{ClosedNode}
-use Rattle.pc_syntax.specs.declared.closed_term.ClosedEdge.{ClosedEdge}
+use Rattle.pc_syntax.specs.declared.{term.Sort.{Sort}, closed_term.{ClosedArg.{ClosedArg}, ClosedNode.{ClosedNode}, ClosedEdge.{ClosedEdge}}}
 use Rattle.pc_syntax.specs.IsClosed.{FitsNode, FitNodes, FitEdges, HasValue, HaveValues}
 
 drop-next : {A : Type 0} (xs : List A) (k : ℕ) (x : A) → slice_get xs k ≡ Some x → drop k xs ≡ x ∷ drop (suc k) xs

@@ -1,9 +1,7 @@
 -- What is kept of the arguments that are given to a predicate.
 use Rattle.std.specs.Prelude.{length}
-use Rattle.pc_syntax.specs.IsClosed.{FitArgs}
-use Rattle.pc_syntax.specs.Predicates.{takes_of}
-use Rattle.static_preds.specs.declared.given.Given.{Given}
-use Rattle.static_preds.specs.Values.{values_of, scope_of, AreOpsBelow}
+use Rattle.pc_syntax.specs.{IsClosed.{FitArgs}, Predicates.{takes_of}}
+use Rattle.static_preds.specs.{declared.given.Given.{Given}, Values.{values_of, scope_of, AreOpsBelow}}
 
 -- they fit the predicate, and the micro-ops among them are the case's
 pub record IsGiven (g : Given) : Type 0 where

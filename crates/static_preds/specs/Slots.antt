@@ -1,10 +1,7 @@
 -- The slots of an environment stand for micro-ops of the case and for cores from 0 to 63.
 use Rattle.std.specs.Prelude.{◌≡◌, ℕ, ◌<◌, List, Some, length, slice_get}
 use Rattle.pc_common.specs.Case.{Case}
-use Rattle.pc_syntax.specs.declared.term.Sort.{Sort}
-use Rattle.pc_syntax.specs.declared.term.Sort.TheVariants.{Microop, Core as core_sort}
-use Rattle.pc_syntax.specs.declared.bound.Bound.{Bound}
-use Rattle.pc_syntax.specs.declared.bound.Bound.TheVariants.{Op, Core}
+use Rattle.pc_syntax.specs.declared.{term.Sort.{Sort, TheVariants.{Microop, Core as core_sort}}, bound.Bound.{Bound, TheVariants.{Op, Core}}}
 
 pub record AreInRange (c : Case) (slots : List Bound) : Type 0 where
   pub ops : (k i : ℕ) → slice_get slots k ≡ Some (Op i) → i < length c.ops

@@ -1,15 +1,9 @@
 -- What slots and the arguments of a predicate stand for, where the slots stand for these micro-ops and cores.
 use Rattle.std.specs.Prelude.{ℕ, ◌<◌, List, [], ◌∷◌, map}
 use Rattle.pc_common.specs.Case.{Touch}
-use Rattle.pc_case.specs.declared.op.Memop.{Memop}
-use Rattle.pc_case.specs.Plain.{touch_at}
-use Rattle.pc_syntax.specs.declared.term.Sort.{Sort}
-use Rattle.pc_syntax.specs.declared.term.Sort.TheVariants.{Microop, Core as core_sort}
-use Rattle.pc_syntax.specs.declared.bound.Bound.{Bound}
-use Rattle.pc_syntax.specs.declared.bound.Bound.TheVariants.{Op, Core}
-use Rattle.pc_syntax.specs.declared.closed_term.ClosedArg.{ClosedArg}
-use Rattle.pc_syntax.specs.Arguments.{Argument, op_at, core_at, plain_name}
-use Rattle.pc_syntax.specs.Truth.{Meaning}
+use Rattle.pc_case.specs.{declared.op.Memop.{Memop}, Plain.{touch_at}}
+use Rattle.pc_syntax.specs.declared.{term.Sort.{Sort, TheVariants.{Microop, Core as core_sort}}, bound.Bound.{Bound, TheVariants.{Op, Core}}}
+use Rattle.pc_syntax.specs.{declared.closed_term.ClosedArg.{ClosedArg}, Arguments.{Argument, op_at, core_at, plain_name}, Truth.{Meaning}}
 use Rattle.pc_syntax.specs.Closed.{meaning_of, closed_argument}
 
 -- the values of the slots, as the truth of a closed formula takes them

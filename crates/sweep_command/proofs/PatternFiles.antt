@@ -1,28 +1,16 @@
 -- What the files of a model and a pattern say, and how the reading of them ends.
-use Rattle.std.proofs.Common.{◌≡◌, ◌≢◌, ℕ, List, ◌⊎◌, inl, inr, Some, None, refl, sym, ◌∙◌, ap, subst}
-use Rattle.std.specs.Prelude.{IsTrue}
-use Rattle.pc_common.specs.Outside.{FilesView}
-use Rattle.pc_common.specs.Reads.{Reads}
-use Rattle.pc_common.specs.Case.{Case}
-use Rattle.pc_common.specs.declared.fault.FaultKind.TheVariants.{Lexical, Syntax}
-use Rattle.pc_common.specs.declared.fault.InputFault.{InputFault}
+use Rattle.std.{proofs.Common.{◌≡◌, ◌≢◌, ℕ, List, ◌⊎◌, inl, inr, Some, None, refl, sym, ◌∙◌, ap, subst}, specs.Prelude.{IsTrue}}
+use Rattle.pc_common.specs.{Outside.{FilesView}, Reads.{Reads}, Case.{Case}, declared.fault.{FaultKind.TheVariants.{Lexical, Syntax}, InputFault.{InputFault}}}
 use Rattle.pc_common.specs.declared.fault.Which.TheVariants.{Test}
 use Rattle.pc_syntax.specs.Written.{WrittenModel}
 use Rattle.litmus_reader.specs.declared.fault.CaseFault.{CaseFault}
 use Rattle.litmus_reader.specs.declared.fault.CaseFault.TheVariants.{Lexical as a_lexical_fault, Syntax as a_syntax_fault, Content as a_fault_of_content, Memory as no_room}
-use Rattle.pc_front.specs.ModelFront.{IsModelEnd}
-use Rattle.pc_front.specs.Front.{SaysModel, fault_at, case_fault_of}
-use Rattle.pc_front.specs.Ends.{case_end}
-use Rattle.pc_front.specs.declared.model_front.FrontEnd.{FrontEnd}
-use Rattle.pattern_reader.specs.Rows.{Pattern}
-use Rattle.pattern_reader.specs.Answer.{PatternOf, IsPatternFault}
+use Rattle.pc_front.specs.{ModelFront.{IsModelEnd}, Front.{SaysModel, fault_at, case_fault_of}, Ends.{case_end}, declared.model_front.FrontEnd.{FrontEnd}}
+use Rattle.pattern_reader.specs.{Rows.{Pattern}, Answer.{PatternOf, IsPatternFault}}
 use Rattle.pattern_reader.proofs.Patterns.{no_fault_beside, one_fault_of, one_pattern_of, pattern_or_fault_of, no_memory_fault}
-use Rattle.command_base.specs.Inputs.{Inputs, Contents, IsRead, LacksInput}
-use Rattle.command_base.specs.SecondFiles.{IsFrontEnd, IsForm, IsToldFault, in_second}
-use Rattle.command_base.proofs.Forms.{IsReader, form_of, fault_ends, model_ends}
-use Rattle.command_base.proofs.TestForm.{case_told, told_of_two}
-use Rattle.sweep_command.specs.Patterns.{ClosedCase, IsFirstSweepFault, SaysTask, HasTask}
-use Rattle.sweep_command.specs.declared.inputs.Task.{Task}
+use Rattle.command_base.specs.{Inputs.{Inputs, Contents, IsRead, LacksInput}, SecondFiles.{IsFrontEnd, IsForm, IsToldFault, in_second}}
+use Rattle.command_base.proofs.{Forms.{IsReader, form_of, fault_ends, model_ends}, TestForm.{case_told, told_of_two}}
+use Rattle.sweep_command.specs.{Patterns.{ClosedCase, IsFirstSweepFault, SaysTask, HasTask}, declared.inputs.Task.{Task}}
 
 one_closed_case : (bytes : List ℕ) (c d : Case) → ClosedCase bytes c → ClosedCase bytes d → c ≡ d
 one_closed_case bytes c d (p, said, same) (q, told, other) = same ∙ ap (λ (x : Pattern). x.case) (one_pattern_of bytes p q said told) ∙ sym other

@@ -1,25 +1,12 @@
 -- What the search finds of a row's ground tree answers the row, and answers come one after the other.
-use Rattle.std.proofs.Common.{◌≡◌, ℕ, inl, inr, Bool, false, List, [], ◌∷◌, ◌++◌, Some, length, sym, ◌∙◌, ap, subst, arith, slice_get}
-use Rattle.std.specs.Prelude.{unwrap_or, get_or}
-use Rattle.std.proofs.lemmas.Bool.{cases_lt}
-use Rattle.std.proofs.lemmas.List.{length-append}
-use Rattle.std.proofs.lemmas.Option.{slice_get_within, slice_get-get_or}
-use Rattle.pc_common.specs.Case.{Case}
-use Rattle.pc_common.specs.World.{Node}
-use Rattle.pc_common.proofs.Places.{slice_get-more}
-use Rattle.pc_syntax.specs.Closed.{PlainClosed}
-use Rattle.pc_syntax.proofs.Slots.{slice_get-end}
-use Rattle.pc_ground.specs.Tree.{Tree}
-use Rattle.pc_ground.specs.Rows.{rows_of}
-use Rattle.pc_ground.specs.Folded.{IsFolded}
-use Rattle.pc_ground.specs.GroundTree.{axioms_unfolded, closed_ground_tree}
-use Rattle.pc_ground.specs.declared.version.Version.{Version}
-use Rattle.pc_ground.proofs.UnfoldedTruth.{closed_ground_tree_true}
-use Rattle.pc_ground.proofs.NormalForms.{normal_folded}
+use Rattle.std.proofs.{Common.{◌≡◌, ℕ, inl, inr, Bool, false, List, [], ◌∷◌, ◌++◌, Some, length, sym, ◌∙◌, ap, subst, arith, slice_get}, lemmas.Bool.{cases_lt}}
+use Rattle.std.{proofs.lemmas.{List.{length-append}, Option.{slice_get_within, slice_get-get_or}}, specs.Prelude.{unwrap_or, get_or}}
+use Rattle.pc_common.{specs.{Case.{Case}, World.{Node}}, proofs.Places.{slice_get-more}}
+use Rattle.pc_syntax.{specs.Closed.{PlainClosed}, proofs.Slots.{slice_get-end}}
+use Rattle.pc_ground.specs.{Tree.{Tree}, Rows.{rows_of}, Folded.{IsFolded}, GroundTree.{axioms_unfolded, closed_ground_tree}}
+use Rattle.pc_ground.{specs.declared.version.Version.{Version}, proofs.{UnfoldedTruth.{closed_ground_tree_true}, NormalForms.{normal_folded}}}
 use Rattle.pc_ground.proofs.FlatRows.{rows_injective}
-use Rattle.solver.specs.Answers.{IsAnswer}
-use Rattle.solver.specs.declared.answer.Answer.{Answer}
-use Rattle.solver.specs.declared.answer.Answer.TheVariants.{Observable, Unobservable}
+use Rattle.solver.specs.{Answers.{IsAnswer}, declared.answer.Answer.{Answer, TheVariants.{Observable, Unobservable}}}
 use Rattle.sweep_command.specs.Sweeps.{IsAnswerTo, is_graph}
 
 -- a constant stands in the ground tree of closed axioms only where it is the whole tree

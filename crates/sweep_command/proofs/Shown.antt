@@ -1,26 +1,15 @@
 -- An answer to the closed axioms is the verdict on the model as written.
-use Rattle.std.proofs.Common.{◌≡◌, Bool, true, false, List, map, sym, ◌∙◌, ap, subst}
+use Rattle.std.proofs.{Common.{◌≡◌, Bool, true, false, List, map, sym, ◌∙◌, ap, subst}, lemmas.List.Elements.{All-weaker, filter_passes}}
 use Rattle.std.specs.Prelude.{Contains, All, filter}
-use Rattle.std.proofs.lemmas.List.Elements.{All-weaker, filter_passes}
-use Rattle.pc_common.specs.Case.{Case}
-use Rattle.pc_common.specs.World.{Node, World, same_node}
-use Rattle.pc_common.proofs.Elements.{In, contains_from_in, any_holds}
-use Rattle.pc_common.proofs.Nodes.{same_node-true}
+use Rattle.pc_common.{specs.{Case.{Case}, World.{Node, World, same_node}}, proofs.{Elements.{In, contains_from_in, any_holds}, Nodes.{same_node-true}}}
 use Rattle.pc_case.specs.MicroOps.{AreMicroOps}
-use Rattle.pc_syntax.specs.Written.{WrittenModel, stage_numbers}
-use Rattle.pc_syntax.specs.Observable.{Observable, IsNodeOf}
-use Rattle.pc_ground.specs.Stages.{plain_stage, plain_axioms, numbers_of, AxiomsWithin}
-use Rattle.pc_ground.specs.CutWorlds.{is_among, cut_to}
-use Rattle.pc_ground.specs.Numbers.{nodes_of_tree}
-use Rattle.pc_ground.specs.GroundTree.{closed_ground_tree}
-use Rattle.pc_ground.proofs.CutTruth.{cut_keeps, cut_world}
-use Rattle.pc_ground.proofs.TreeNodes.{nodes_are_of}
+use Rattle.pc_syntax.specs.{Written.{WrittenModel, stage_numbers}, Observable.{Observable, IsNodeOf}}
+use Rattle.pc_ground.specs.{Stages.{plain_stage, plain_axioms, numbers_of, AxiomsWithin}, CutWorlds.{is_among, cut_to}, Numbers.{nodes_of_tree}}
+use Rattle.pc_ground.{specs.GroundTree.{closed_ground_tree}, proofs.{CutTruth.{cut_keeps, cut_world}, TreeNodes.{nodes_are_of}}}
 use Rattle.pc_ground.proofs.UnfoldedTruth.{closed_ground_tree_true}
-use Rattle.pc_front.specs.declared.model_front.ModelFront.{ModelFront}
-use Rattle.pc_front.specs.ModelFront.{IsModelFrontOf}
+use Rattle.pc_front.specs.{declared.model_front.ModelFront.{ModelFront}, ModelFront.{IsModelFrontOf}}
 use Rattle.command_base.proofs.AskedAlike.{numbers_same}
-use Rattle.sweep_command.specs.Sweeps.{IsShown, IsAnswerTo}
-use Rattle.sweep_command.specs.SweepAnswers.{IsVerdictOn}
+use Rattle.sweep_command.specs.{Sweeps.{IsShown, IsAnswerTo}, SweepAnswers.{IsVerdictOn}}
 
 among_in : (nodes : List Node) (a : Node) → is_among nodes a ≡ true → In a nodes
 among_in nodes a e =

@@ -1,31 +1,18 @@
 -- The outcome of `sweep`: what its answer says, and that it is due.
 use Rattle.std.proofs.Common.{◌≡◌, ℕ, Bool, List, refl, sym, ap, subst}
-use Rattle.pc_common.specs.Outside.{FilesView}
-use Rattle.pc_common.specs.Case.{Case}
-use Rattle.pc_common.specs.declared.status.Status.{Status}
-use Rattle.pc_common.specs.declared.status.Status.TheVariants.{Usage, ReadFault, Done}
+use Rattle.pc_common.specs.{Outside.{FilesView}, Case.{Case}, declared.status.Status.{Status, TheVariants.{Usage, ReadFault, Done}}}
 use Rattle.pc_case.specs.MicroOps.{AreMicroOps}
 use Rattle.pc_syntax.specs.Written.{WrittenModel}
 use Rattle.litmus_reader.proofs.CleanFacts.{are_micro_ops}
 use Rattle.pc_ground.specs.Stages.{plain_axioms}
 use Rattle.pc_front.proofs.PartsOf.{axioms_within}
-use Rattle.pattern_reader.specs.Rows.{Pattern, value_for, values_in_row, row_case}
-use Rattle.pattern_reader.specs.Answer.{PatternOf}
-use Rattle.pattern_reader.proofs.Filling.{filled_kept}
-use Rattle.sweep_command.specs.Sweeps.{AreAnswers}
-use Rattle.command_base.specs.declared.ending.Ending.{Ending}
-use Rattle.command_base.specs.Inputs.{Inputs, Contents, Says}
-use Rattle.command_base.specs.Refusals.{refusal}
-use Rattle.command_base.proofs.OneCase.{one_held, one_said, no_fault_said}
+use Rattle.pattern_reader.{specs.{Rows.{Pattern, value_for, values_in_row, row_case}, Answer.{PatternOf}}, proofs.Filling.{filled_kept}}
 use Rattle.pattern_reader.proofs.Patterns.{one_pattern_of}
-use Rattle.command_base.specs.Endings.{ending_status, ending_text}
-use Rattle.command_base.specs.Outcomes.{IsInputsEnding}
-use Rattle.sweep_command.specs.Texts.{sweep_text}
-use Rattle.sweep_command.specs.Patterns.{ClosedCase, IsFirstSweepFault, SaysPattern, SaysTask, HasTask}
-use Rattle.sweep_command.specs.SweepAnswers.{IsSweep, AnswersSweep, refused_sweep, swept, IsSweepDue, IsSweepOutcome}
-use Rattle.sweep_command.specs.declared.inputs.Task.{Task}
-use Rattle.sweep_command.proofs.PatternFiles.{pattern_form}
-use Rattle.sweep_command.proofs.Shown.{verdict_of}
+use Rattle.sweep_command.specs.{Sweeps.{AreAnswers}, Texts.{sweep_text}, Patterns.{ClosedCase, IsFirstSweepFault, SaysPattern, SaysTask, HasTask}}
+use Rattle.sweep_command.specs.{SweepAnswers.{IsSweep, AnswersSweep, refused_sweep, swept, IsSweepDue, IsSweepOutcome}, declared.inputs.Task.{Task}}
+use Rattle.sweep_command.proofs.{PatternFiles.{pattern_form}, Shown.{verdict_of}}
+use Rattle.command_base.specs.{declared.ending.Ending.{Ending}, Inputs.{Inputs, Contents, Says}, Refusals.{refusal}, Endings.{ending_status, ending_text}}
+use Rattle.command_base.{specs.Outcomes.{IsInputsEnding}, proofs.OneCase.{one_held, one_said, no_fault_said}}
 
 -- the micro-ops of a row are those of a test
 row_kept : (bytes : List ℕ) (p : Pattern) (row : ℕ) → PatternOf bytes p → AreMicroOps (row_case p row).ops

@@ -1,17 +1,8 @@
 -- The texts of rows by their pieces.
-use Rattle.std.proofs.Common.{◌≡◌, ℕ, suc, ◌<◌, List, [], ◌∷◌, ◌++◌, Some, Ok, length, get_or, refl, sym, ◌∙◌, ap, arith}
-use Rattle.std.specs.Prelude.{codes}
-use Rattle.std.specs.List.{range_with_len, slice_get}
-use Rattle.std.specs.Fmt.{decimal}
-use Rattle.std.proofs.lemmas.List.{length-map}
-use Rattle.std.proofs.lemmas.List.FromFn.{get_or-range_with_len, length-range_with_len}
-use Rattle.std.proofs.lemmas.Option.{get_or_from_slice_get}
-use Rattle.pc_common.specs.Case.{Value}
-use Rattle.pc_common.specs.Outside.{SinkView}
-use Rattle.pc_common.specs.Writes.{success}
-use Rattle.pc_common.specs.Room.{Puts}
-use Rattle.pc_common.specs.declared.room.Room.{Room}
-use Rattle.pc_common.proofs.Rooms.{puts_text}
+use Rattle.std.proofs.{Common.{◌≡◌, ℕ, suc, ◌<◌, List, [], ◌∷◌, ◌++◌, Some, Ok, length, get_or, refl, sym, ◌∙◌, ap, arith}, lemmas.List.{length-map}}
+use Rattle.std.{proofs.lemmas.{List.FromFn.{get_or-range_with_len, length-range_with_len}, Option.{get_or_from_slice_get}}, specs.Prelude.{codes}}
+use Rattle.std.specs.{List.{range_with_len, slice_get}, Fmt.{decimal}}
+use Rattle.pc_common.{specs.{Case.{Value}, Outside.{SinkView}, Writes.{success}, Room.{Puts}, declared.room.Room.{Room}}, proofs.Rooms.{puts_text}}
 use Rattle.pattern_reader.specs.Rows.{Pattern, values_of, choices_of, row_values, values_in_row}
 
 pub text_at : {X : Type 0} (f : X → List ℕ) (xs : List X) (k : ℕ) (x : X) → slice_get xs k ≡ Some x → f x ≡ f (get_or xs k x)

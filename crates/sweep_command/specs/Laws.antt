@@ -4,8 +4,7 @@ use Rattle.pc_common.specs.declared.status.Status.{Status}
 use Rattle.pc_syntax.specs.Written.{WrittenModel}
 use Rattle.pattern_reader.specs.Rows.{Pattern}
 use Rattle.command_base.specs.Inputs.{Inputs, Contents}
-use Rattle.sweep_command.specs.Patterns.{SaysPattern}
-use Rattle.sweep_command.specs.SweepAnswers.{IsSweep, AnswersSweep}
+use Rattle.sweep_command.specs.{Patterns.{SaysPattern}, SweepAnswers.{IsSweep, AnswersSweep}}
 
 -- where the two files say a model and a pattern, the text is their sweep
 abbrev pub HasSweepText : Contents → Type 0

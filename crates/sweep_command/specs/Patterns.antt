@@ -1,16 +1,10 @@
 -- What a model's file and a pattern's say together, and their first fault.
 use Rattle.std.specs.Prelude.{◌≡◌, ℕ, List, IsTrue}
-use Rattle.pc_common.specs.Outside.{FilesView}
-use Rattle.pc_common.specs.Reads.{Reads}
-use Rattle.pc_common.specs.Case.{Case}
-use Rattle.pc_common.specs.declared.fault.InputFault.{InputFault}
+use Rattle.pc_common.specs.{Outside.{FilesView}, Reads.{Reads}, Case.{Case}, declared.fault.InputFault.{InputFault}}
 use Rattle.pc_syntax.specs.Written.{WrittenModel}
-use Rattle.pc_front.specs.ModelFront.{IsModelFrontOf}
-use Rattle.pc_front.specs.Front.{SaysModel, case_fault_of}
-use Rattle.pattern_reader.specs.Rows.{Pattern}
-use Rattle.pattern_reader.specs.Answer.{PatternOf, IsPatternFault}
-use Rattle.command_base.specs.Inputs.{Inputs, Contents, IsRead, LacksInput}
-use Rattle.command_base.specs.SecondFiles.{IsToldFault, IsFaultOfTwo}
+use Rattle.pc_front.specs.{ModelFront.{IsModelFrontOf}, Front.{SaysModel, case_fault_of}}
+use Rattle.pattern_reader.specs.{Rows.{Pattern}, Answer.{PatternOf, IsPatternFault}}
+use Rattle.command_base.specs.{Inputs.{Inputs, Contents, IsRead, LacksInput}, SecondFiles.{IsToldFault, IsFaultOfTwo}}
 use Rattle.sweep_command.specs.declared.inputs.Task.{Task}
 
 -- the bytes are a pattern of this case, with a 0 in each open read

@@ -1,22 +1,12 @@
 -- The answer of `sweep` to two files, and the status that is due.
 use Rattle.std.specs.Prelude.{◌≡◌, ℕ, Bool, true, false, List, Some, Result, length, slice_get, IsTrue}
-use Rattle.pc_common.specs.Outside.{FilesView}
-use Rattle.pc_common.specs.Case.{Case}
-use Rattle.pc_common.specs.declared.fault.InputFault.{InputFault}
-use Rattle.pc_common.specs.declared.status.Status.{Status}
-use Rattle.pc_common.specs.declared.status.Status.TheVariants.{Done, Refused}
-use Rattle.pc_syntax.specs.Written.{WrittenModel}
-use Rattle.pc_syntax.specs.Observable.{Observable}
+use Rattle.pc_common.specs.{Outside.{FilesView}, Case.{Case}, declared.{fault.InputFault.{InputFault}, status.Status.{Status, TheVariants.{Done, Refused}}}}
+use Rattle.pc_syntax.specs.{Written.{WrittenModel}, Observable.{Observable}}
 use Rattle.pattern_reader.specs.Rows.{Pattern, rows_of, row_case}
-use Rattle.command_base.specs.declared.inputs.Inputs.{Inputs as CodeInputs}
-use Rattle.command_base.specs.declared.ending.Ending.{Ending}
-use Rattle.command_base.specs.Inputs.{Inputs, Contents, LacksInput, IsFirstInputFault as IsFirstFaultOf, plain_inputs}
-use Rattle.command_base.specs.Endings.{HasOutcome}
-use Rattle.command_base.specs.Refusals.{IsInputRefusal}
-use Rattle.command_base.specs.Outcomes.{IsOutcome}
-use Rattle.sweep_command.specs.declared.command.Swept.{Swept}
-use Rattle.sweep_command.specs.Texts.{sweep_text, swept_text}
-use Rattle.sweep_command.specs.Patterns.{IsFirstSweepFault, SaysPattern}
+use Rattle.command_base.specs.declared.{inputs.Inputs.{Inputs as CodeInputs}, ending.Ending.{Ending}}
+use Rattle.command_base.specs.{Inputs.{Inputs, Contents, LacksInput, IsFirstInputFault as IsFirstFaultOf, plain_inputs}, Endings.{HasOutcome}}
+use Rattle.command_base.specs.{Refusals.{IsInputRefusal}, Outcomes.{IsOutcome}}
+use Rattle.sweep_command.specs.{declared.command.Swept.{Swept}, Texts.{sweep_text, swept_text}, Patterns.{IsFirstSweepFault, SaysPattern}}
 
 -- observable exactly where some choice of nodes with some strict order makes every axiom true of the case
 abbrev pub IsVerdictOn : WrittenModel → Case → Bool → Type 0

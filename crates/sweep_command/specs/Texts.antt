@@ -1,7 +1,5 @@
 -- The text of a sweep.
-use Rattle.std.specs.Prelude.{ℕ, Bool, true, false, not, List, ◌++◌, codes, get_or, count_by}
-use Rattle.std.specs.Fmt.{decimal}
-use Rattle.std.specs.List.{flat_map, range_with_len}
+use Rattle.std.specs.{Prelude.{ℕ, Bool, true, false, not, List, ◌++◌, codes, get_or, count_by}, Fmt.{decimal}, List.{flat_map, range_with_len}}
 use Rattle.pc_common.specs.Case.{Value, number, entry}
 use Rattle.pattern_reader.specs.Rows.{Pattern, rows_of, values_in_row}
 use Rattle.sweep_command.specs.declared.command.Swept.{Swept}

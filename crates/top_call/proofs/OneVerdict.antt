@@ -1,32 +1,19 @@
 -- What `check` writes `verify` takes, and what `check86` writes `verify86` takes.
 use Rattle.std.proofs.Common.{◌≡◌, ℕ, ◌≤◌, List, Some, length, refl, sym, ◌∙◌, ap, subst}
-use Rattle.pc_common.specs.Case.{Case}
-use Rattle.pc_common.specs.declared.status.Status.{Status}
-use Rattle.pc_common.specs.declared.fault.InputFault.{InputFault}
+use Rattle.pc_common.specs.{Case.{Case}, declared.{status.Status.{Status}, fault.InputFault.{InputFault}, limits.TheConstants.{MAX_CERTIFICATE}}}
 use Rattle.pc_syntax.specs.Written.{WrittenModel}
-use Rattle.pc_common.specs.declared.limits.TheConstants.{MAX_CERTIFICATE}
 use Rattle.pc_ground.specs.declared.version.Version.{Version}
-use Rattle.verdicts.proofs.CertifiedTruth.{refutation_text}
-use Rattle.cert_check.specs.Verified.{Verified, seen as a_graph_text, unseen as a_tree_text}
-use Rattle.cert_check.specs.declared.checked.Checked.{Checked}
+use Rattle.verdicts.{proofs.CertifiedTruth.{refutation_text}, specs.Certified.{IsCertified, seen, unseen}}
+use Rattle.cert_check.specs.{Verified.{Verified, seen as a_graph_text, unseen as a_tree_text}, declared.checked.Checked.{Checked}}
 use Rattle.cert_check.specs.declared.checked.Checked.TheVariants.{Observable, Unobservable}
-use Rattle.command_base.specs.Inputs.{Inputs, Contents, Says, IsRead}
-use Rattle.command_base.specs.FileAnswers.{refused as is_refused, found as is_found}
-use Rattle.command_base.specs.Questions.{question_by}
-use Rattle.command_base.specs.Refusals.{refusal}
-use Rattle.command_base.specs.SecondFiles.{IsForm}
-use Rattle.command_base.proofs.OneCase.{one_held, no_fault_said}
-use Rattle.command_base.proofs.TestForm.{test_form}
-use Rattle.command_base.proofs.AnsweredFiles.{found_of}
+use Rattle.command_base.specs.{Inputs.{Inputs, Contents, Says, IsRead}, FileAnswers.{refused as is_refused, found as is_found}, Questions.{question_by}}
+use Rattle.command_base.{specs.{Refusals.{refusal}, SecondFiles.{IsForm}, CheckedTexts.{checked_status}}, proofs.OneCase.{one_held, no_fault_said}}
+use Rattle.command_base.proofs.{TestForm.{test_form}, AnsweredFiles.{found_of}}
 use Rattle.listing_form.proofs.ListingForm.{listing_form}
-use Rattle.verdicts.specs.Certified.{IsCertified, seen, unseen}
 use Rattle.check_command.specs.CheckAnswers.{AnswersCheck}
-use Rattle.command_base.specs.CheckedTexts.{checked_status}
-use Rattle.verify_command.specs.VerifyAnswers.{AnswersVerify, IsJudged, judged}
-use Rattle.verify_command.proofs.OneVerdict.{one_found}
+use Rattle.verify_command.{specs.VerifyAnswers.{AnswersVerify, IsJudged, judged}, proofs.OneVerdict.{one_found}}
 use Rattle.command_line.specs.Command.{check, verify, check_listing, verify_listing}
-use Rattle.top_call.specs.Laws.{HasOneStatus, of_a_test, of_a_listing}
-use Rattle.top_call.proofs.Headline.{answer_to_command}
+use Rattle.top_call.{specs.Laws.{HasOneStatus, of_a_test, of_a_listing}, proofs.Headline.{answer_to_command}}
 
 read_alike : (holds later : Contents) (name bytes : List ℕ) → later name ≡ holds name → IsRead holds name bytes → IsRead later name bytes
 read_alike holds later name bytes same read = record { held = same ∙ read.held; within = read.within }

@@ -1,15 +1,9 @@
 -- The outcome of a command is that of the words that are it.
-use Rattle.std.proofs.Common.{◌≡◌, ℕ, List, refl, subst}
-use Rattle.std.specs.Prelude.{IsTrue}
-use Rattle.pc_common.specs.Outside.{FilesView}
-use Rattle.pc_common.specs.declared.status.Status.{Status}
-use Rattle.pc_common.specs.declared.status.Status.TheVariants.{Usage, ReadFault}
-use Rattle.command_base.specs.Outcomes.{IsOutcome}
-use Rattle.command_base.proofs.InputsRead.{reads_none}
-use Rattle.command_line.specs.Command.{Command, IsCommand, IsNoCommand}
-use Rattle.top_call.specs.Answers.{usage_text, usage, answered, Lacks}
-use Rattle.top_call.specs.Decides.{IsCommandOutcome, IsWordsOutcome}
-use Rattle.command_line.proofs.OneCommand.{one_command}
+use Rattle.std.{proofs.Common.{◌≡◌, ℕ, List, refl, subst}, specs.Prelude.{IsTrue}}
+use Rattle.pc_common.specs.{Outside.{FilesView}, declared.status.Status.{Status, TheVariants.{Usage, ReadFault}}}
+use Rattle.command_base.{specs.Outcomes.{IsOutcome}, proofs.InputsRead.{reads_none}}
+use Rattle.command_line.{specs.Command.{Command, IsCommand, IsNoCommand}, proofs.OneCommand.{one_command}}
+use Rattle.top_call.specs.{Answers.{usage_text, usage, answered, Lacks}, Decides.{IsCommandOutcome, IsWordsOutcome}}
 
 no_fault_of_usage : Usage ≡ ReadFault → ⊥
 no_fault_of_usage e = cc

@@ -1,7 +1,6 @@
 -- The status of a run is that of the answer, unless the writing failed.
 use Rattle.std.proofs.Common.{◌≡◌, ◌≢◌, ◌⊎◌, inl, inr, sym, ◌∙◌}
-use Rattle.pc_common.specs.declared.status.Status.{Status}
-use Rattle.pc_common.specs.declared.status.Status.TheVariants.{WriteFault}
+use Rattle.pc_common.specs.declared.status.Status.{Status, TheVariants.{WriteFault}}
 
 pub answer_is_status : {status answer : Status} → (status ≡ answer) ⊎ (status ≡ WriteFault) → status ≢ WriteFault → answer ≡ status
 answer_is_status (inl e) no_fault = sym e

@@ -1,11 +1,9 @@
 -- The text and the status of the code's answer.
 use Rattle.std.specs.Prelude.{◌≡◌, ⊤, ℕ, List, length}
-use Rattle.pc_common.specs.declared.status.Status.{Status}
-use Rattle.pc_common.specs.declared.status.Status.TheVariants.{Done, Usage}
+use Rattle.pc_common.specs.declared.status.Status.{Status, TheVariants.{Done, Usage}}
 use Rattle.pc_ground.specs.NodeForm.{names_of}
-use Rattle.command_base.specs.Endings.{ending_status, ending_text}
+use Rattle.command_base.specs.{Endings.{ending_status, ending_text}, CheckedTexts.{checked_status, checked_text}}
 use Rattle.verdicts.specs.Verdicts.{verdict_text, status_of, IsWritable}
-use Rattle.command_base.specs.CheckedTexts.{checked_status, checked_text}
 use Rattle.core_command.specs.Found.{found_text, IsCoreWritable}
 use Rattle.sweep_command.specs.Texts.{swept_text}
 use Rattle.pattern_reader.specs.Rows.{rows_of}

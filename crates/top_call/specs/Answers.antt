@@ -1,21 +1,17 @@
 -- What is answered to a command over the contents of the files, with the text that is written.
 use Rattle.std.specs.Prelude.{◌⊎◌, ℕ, List, codes}
-use Rattle.pc_common.specs.declared.status.Status.{Status}
-use Rattle.pc_common.specs.declared.status.Status.TheVariants.{Usage}
+use Rattle.pc_common.specs.declared.status.Status.{Status, TheVariants.{Usage}}
 use Rattle.litmus_reader.specs.Answer.{CaseOf}
 use Rattle.pc_front.specs.Front.{IsFirstFrontFault as IsTestFault}
-use Rattle.command_base.specs.Inputs.{Contents, LacksInput}
-use Rattle.command_base.specs.Outcomes.{LacksThirdFile}
+use Rattle.command_base.specs.{Inputs.{Contents, LacksInput}, Outcomes.{LacksThirdFile}}
 use Rattle.check_command.specs.CheckAnswers.{AnswersCheck}
-use Rattle.verify_command.specs.VerifyAnswers.{AnswersVerify}
+use Rattle.verify_command.specs.{VerifyAnswers.{AnswersVerify}, LiftedAnswers.{AnswersLifted}}
 use Rattle.core_command.specs.CoreAnswers.{AnswersCore}
 use Rattle.x86_litmus.specs.Answer.{CaseOf as ListingCase}
 use Rattle.listing_form.specs.Listings.{IsFirstListingFault as IsListingFault}
 use Rattle.pc_ground.specs.declared.version.Version.TheVariants.{One}
 use Rattle.sweep_command.specs.SweepAnswers.{AnswersSweep}
-use Rattle.verify_command.specs.LiftedAnswers.{AnswersLifted}
-use Rattle.ask_command.specs.AskFiles.{LacksAskedFile}
-use Rattle.ask_command.specs.AskAnswers.{AnswersAsk}
+use Rattle.ask_command.specs.{AskFiles.{LacksAskedFile}, AskAnswers.{AnswersAsk}}
 use Rattle.lift_command.specs.LiftAnswers.{AnswersLift}
 use Rattle.gen_command.specs.GenAnswers.{AnswersGen}
 use Rattle.command_line.specs.Command.{Command, check, verify, find_core, check_listing, verify_listing, sweep_rows, verify_lifted, ask_query, lift_tree, gen, IsCommand, IsNoCommand}

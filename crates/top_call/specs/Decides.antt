@@ -1,7 +1,6 @@
 -- The outcome of the words, before anything is written.
 use Rattle.std.specs.Prelude.{◌≡◌, ℕ, List}
-use Rattle.pc_common.specs.Outside.{FilesView}
-use Rattle.pc_common.specs.declared.status.Status.{Status}
+use Rattle.pc_common.specs.{Outside.{FilesView}, declared.status.Status.{Status}}
 use Rattle.command_base.specs.Outcomes.{IsOutcome}
 use Rattle.command_line.specs.Command.{Command, IsNoCommand, ReadsOnlyIf, WordsReadOnlyIf}
 use Rattle.top_call.specs.Answers.{usage_text, AnswersCommand, Answers, Lacks, LacksNamedFile}

@@ -1,7 +1,6 @@
 -- What holds of every two runs.
 use Rattle.std.specs.Prelude.{◌≡◌, ◌≤◌, List, ℕ, Some, length}
-use Rattle.pc_common.specs.declared.status.Status.{Status}
-use Rattle.pc_common.specs.declared.limits.TheConstants.{MAX_CERTIFICATE}
+use Rattle.pc_common.specs.declared.{status.Status.{Status}, limits.TheConstants.{MAX_CERTIFICATE}}
 use Rattle.pc_ground.specs.declared.version.Version.{Version}
 use Rattle.command_base.specs.Inputs.{Inputs, Contents}
 use Rattle.command_line.specs.Command.{Command, check, verify, check_listing, verify_listing, IsCommand}

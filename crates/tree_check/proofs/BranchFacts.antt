@@ -1,19 +1,11 @@
 -- The facts of a branch: by its positions, by their literals, and once more are added.
-use Rattle.std.proofs.Common.{◌≡◌, ◌⊎◌, inl, inr, List, [], ◌∷◌, ◌++◌, Option, Some, None, length, take, refl, sym, ◌∙◌, ap, subst}
-use Rattle.std.specs.Prelude.{Contains, ◌↔◌}
-use Rattle.std.proofs.Math.Seq.{take-length}
-use Rattle.std.proofs.lemmas.Grind.{flat_map-append}
-use Rattle.pc_common.specs.World.{Node}
-use Rattle.pc_common.proofs.Elements.{In, in_from_contains, contains_from_in, in_front, in_back, in_either, in_flat, from_flat}
-use Rattle.pc_ground.specs.declared.literal.Literal.{Literal}
-use Rattle.pc_ground.specs.declared.literal.Literal.TheVariants.{Node as a_node, Edge as an_edge, NoNode as not_node, NoEdge as not_edge}
-use Rattle.pc_ground.specs.declared.node_key.NodeKey.{NodeKey}
-use Rattle.pc_ground.specs.declared.row.RowKind.{RowKind}
-use Rattle.pc_ground.specs.declared.row.RowKind.TheVariants.{Lit, True, False, And, Or}
-use Rattle.pc_ground.specs.Keys.{key_node, literal_node, renamed_kind}
-use Rattle.pc_ground.specs.Tree.{Tree, leaf, either, always, never, both}
-use Rattle.pc_ground.specs.Literals.{IsPresent, as_node, as_start, as_end}
-use Rattle.pc_ground.specs.Refutes.{Signed, Branch, part_at, literal_of, literals_of}
+use Rattle.std.proofs.{Common.{◌≡◌, ◌⊎◌, inl, inr, List, [], ◌∷◌, ◌++◌, Option, Some, None, length, take, refl, sym, ◌∙◌, ap, subst}, Math.Seq.{take-length}}
+use Rattle.std.{proofs.lemmas.Grind.{flat_map-append}, specs.Prelude.{Contains, ◌↔◌}}
+use Rattle.pc_common.{specs.World.{Node}, proofs.Elements.{In, in_from_contains, contains_from_in, in_front, in_back, in_either, in_flat, from_flat}}
+use Rattle.pc_ground.specs.declared.literal.Literal.{Literal, TheVariants.{Node as a_node, Edge as an_edge, NoNode as not_node, NoEdge as not_edge}}
+use Rattle.pc_ground.specs.declared.{node_key.NodeKey.{NodeKey}, row.RowKind.{RowKind, TheVariants.{Lit, True, False, And, Or}}}
+use Rattle.pc_ground.specs.{Keys.{key_node, literal_node, renamed_kind}, Tree.{Tree, leaf, either, always, never, both}}
+use Rattle.pc_ground.specs.{Literals.{IsPresent, as_node, as_start, as_end}, Refutes.{Signed, Branch, part_at, literal_of, literals_of}}
 use Rattle.tree_check.specs.Facts.{PlainFact, at_position, edge, no_edge, no_node, present, facts_of_literal, facts_of_part, facts_at, facts_of_kind, facts_on, HasFacts, HasAdded}
 
 no_place : (l : Literal Node) (p : Signed) → In (at_position p) (facts_of_literal l) → ⊥

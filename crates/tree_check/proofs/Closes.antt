@@ -1,16 +1,9 @@
 -- A leaf closes a branch where the branch's facts say so.
-use Rattle.std.proofs.Common.{◌≡◌, ◌⊎◌, inl, inr, List, [], ◌∷◌, ◌++◌, refl, sym, ◌∙◌, ap, subst}
-use Rattle.std.specs.Prelude.{Contains, ◌↔◌}
-use Rattle.pc_common.specs.World.{Node}
-use Rattle.pc_common.specs.Chain.{Leads}
-use Rattle.pc_ground.specs.declared.literal.Literal.{Literal}
-use Rattle.pc_ground.specs.declared.literal.Literal.TheVariants.{NoNode, NoEdge}
-use Rattle.pc_ground.specs.Tree.{Tree, never}
-use Rattle.pc_ground.specs.Literals.{Joins, IsPresent}
-use Rattle.pc_common.specs.Steps.{Leaf, cycle, path, absent, false_step}
+use Rattle.std.{proofs.Common.{◌≡◌, ◌⊎◌, inl, inr, List, [], ◌∷◌, ◌++◌, refl, sym, ◌∙◌, ap, subst}, specs.Prelude.{Contains, ◌↔◌}}
+use Rattle.pc_common.specs.{World.{Node}, Chain.{Leads}, Steps.{Leaf, cycle, path, absent, false_step}}
+use Rattle.pc_ground.specs.{declared.literal.Literal.{Literal, TheVariants.{NoNode, NoEdge}}, Tree.{Tree, never}, Literals.{Joins, IsPresent}}
 use Rattle.pc_ground.specs.Refutes.{Branch, literals_of, IsContradiction, a_cycle, a_path, an_absence, Closes, a_contradiction, a_falsity}
-use Rattle.tree_check.specs.Facts.{PlainFact, HasFacts, HasEdge}
-use Rattle.tree_check.specs.Leaves.{IsCycle, IsPath, IsAbsent}
+use Rattle.tree_check.specs.{Facts.{PlainFact, HasFacts, HasEdge}, Leaves.{IsCycle, IsPath, IsAbsent}}
 use Rattle.tree_check.proofs.BranchFacts.{edge_literal, no_edge_literal, no_node_literal, present_literal}
 
 leads_as : {N : Type 0} (R S : N → N → Type 0) → ((a b : N) → R a b → S a b) → (a : N) (via : List N) (b : N) → Leads R a via b → Leads S a via b

@@ -1,20 +1,13 @@
 -- The set of facts as a list of plain facts: look-ups, and a fact more.
 use Rattle.std.proofs.Common.{◌≡◌, ◌⊎◌, inl, inr, Bool, true, false, List, [], ◌∷◌, ◌++◌, map, length, take, refl, sym, ◌∙◌, ap, subst, eqb-true, eq-eqb}
-use Rattle.std.specs.Prelude.{Contains, IsTrue, ◌↔◌, ◌==◌}
-use Rattle.std.proofs.Math.Bool.{beq}
-use Rattle.std.specs.List.{list_any}
-use Rattle.std.proofs.Math.Seq.{take-append_seam, take-length}
-use Rattle.std.proofs.lemmas.Bool.{and_from, or_left, or_right}
+use Rattle.std.proofs.{Math.{Bool.{beq}, Seq.{take-append_seam, take-length}}, lemmas.Bool.{and_from, or_left, or_right}}
+use Rattle.std.specs.{Prelude.{Contains, IsTrue, ◌↔◌, ◌==◌}, List.{list_any}}
 use Rattle.indexmap.specs.IndexSet.{insert_key}
 use Rattle.pc_common.proofs.Elements.{In, in_from_contains, contains_from_in, in_front, in_back, in_either}
-use Rattle.pc_ground.specs.Keys.{key_node}
-use Rattle.pc_ground.proofs.Nodes.{key_eq, same_keys, keys_same}
 use Rattle.pc_common.proofs.Bools.{true_or_false, and_first, and_second, or_either}
-use Rattle.pc_ground.specs.Refutes.{Signed, signed}
-use Rattle.tree_check.specs.Facts.{PlainFact, at_position, edge, no_edge, no_node, present, plain_fact}
-use Rattle.tree_check.specs.contracts.fact.FactPartialEq.TheImpl.{ghosts}
-use Rattle.tree_check.specs.declared.fact.Fact.{Fact}
-use Rattle.tree_check.specs.declared.fact.Fact.TheVariants.{At, Edge, NoEdge, NoNode, Present}
+use Rattle.pc_ground.{specs.{Keys.{key_node}, Refutes.{Signed, signed}}, proofs.Nodes.{key_eq, same_keys, keys_same}}
+use Rattle.tree_check.specs.{Facts.{PlainFact, at_position, edge, no_edge, no_node, present, plain_fact}, contracts.fact.FactPartialEq.TheImpl.{ghosts}}
+use Rattle.tree_check.specs.declared.fact.Fact.{Fact, TheVariants.{At, Edge, NoEdge, NoNode, Present}}
 
 same_flags : (m n : Bool) → beq m n ≡ true → m ≡ n
 same_flags true true e = refl

@@ -1,10 +1,7 @@
 -- Steps that lead from branches to branches: in two parts, and to one list.
 use Rattle.std.proofs.Common.{◌≡◌, ℕ, List, [], ◌∷◌, ◌++◌, Some, refl, sym, ◌∙◌, subst}
-use Rattle.pc_common.specs.World.{Node}
-use Rattle.pc_common.specs.Steps.{Step, split, close}
-use Rattle.pc_ground.specs.declared.version.Version.{Version}
-use Rattle.pc_ground.specs.Tree.{Tree, either, turned}
-use Rattle.pc_ground.specs.Refutes.{Branch, subtree_at, left_branch, right_branch, Runs}
+use Rattle.pc_common.specs.{World.{Node}, Steps.{Step, split, close}}
+use Rattle.pc_ground.specs.{declared.version.Version.{Version}, Tree.{Tree, either, turned}, Refutes.{Branch, subtree_at, left_branch, right_branch, Runs}}
 use Rattle.pc_ground.proofs.StageWalks.{some_same}
 
 pub runs_then : (v : Version) (t : Tree Node) (xs ys : List (Step Node)) (a b c : List Branch) → Runs v t xs a b → Runs v t ys b c → Runs v t (xs ++ ys) a c

@@ -1,29 +1,16 @@
 -- The walk over a part, and the branch that has all that the part asserts.
 use Rattle.std.proofs.Common.{◌≡◌, ◌≤◌, ◌<◌, ℕ, ◌+◌, inl, inr, Bool, List, [], ◌∷◌, ◌++◌, Option, None, Some, length, take, refl, sym, ◌∙◌, ap, subst, arith, append_assoc}
-use Rattle.std.specs.Prelude.{Contains, slice_get, option_map}
-use Rattle.std.proofs.lemmas.List.{append-nil, map-append}
-use Rattle.std.proofs.lemmas.Grind.{flat_map-append}
-use Rattle.pc_common.specs.World.{Node}
-use Rattle.pc_common.proofs.Elements.{In, in_from_contains, contains_from_in, in_front, in_back, in_either, in_map, from_map}
-use Rattle.pc_ground.specs.declared.node_key.NodeKey.{NodeKey}
-use Rattle.pc_ground.specs.declared.literal.Literal.{Literal}
-use Rattle.pc_ground.specs.declared.row.RowKind.{RowKind}
-use Rattle.pc_ground.specs.declared.row.RowKind.TheVariants.{True, Lit, False, And, Or}
-use Rattle.pc_ground.specs.declared.row.Row.{Row}
-use Rattle.pc_ground.specs.Keys.{key_node, renamed_kind}
-use Rattle.pc_ground.specs.Tree.{Tree, always, leaf, both, turned, size_of, never, either}
-use Rattle.pc_ground.specs.Rows.{rows_of, turned_row, turned_rows, IsFlat}
-use Rattle.pc_ground.specs.Walks.{stride, stride_of, Walk}
+use Rattle.std.{proofs.lemmas.{List.{append-nil, map-append}, Grind.{flat_map-append}}, specs.Prelude.{Contains, slice_get, option_map}}
+use Rattle.pc_common.{specs.World.{Node}, proofs.Elements.{In, in_from_contains, contains_from_in, in_front, in_back, in_either, in_map, from_map}}
+use Rattle.pc_ground.specs.declared.{node_key.NodeKey.{NodeKey}, literal.Literal.{Literal}, row.RowKind.{RowKind, TheVariants.{True, Lit, False, And, Or}}}
+use Rattle.pc_ground.specs.{declared.row.Row.{Row}, Keys.{key_node, renamed_kind}, Tree.{Tree, always, leaf, both, turned, size_of, never, either}}
+use Rattle.pc_ground.specs.{Rows.{rows_of, turned_row, turned_rows, IsFlat}, Walks.{stride, stride_of, Walk}}
 use Rattle.pc_ground.specs.Refutes.{Signed, signed, all_signed, Branch, subtree_at, asserted}
-use Rattle.pc_ground.proofs.FlatRows.{root_of, row_subtree, subtree_size, length_rows, children_both, rows_injective}
-use Rattle.pc_ground.proofs.StageWalks.{some_same}
-use Rattle.pc_ground.proofs.Turned.{size_turned, row_turned}
-use Rattle.pc_ground.proofs.Walks.{walk_side, walk_turn, walk_done, walk_within}
+use Rattle.pc_ground.proofs.{FlatRows.{root_of, row_subtree, subtree_size, length_rows, children_both, rows_injective}, StageWalks.{some_same}}
+use Rattle.pc_ground.proofs.{Turned.{size_turned, row_turned}, Walks.{walk_side, walk_turn, walk_done, walk_within}}
 use Rattle.tree_check.specs.Facts.{PlainFact, at_position, facts_of_literal, facts_of_part, facts_at, facts_of_kind, facts_on, HasAdded}
-use Rattle.tree_check.specs.Sides.{positions_of, positions_at}
-use Rattle.tree_check.specs.OpenBranches.{IsClosedUnderAnd, IsBranch}
-use Rattle.tree_check.proofs.BranchFacts.{position_of_fact, added_none, added_then, has_more, has_again, facts_none}
-use Rattle.tree_check.proofs.OrRows.{turned_flat}
+use Rattle.tree_check.specs.{Sides.{positions_of, positions_at}, OpenBranches.{IsClosedUnderAnd, IsBranch}}
+use Rattle.tree_check.proofs.{BranchFacts.{position_of_fact, added_none, added_then, has_more, has_again, facts_none}, OrRows.{turned_flat}}
 
 -- keys renamed, a row is as long
 pub stride_node : (k : RowKind NodeKey) (n : ℕ) → stride_of (renamed_kind key_node k) n ≡ stride_of k n

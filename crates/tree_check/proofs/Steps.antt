@@ -1,21 +1,12 @@
 -- What a step makes of the open branches.
 use Rattle.std.proofs.Common.{◌≡◌, ◌≤◌, ℕ, zero, suc, ◌+◌, Bool, true, false, not, List, [], ◌∷◌, ◌++◌, Some, length, take, reverse, refl, sym, ◌∙◌, ap, subst, arith}
-use Rattle.std.specs.Prelude.{Result, Ok, Err, OnOk}
-use Rattle.std.proofs.lemmas.List.{reverse-append}
-use Rattle.pc_common.specs.World.{Node}
-use Rattle.pc_common.specs.Steps.{Leaf, split, close}
-use Rattle.pc_ground.specs.declared.row.Row.{Row}
-use Rattle.pc_ground.specs.declared.version.Version.{Version}
-use Rattle.pc_ground.specs.declared.version.Version.TheVariants.{One, Two}
-use Rattle.pc_ground.specs.Tree.{Tree, negation, turned, size_of}
-use Rattle.pc_ground.specs.Rows.{rows_of}
+use Rattle.std.{proofs.lemmas.List.{reverse-append}, specs.Prelude.{Result, Ok, Err, OnOk}}
+use Rattle.pc_common.specs.{World.{Node}, Steps.{Leaf, split, close}}
+use Rattle.pc_ground.specs.{declared.{row.Row.{Row}, version.Version.{Version, TheVariants.{One, Two}}}, Tree.{Tree, negation, turned, size_of}, Rows.{rows_of}}
 use Rattle.pc_ground.specs.Refutes.{all_signed, Branch, subtree_at, asserted, literals_of, Closes, IsSplit, left_branch, right_branch, Runs}
-use Rattle.pc_ground.proofs.FlatRows.{children_either}
-use Rattle.pc_ground.proofs.Turned.{subtree_denied}
-use Rattle.tree_check.specs.Facts.{PlainFact, HasFacts}
-use Rattle.tree_check.specs.Sides.{positions_of, positions_at, with_all, left_side, right_side}
-use Rattle.tree_check.specs.OpenBranches.{OpenBranches, open_branches, IsBranch, IsLater, AreLater, AreOpen, AreSides, Stands}
-use Rattle.tree_check.specs.declared.later.Later.{Later}
+use Rattle.pc_ground.proofs.{FlatRows.{children_either}, Turned.{subtree_denied}}
+use Rattle.tree_check.specs.{Facts.{PlainFact, HasFacts}, Sides.{positions_of, positions_at, with_all, left_side, right_side}}
+use Rattle.tree_check.specs.{OpenBranches.{OpenBranches, open_branches, IsBranch, IsLater, AreLater, AreOpen, AreSides, Stands}, declared.later.Later.{Later}}
 
 -- a checker that has an open branch
 pub stands_open : (o : OpenBranches) (version : Version) (rows : List (Row Node)) (facts : List PlainFact) (later : List Later) (is_open : Bool)

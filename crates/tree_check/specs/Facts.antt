@@ -1,16 +1,11 @@
 -- What is known on a branch of a tree, as a set of facts.
-use Rattle.std.specs.Prelude.{◌≡◌, ◌↔◌, ◌⊎◌, List, [], ◌∷◌, Option, Some, None, Contains, length, take}
-use Rattle.std.specs.List.{flat_map}
+use Rattle.std.specs.{Prelude.{◌≡◌, ◌↔◌, ◌⊎◌, List, [], ◌∷◌, Option, Some, None, Contains, length, take}, List.{flat_map}}
 use Rattle.pc_common.specs.World.{Node}
-use Rattle.pc_ground.specs.Keys.{key_node}
-use Rattle.pc_ground.specs.declared.literal.Literal.{Literal}
+use Rattle.pc_ground.specs.{Keys.{key_node}, declared.literal.Literal.{Literal}}
 use Rattle.pc_ground.specs.declared.literal.Literal.TheVariants.{Node as a_node, Edge as an_edge, NoNode as not_node, NoEdge as not_edge}
-use Rattle.pc_ground.specs.declared.row.RowKind.{RowKind}
-use Rattle.pc_ground.specs.declared.row.RowKind.TheVariants.{True, False, Lit, And, Or}
-use Rattle.pc_ground.specs.Tree.{Tree, always, never, leaf, both, either}
+use Rattle.pc_ground.specs.{declared.row.RowKind.{RowKind, TheVariants.{True, False, Lit, And, Or}}, Tree.{Tree, always, never, leaf, both, either}}
 use Rattle.pc_ground.specs.Refutes.{Signed, signed, Branch, part_at}
-use Rattle.tree_check.specs.declared.fact.Fact.{Fact}
-use Rattle.tree_check.specs.declared.fact.Fact.TheVariants.{At, Edge, NoEdge, NoNode, Present}
+use Rattle.tree_check.specs.declared.fact.Fact.{Fact, TheVariants.{At, Edge, NoEdge, NoNode, Present}}
 
 -- what can be known on a branch
 pub data PlainFact : Type 0 where

@@ -1,10 +1,7 @@
 -- Laws of the steps of a refutation, of either version.
 use Rattle.std.specs.Prelude.{◌≡◌, ◌↔◌, List, ◌++◌}
-use Rattle.pc_common.specs.World.{Node}
-use Rattle.pc_common.specs.Steps.{Step}
-use Rattle.pc_ground.specs.declared.version.Version.{Version}
-use Rattle.pc_ground.specs.Tree.{Tree}
-use Rattle.pc_ground.specs.Refutes.{Branch, Runs}
+use Rattle.pc_common.specs.{World.{Node}, Steps.{Step}}
+use Rattle.pc_ground.specs.{declared.version.Version.{Version}, Tree.{Tree}, Refutes.{Branch, Runs}}
 
 -- a first part of the steps leads to some branches, and the rest leads from there on
 abbrev pub RunsAreJoined : Type 0

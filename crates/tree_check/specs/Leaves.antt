@@ -1,7 +1,6 @@
 -- What the facts of a branch say of each kind of leaf.
 use Rattle.std.specs.Prelude.{◌≡◌, List, [], ◌∷◌, ◌++◌, Contains}
-use Rattle.pc_common.specs.World.{Node}
-use Rattle.pc_common.specs.Chain.{Leads}
+use Rattle.pc_common.specs.{World.{Node}, Chain.{Leads}}
 use Rattle.tree_check.specs.Facts.{PlainFact, no_edge, no_node, present, HasEdge}
 
 -- each node has an edge to the next one, and the last to the first

@@ -1,15 +1,9 @@
 -- Which open branches a checker stands for, and what a step makes of them.
 use Rattle.std.specs.Prelude.{ℕ, ◌≡◌, ◌≤◌, ◌+◌, Bool, true, false, List, [], ◌∷◌, Some, Contains, length, take, reverse}
-use Rattle.pc_common.specs.World.{Node}
-use Rattle.pc_common.specs.Steps.{Step}
-use Rattle.pc_ground.specs.declared.row.Row.{Row}
-use Rattle.pc_ground.specs.declared.version.Version.{Version}
-use Rattle.pc_ground.specs.Tree.{Tree, turned, size_of}
-use Rattle.pc_ground.specs.Rows.{rows_of}
+use Rattle.pc_common.specs.{World.{Node}, Steps.{Step}}
+use Rattle.pc_ground.specs.{declared.{row.Row.{Row}, version.Version.{Version}}, Tree.{Tree, turned, size_of}, Rows.{rows_of}}
 use Rattle.pc_ground.specs.Refutes.{signed, all_signed, Branch, subtree_at, asserted, IsSplit, Runs}
-use Rattle.tree_check.specs.Facts.{PlainFact, HasFacts}
-use Rattle.tree_check.specs.Sides.{with_all}
-use Rattle.tree_check.specs.declared.later.Later.{Later}
+use Rattle.tree_check.specs.{Facts.{PlainFact, HasFacts}, Sides.{with_all}, declared.later.Later.{Later}}
 
 -- what a checker is seen as
 pub record OpenBranches : Type 0 where

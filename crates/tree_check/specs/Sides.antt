@@ -1,10 +1,7 @@
 -- What a branch gets from one side of a split.
 use Rattle.std.specs.Prelude.{ℕ, ◌<◌, Bool, not, [], ◌++◌, Option, Some, None, IfSome}
 use Rattle.pc_common.specs.World.{Node}
-use Rattle.pc_ground.specs.Tree.{Tree, turned}
-use Rattle.pc_ground.specs.declared.version.Version.{Version}
-use Rattle.pc_ground.specs.declared.version.Version.TheVariants.{One, Two}
-use Rattle.pc_ground.specs.Refutes.{Branch, all_signed, subtree_at, asserted}
+use Rattle.pc_ground.specs.{Tree.{Tree, turned}, declared.version.Version.{Version, TheVariants.{One, Two}}, Refutes.{Branch, all_signed, subtree_at, asserted}}
 use Rattle.tree_check.specs.declared.side.Side.{Side}
 
 -- the positions that a part with this root asserts under a sign

@@ -29,7 +29,7 @@ pub(crate) fn children(
     if !facts.has(Fact::At(negated, position)) {
         return None;
     }
-    match tree.row(position).turned(negated).kind {
+    match tree.row(position).negate_if(negated).kind {
         RowKind::Or => {
             let left = position + 1;
             let right = left + tree.row(left).skip;

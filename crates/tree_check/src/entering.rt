@@ -60,7 +60,7 @@ fn add_part(tree: &Flat, negated: bool, root: usize, facts: &mut Facts) -> Resul
     let end = root + tree.row(root).skip;
     let mut at = root;
     while at < end {
-        let row = tree.row(at).turned(negated);
+        let row = tree.row(at).negate_if(negated);
         add_row(facts, negated, at, row)?;
         at += row.stride();
     }
@@ -75,7 +75,7 @@ fn enter_part(tree: &Flat, negated: bool, root: usize, facts: &mut Facts) -> Res
     ensures entered { OnOk result ((t : Tree Node) (ps : Branch) → tree.now ≡ rows_of t → IsBranch t facts.old ps
         → IsBranch t facts.new (ps ++ positions_at t negated root)) }
 {
-    match tree.row(root).turned(negated).kind {
+    match tree.row(root).negate_if(negated).kind {
         RowKind::Lit(literal) => add_literal(facts, literal),
         _ => {
             if facts.has(Fact::At(negated, root)) {

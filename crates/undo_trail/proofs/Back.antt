@@ -1,11 +1,7 @@
 -- Taking changes back, and the tables on the way.
 use Rattle.std.proofs.Common.{◌≡◌, ◌≢◌, ℕ, zero, suc, ◌<◌, List, [], ◌∷◌, ◌++◌, length, take, drop, get_or, set, refl, sym, ◌∙◌, ap, arith}
-use Rattle.std.specs.Prelude.{All}
-use Rattle.std.proofs.lemmas.List.{set-set, set-get_or, get_or-set_same, length-set}
-use Rattle.std.proofs.lemmas.List.Elements.{All-head, All-tail}
-use Rattle.undo_trail.specs.declared.trail.Change.{Change}
-use Rattle.undo_trail.specs.BitTable.{IsOneWordOn, IsHistory}
-use Rattle.undo_trail.specs.Trail.{back, past, IsChanging}
+use Rattle.std.{proofs.lemmas.List.{set-set, set-get_or, get_or-set_same, length-set, Elements.{All-head, All-tail}}, specs.Prelude.{All}}
+use Rattle.undo_trail.specs.{declared.trail.Change.{Change}, BitTable.{IsOneWordOn, IsHistory}, Trail.{back, past, IsChanging}}
 
 pub back_push : (cs : List Change) (c : Change) (t : List ℕ) → back (cs ++ c ∷ []) t ≡ back cs (set t c.place c.old)
 back_push [] c t = refl

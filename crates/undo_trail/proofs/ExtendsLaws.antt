@@ -1,6 +1,5 @@
 -- Laws of tables that only gain tables.
-use Rattle.std.proofs.Common.{◌≡◌, ℕ, ◌+◌, ◌≤◌, [], length, take, get_or, refl, sym, ◌∙◌, ap, arith, take-take}
-use Rattle.std.proofs.lemmas.List.{get_or-take, get_or_at}
+use Rattle.std.proofs.{Common.{◌≡◌, ℕ, ◌+◌, ◌≤◌, [], length, take, get_or, refl, sym, ◌∙◌, ap, arith, take-take}, lemmas.List.{get_or-take, get_or_at}}
 use Rattle.undo_trail.specs.BitTable.{BitTable, tables, Extends}
 
 pub extends_then : (a b c : BitTable) (m n : ℕ) → Extends a b m → Extends b c n → Extends a c (m + n)

@@ -1,12 +1,8 @@
 -- A trail that grows as words change.
 use Rattle.std.proofs.Common.{◌≡◌, ◌≢◌, ℕ, ◌+◌, ◌<◌, List, [], ◌∷◌, ◌++◌, length, take, drop, get_or, set, refl, sym, ◌∙◌, ap, subst, arith, slice_get, Some, ◌*◌}
-use Rattle.std.proofs.lemmas.List.{set-set, set-get_or, get_or-set_same, length-set, take_at, length_push}
-use Rattle.std.proofs.lemmas.List.Elements.{All-push, All-take}
-use Rattle.undo_trail.specs.declared.trail.Change.{Change}
-use Rattle.undo_trail.specs.BitTable.{IsBitTable}
-use Rattle.undo_trail.specs.Trail.{back, past, table_of, IsChanging, IsTrail, Grows}
-use Rattle.undo_trail.proofs.ExtendsLaws.{extends_then}
-use Rattle.undo_trail.proofs.Back.{back_push, past_push, changing_push, length-back, back_split, changing_split, history}
+use Rattle.std.proofs.lemmas.List.{set-set, set-get_or, get_or-set_same, length-set, take_at, length_push, Elements.{All-push, All-take}}
+use Rattle.undo_trail.specs.{declared.trail.Change.{Change}, BitTable.{IsBitTable}, Trail.{back, past, table_of, IsChanging, IsTrail, Grows}}
+use Rattle.undo_trail.proofs.{ExtendsLaws.{extends_then}, Back.{back_push, past_push, changing_push, length-back, back_split, changing_split, history}}
 
 -- the change of a word
 abbrev pub change : List ℕ → ℕ → Change

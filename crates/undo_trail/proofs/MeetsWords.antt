@@ -1,10 +1,7 @@
 -- Words that have a bit in common.
 use Rattle.std.proofs.Common.{◌≡◌, ◌≢◌, ℕ, ◌+◌, ◌*◌, ◌/◌, ◌%◌, ◌^◌, ◌<◌, ◌≤◌, inl, inr, Bool, true, false, List, length, get_or, bit_or, bit_and, ◌∙◌, ap, arith, eq-eqb, ne_eqb, eqb-true, w64, MatchBool, SomeIndex, EachIndex, below_more, lit<, not, eqb}
-use Rattle.std.specs.Int.{bit_at, trailing_zeros}
-use Rattle.std.specs.Int.Bits.{or_zero_r}
-use Rattle.std.proofs.lemmas.Bool.{cases_eq}
-use Rattle.std.proofs.lemmas.Nat.{le_or_l, le_or_r, and_le_l, div-mul-add, mod-mul-add, div_below}
-use Rattle.std.proofs.lemmas.Nat.Bits.{bit_at_and, bit_at-lt, bit_at-zero, bit_at-trailing_zeros}
+use Rattle.std.proofs.lemmas.{Bool.{cases_eq}, Nat.{le_or_l, le_or_r, and_le_l, div-mul-add, mod-mul-add, div_below}}
+use Rattle.std.{proofs.lemmas.Nat.Bits.{bit_at_and, bit_at-lt, bit_at-zero, bit_at-trailing_zeros}, specs.Int.{bit_at, trailing_zeros, Bits.{or_zero_r}}}
 use Rattle.undo_trail.specs.Bits.{column}
 
 -- the words before k were looked at

@@ -1,10 +1,7 @@
 -- The words of a row that take those of another, one after another.
 use Rattle.std.proofs.Common.{◌≡◌, ◌≢◌, ℕ, ◌+◌, ◌<◌, ◌≤◌, ◌⊎◌, inl, inr, Bool, true, false, ◌||◌, List, length, get_or, set, bit_or, sym, ◌∙◌, ap, arith, MatchBool}
-use Rattle.std.proofs.lemmas.Bool.{cases_eq, or_cases, or_parts, MatchBool-at_true, MatchBool-at_false}
-use Rattle.std.proofs.lemmas.List.{get_or-set_same, get_or-set_other, set-get_or}
-use Rattle.undo_trail.specs.declared.trail.Change.{Change}
-use Rattle.undo_trail.specs.Trail.{Grows}
-use Rattle.undo_trail.proofs.Grows.{grows_then}
+use Rattle.std.proofs.lemmas.{Bool.{cases_eq, or_cases, or_parts, MatchBool-at_true, MatchBool-at_false}, List.{get_or-set_same, get_or-set_other, set-get_or}}
+use Rattle.undo_trail.{specs.{declared.trail.Change.{Change}, Trail.{Grows}}, proofs.Grows.{grows_then}}
 
 -- the first k words were joined
 pub record HasJoinedWords (as0 : List Change) (t : List ℕ) (to from : ℕ) (cs : List Change) (u : List ℕ) (changed : Bool) (k : ℕ) : Type 0 where

@@ -1,7 +1,6 @@
 -- A trail of changes: what each changed word held before, oldest first.
 use Rattle.std.specs.Prelude.{ℕ, List, [], ◌∷◌, ◌≡◌, ◌≢◌, ◌<◌, ◌+◌, length, replicate, slice_set, slice_index, bit_or, All}
-use Rattle.undo_trail.specs.declared.trail.Change.{Change}
-use Rattle.undo_trail.specs.BitTable.{BitTable, Extends}
+use Rattle.undo_trail.specs.{declared.trail.Change.{Change}, BitTable.{BitTable, Extends}}
 
 -- a table with the changes taken back, newest first
 abbrev pub back : List Change → List ℕ → List ℕ

@@ -1,7 +1,6 @@
 -- The value of digits, read from the first one on.
 use Rattle.std.proofs.Common.{◌≡◌, ℕ, ◌+◌, ◌-◌, ◌*◌, ◌<◌, ◌≤◌, List, [], ◌∷◌, length, get_or, take, drop, sym, ap, ◌∙◌, arith, take-append-drop}
-use Rattle.std.specs.Prelude.{fold}
-use Rattle.std.proofs.lemmas.Grind.{fold-append, common_steps}
+use Rattle.std.{proofs.lemmas.Grind.{fold-append, common_steps}, specs.Prelude.{fold}}
 use Rattle.uspec_lexer.specs.Bytes.{number_value}
 
 abbrev more : ℕ → ℕ → ℕ

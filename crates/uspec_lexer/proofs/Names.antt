@@ -1,14 +1,8 @@
 -- Bytes are a name of models and tests exactly where they are one piece, and that is a name.
-use Rattle.std.proofs.Common.{◌≡◌, ◌↔◌, ℕ, zero, suc, ◌-◌, ◌<◌, ◌≤◌, Bool, true, false, ◌&&◌, ◌==◌, List, [], ◌∷◌}
-use Rattle.std.proofs.Common.{IsTrue, length, get_or, take, drop, if◌then◌else◌, refl, sym, ap, ◌∙◌, arith}
-use Rattle.std.proofs.lemmas.List.{take_all}
-use Rattle.std.specs.List.{list_all}
-use Rattle.std.specs.Char.{is_ascii_alphabetic, is_ascii_digit}
-use Rattle.uspec_lexer.specs.Token.{name}
-use Rattle.uspec_lexer.specs.Bytes.{is_blank, is_name_byte, is_name}
-use Rattle.uspec_lexer.specs.Models.{models, opens_line, is_short_symbol, is_long_symbol}
-use Rattle.uspec_lexer.specs.Piece.{IsPiece, token, opening_at, opening_of}
-use Rattle.uspec_lexer.specs.declared.grammar.Opening.{Opening}
+use Rattle.std.proofs.Common.{◌≡◌, ◌↔◌, ℕ, zero, suc, ◌-◌, ◌<◌, ◌≤◌, Bool, true, false, ◌&&◌, ◌==◌, List, [], ◌∷◌, IsTrue, length, get_or, take, drop, if◌then◌else◌, refl, sym, ap, ◌∙◌, arith}
+use Rattle.std.{proofs.lemmas.List.{take_all}, specs.{List.{list_all}, Char.{is_ascii_alphabetic, is_ascii_digit}}}
+use Rattle.uspec_lexer.specs.{Token.{name}, Bytes.{is_blank, is_name_byte, is_name}, Models.{models, opens_line, is_short_symbol, is_long_symbol}}
+use Rattle.uspec_lexer.specs.{Piece.{IsPiece, token, opening_at, opening_of}, declared.grammar.Opening.{Opening}}
 use Rattle.uspec_lexer.specs.declared.grammar.Opening.TheVariants.{Blank, LineComment, BlockComment, Name, Number, Text, ShortSymbol, LongSymbol, Nothing}
 
 both : (a b : Bool) → (a && b) ≡ true → (a ≡ true) × (b ≡ true)

@@ -1,15 +1,9 @@
 -- The tokens that a text spells: each is a piece of the text, none begins before the one ahead of it ends, and there
 -- are no more of them than bytes.
-use Rattle.std.proofs.Common.{◌≡◌, ℕ, zero, suc, ◌+◌, ◌-◌, ◌<◌, ◌≤◌, List, [], ◌∷◌, ◌++◌, length, drop, Some, sym, ap, subst, arith}
-use Rattle.std.proofs.Common.{length-append, length-drop}
-use Rattle.std.specs.Prelude.{⊤, slice_get, slice_range}
-use Rattle.std.proofs.lemmas.List.{length-take-le}
-use Rattle.uspec_lexer.specs.Token.{Token}
-use Rattle.uspec_lexer.specs.Table.{Table}
-use Rattle.uspec_lexer.specs.Piece.{Form, blank, comment, token, IsPiece}
-use Rattle.uspec_lexer.specs.Spells.{Piece, Joined, tokens_of_piece, tokens_of, SpellsFrom}
-use Rattle.uspec_lexer.specs.Laws.{IsTokenOf}
-use Rattle.uspec_lexer.proofs.Pieces.{piece-rises, piece-within}
+use Rattle.std.proofs.Common.{◌≡◌, ℕ, zero, suc, ◌+◌, ◌-◌, ◌<◌, ◌≤◌, List, [], ◌∷◌, ◌++◌, length, drop, Some, sym, ap, subst, arith, length-append, length-drop}
+use Rattle.std.{proofs.lemmas.List.{length-take-le}, specs.Prelude.{⊤, slice_get, slice_range}}
+use Rattle.uspec_lexer.specs.{Token.{Token}, Table.{Table}, Piece.{Form, blank, comment, token, IsPiece}}
+use Rattle.uspec_lexer.{specs.{Spells.{Piece, Joined, tokens_of_piece, tokens_of, SpellsFrom}, Laws.{IsTokenOf}}, proofs.Pieces.{piece-rises, piece-within}}
 
 -- tokens of the text, the first at a or after it, each other after the end of the one before
 abbrev pub AreTokensFrom : Table → List ℕ → ℕ → List Token → Type 0

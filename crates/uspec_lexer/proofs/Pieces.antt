@@ -1,12 +1,7 @@
 -- At each place stands one piece at most.
 use Rattle.std.proofs.Common.{◌≡◌, ◌≢◌, ℕ, ◌+◌, ◌-◌, ◌<◌, ◌≤◌, ◌⊎◌, Bool, true, false, List, length, get_or, sym, ap, ◌∙◌, refl, arith, ⊎_elim, inl, inr}
-use Rattle.std.specs.Prelude.{slice_range}
-use Rattle.std.specs.Char.{is_ascii_digit}
-use Rattle.std.proofs.str.Laws.{order}
-use Rattle.std.proofs.lemmas.List.{get_or_past}
-use Rattle.uspec_lexer.specs.Token.{Kind, name, number, text, symbol}
-use Rattle.uspec_lexer.specs.Bytes.{is_text_byte, number_value}
-use Rattle.uspec_lexer.specs.Table.{Table}
+use Rattle.std.{proofs.{str.Laws.{order}, lemmas.List.{get_or_past}}, specs.{Prelude.{slice_range}, Char.{is_ascii_digit}}}
+use Rattle.uspec_lexer.specs.{Token.{Kind, name, number, text, symbol}, Bytes.{is_text_byte, number_value}, Table.{Table}}
 use Rattle.uspec_lexer.specs.Piece.{Form, blank, comment, token, opening_at, IsRun, IsBlockComment, IsText, IsPiece, NoPiece}
 use Rattle.uspec_lexer.specs.declared.grammar.Opening.{Opening}
 use Rattle.uspec_lexer.specs.declared.grammar.Opening.TheVariants.{Blank, LineComment, BlockComment, Name, Number, Text, ShortSymbol, LongSymbol, Nothing}

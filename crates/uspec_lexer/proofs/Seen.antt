@@ -1,6 +1,5 @@
 -- The terminals of tokens, one after the other.
-use Rattle.std.proofs.Common.{◌≡◌, ℕ, ◌+◌, ◌<◌, List, [], ◌∷◌, ◌++◌, Some, length, map, take, get_or, slice_get, sym, ap, ◌∙◌}
-use Rattle.std.proofs.lemmas.List.{map_more}
+use Rattle.std.proofs.{Common.{◌≡◌, ℕ, ◌+◌, ◌<◌, List, [], ◌∷◌, ◌++◌, Some, length, map, take, get_or, slice_get, sym, ap, ◌∙◌}, lemmas.List.{map_more}}
 use Rattle.std.proofs.lemmas.Option.{get_or_from_slice_get}
 use Rattle.uspec_lexer.specs.Token.{Token}
 

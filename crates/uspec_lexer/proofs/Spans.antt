@@ -1,18 +1,9 @@
 -- What the loop of `tokens_from` keeps: the spans so far are those of the tokens before a place.
 use Rattle.std.proofs.Common.{◌≡◌, ℕ, ◌+◌, ◌-◌, ◌≤◌, List, [], ◌∷◌, ◌++◌, length, map, sym, ap, ◌∙◌, refl, subst, arith, length-append}
-use Rattle.std.specs.Prelude.{All, slice_range}
-use Rattle.std.proofs.lemmas.List.{append-nil, map-append}
-use Rattle.std.proofs.lemmas.List.Elements.{All-push}
-use Rattle.uspec_lexer.specs.Token.{Token as PlainToken}
-use Rattle.uspec_lexer.specs.Span.{token_at, kind_of_token, IsWithin}
-use Rattle.uspec_lexer.specs.Scan.{plain_form, spans_of_form}
-use Rattle.uspec_lexer.specs.Spells.{tokens_of_piece, SpellsBetween}
-use Rattle.uspec_lexer.specs.Table.{Table}
-use Rattle.uspec_lexer.specs.Piece.{IsPiece}
-use Rattle.uspec_lexer.specs.declared.scan.Form.{Form}
-use Rattle.uspec_lexer.specs.declared.scan.Form.TheVariants.{Blank, Comment, Token}
-use Rattle.uspec_lexer.specs.declared.list.Span.{Span}
-use Rattle.uspec_lexer.proofs.Pieces.{piece-rises, piece-within}
+use Rattle.std.{proofs.lemmas.List.{append-nil, map-append, Elements.{All-push}}, specs.Prelude.{All, slice_range}}
+use Rattle.uspec_lexer.specs.{Token.{Token as PlainToken}, Span.{token_at, kind_of_token, IsWithin}, Scan.{plain_form, spans_of_form}}
+use Rattle.uspec_lexer.specs.{Spells.{tokens_of_piece, SpellsBetween}, Table.{Table}, Piece.{IsPiece}, declared.scan.Form.{Form}}
+use Rattle.uspec_lexer.{specs.declared.{scan.Form.TheVariants.{Blank, Comment, Token}, list.Span.{Span}}, proofs.Pieces.{piece-rises, piece-within}}
 use Rattle.uspec_lexer.proofs.SpellsLaws.{spells-push}
 
 pub record LexedTo (t : Table) (bytes : List ℕ) (from a : ℕ) (spans : List Span) : Type 0 where

@@ -1,7 +1,6 @@
 -- Tokens that spell what is expected.
 use Rattle.std.proofs.Common.{◌≡◌, ℕ, zero, suc, List, [], ◌∷◌, ◌++◌, Some, map, length, slice_get, refl, ap, subst, ◌∙◌}
-use Rattle.uspec_lexer.specs.Token.{Token}
-use Rattle.uspec_lexer.specs.Expected.{Expected, Is, Spell}
+use Rattle.uspec_lexer.specs.{Token.{Token}, Expected.{Expected, Is, Spell}}
 
 -- one row of tokens after another
 pub spell-append : (es fs : List Expected) (ts us : List Token) → Spell es ts → Spell fs us → Spell (es ++ fs) (ts ++ us)

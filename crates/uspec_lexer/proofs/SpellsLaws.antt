@@ -1,9 +1,6 @@
 -- A text spells one list of tokens at most, and none where a lexical fault stands.
-use Rattle.std.proofs.Common.{◌≡◌, ℕ, ◌≤◌, List, [], ◌∷◌, ◌++◌, length, sym, ap, ◌∙◌, refl, subst, arith, append_assoc}
-use Rattle.std.proofs.lemmas.List.{append-nil}
-use Rattle.uspec_lexer.specs.Token.{Token}
-use Rattle.uspec_lexer.specs.Table.{Table}
-use Rattle.uspec_lexer.specs.Piece.{Form, IsPiece, NoPiece}
+use Rattle.std.proofs.{Common.{◌≡◌, ℕ, ◌≤◌, List, [], ◌∷◌, ◌++◌, length, sym, ap, ◌∙◌, refl, subst, arith, append_assoc}, lemmas.List.{append-nil}}
+use Rattle.uspec_lexer.specs.{Token.{Token}, Table.{Table}, Piece.{Form, IsPiece, NoPiece}}
 use Rattle.uspec_lexer.specs.Spells.{Piece, Joined, tokens_of_piece, tokens_of, SpellsBetween, SpellsFrom, IsFaultFrom}
 use Rattle.uspec_lexer.proofs.Pieces.{piece-unique, piece-rises}
 

@@ -1,19 +1,11 @@
 -- Each text spells tokens or has a lexical fault.
-use Rattle.std.proofs.Common.{◌≡◌, ℕ, zero, suc, ◌+◌, ◌-◌, ◌<◌, ◌≤◌, ◌⊎◌, List, [], ◌∷◌, ◌++◌, length, get_or, Bool, true, false}
-use Rattle.std.proofs.Common.{refl, subst, arith, ⊎_elim, inl, inr}
-use Rattle.std.specs.Prelude.{slice_range}
-use Rattle.std.specs.Char.{is_ascii_digit}
-use Rattle.std.proofs.str.Laws.{order}
-use Rattle.uspec_lexer.specs.Token.{Token, name, number, text, symbol}
-use Rattle.uspec_lexer.specs.Bytes.{is_text_byte, is_line_byte, number_value}
-use Rattle.uspec_lexer.specs.Table.{Table}
-use Rattle.uspec_lexer.specs.Models.{models}
+use Rattle.std.proofs.Common.{◌≡◌, ℕ, zero, suc, ◌+◌, ◌-◌, ◌<◌, ◌≤◌, ◌⊎◌, List, [], ◌∷◌, ◌++◌, length, get_or, Bool, true, false, refl, subst, arith, ⊎_elim, inl, inr}
+use Rattle.std.{proofs.str.Laws.{order}, specs.{Prelude.{slice_range}, Char.{is_ascii_digit}}}
+use Rattle.uspec_lexer.specs.{Token.{Token, name, number, text, symbol}, Bytes.{is_text_byte, is_line_byte, number_value}, Table.{Table}, Models.{models}}
 use Rattle.uspec_lexer.specs.Piece.{Form, blank, comment, token, opening_at, IsRun, ClosesBlock, IsBlockComment, IsPiece, NoPiece}
-use Rattle.uspec_lexer.specs.Spells.{Piece, Joined, tokens_of, SpellsFrom, IsFaultFrom, Spells, IsLexicalFault}
-use Rattle.uspec_lexer.specs.declared.grammar.Opening.{Opening}
+use Rattle.uspec_lexer.specs.{Spells.{Piece, Joined, tokens_of, SpellsFrom, IsFaultFrom, Spells, IsLexicalFault}, declared.grammar.Opening.{Opening}}
 use Rattle.uspec_lexer.specs.declared.grammar.Opening.TheVariants.{Blank, LineComment, BlockComment, Name, Number, Text, ShortSymbol, LongSymbol, Nothing}
-use Rattle.uspec_lexer.proofs.Pieces.{no_block, no_number, no_text, no_room, no_opening, piece-rises, piece-within, inside_text}
-use Rattle.uspec_lexer.proofs.SpellsLaws.{joined-push}
+use Rattle.uspec_lexer.proofs.{Pieces.{no_block, no_number, no_text, no_room, no_opening, piece-rises, piece-within, inside_text}, SpellsLaws.{joined-push}}
 
 abbrev Decided : Type 0 → Type 0
 Decided P = P ⊎ (¬ P)

@@ -1,9 +1,6 @@
 -- What a token is, by its terminal.
 use Rattle.std.proofs.Common.{◌≡◌, ℕ, Bool, true, false, ◌&&◌, ◌==◌, ◌<◌, List, [], ◌∷◌, if◌then◌else◌, map, refl, sym, ap, subst, ◌∙◌, ◌⊎◌, inl, inr, arith}
-use Rattle.std.specs.List.{list_all}
-use Rattle.std.specs.Str.{bytes_eq}
-use Rattle.std.proofs.lemmas.Bool.{eqb-true}
-use Rattle.std.proofs.lemmas.Slice.Eq.{bytes_eq-Decides}
+use Rattle.std.{proofs.lemmas.{Bool.{eqb-true}, Slice.Eq.{bytes_eq-Decides}}, specs.{List.{list_all}, Str.{bytes_eq}}}
 use Rattle.uspec_lexer.specs.Token.{Token, Kind, name, number, text, symbol}
 use Rattle.uspec_lexer.specs.Expected.{Expected, a_word, placed_word, a_number, placed_number, a_text, a_symbol, placed_symbol, Is, Spell}
 use Rattle.uspec_lexer.specs.Vocabulary.{Vocabulary, find_terminal, kind_terminal, token_terminal, expected_terminal}

@@ -1,10 +1,6 @@
 -- What a refusal means: want of memory is tied to nothing.
 use Rattle.std.specs.Prelude.{ℕ, List, ⊤}
-use Rattle.uspec_lexer.specs.Table.{Table}
-use Rattle.uspec_lexer.specs.Models.{models}
-use Rattle.uspec_lexer.specs.Spells.{IsFaultFrom}
-use Rattle.uspec_lexer.specs.declared.fault.LexFault.{LexFault}
-use Rattle.uspec_lexer.specs.declared.fault.LexFault.TheVariants.{Lexical, Memory}
+use Rattle.uspec_lexer.specs.{Table.{Table}, Models.{models}, Spells.{IsFaultFrom}, declared.fault.LexFault.{LexFault, TheVariants.{Lexical, Memory}}}
 
 abbrev pub IsRefusalFrom : Table → List ℕ → ℕ → LexFault → Type 0
 IsRefusalFrom t bytes from (Lexical place) = IsFaultFrom t bytes from place.offset

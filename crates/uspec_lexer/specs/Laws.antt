@@ -1,9 +1,6 @@
 -- What holds of every text, from any place in it.
 use Rattle.std.specs.Prelude.{◌≡◌, ◌⊎◌, ℕ, ◌+◌, ◌<◌, ◌≤◌, List, Some, length, slice_get, slice_range}
-use Rattle.uspec_lexer.specs.Token.{Token}
-use Rattle.uspec_lexer.specs.Table.{Table}
-use Rattle.uspec_lexer.specs.Piece.{token, IsPiece}
-use Rattle.uspec_lexer.specs.Spells.{SpellsFrom, IsFaultFrom}
+use Rattle.uspec_lexer.specs.{Token.{Token}, Table.{Table}, Piece.{token, IsPiece}, Spells.{SpellsFrom, IsFaultFrom}}
 
 abbrev pub HasTokensOrFault : Table → List ℕ → ℕ → Type 0
 HasTokensOrFault t bytes from =

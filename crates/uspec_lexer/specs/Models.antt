@@ -1,9 +1,6 @@
 -- The lexical grammar of models and tests.
-use Rattle.std.specs.Prelude.{ℕ, ◌==◌, Bool, ◌&&◌, ◌||◌, codes, if◌then◌else◌}
-use Rattle.std.specs.List.{list_any}
-use Rattle.uspec_lexer.specs.Bytes.{is_name_byte}
-use Rattle.uspec_lexer.specs.Table.{Table}
-use Rattle.uspec_lexer.specs.declared.grammar.Opening.{Opening}
+use Rattle.std.specs.{Prelude.{ℕ, ◌==◌, Bool, ◌&&◌, ◌||◌, codes, if◌then◌else◌}, List.{list_any}}
+use Rattle.uspec_lexer.specs.{Bytes.{is_name_byte}, Table.{Table}, declared.grammar.Opening.{Opening}}
 use Rattle.uspec_lexer.specs.declared.grammar.Opening.TheVariants.{LineComment, Text, ShortSymbol, LongSymbol, Nothing}
 
 -- % or //

@@ -2,11 +2,8 @@
 -- at a place, the longest. Bytes are read by place, 0 past a text's end.
 use Rattle.std.specs.Prelude.{◌≡◌, ℕ, ◌+◌, ◌-◌, ◌==◌, ◌<◌, ◌≤◌, ◌⊎◌, Bool, ◌&&◌, IsTrue, IsFalse, List, length, slice_index, slice_range, if◌then◌else◌}
 use Rattle.std.specs.Char.{is_ascii_alphabetic, is_ascii_digit}
-use Rattle.uspec_lexer.specs.Token.{Kind, name, number, text, symbol}
-use Rattle.uspec_lexer.specs.Bytes.{is_blank, is_text_byte, is_line_byte, number_value}
-use Rattle.uspec_lexer.specs.Table.{Table}
-use Rattle.uspec_lexer.specs.declared.grammar.Opening.{Opening}
-use Rattle.uspec_lexer.specs.declared.grammar.Opening.TheVariants.{Blank, LineComment, BlockComment, Name, Number, Text, ShortSymbol, LongSymbol}
+use Rattle.uspec_lexer.specs.{Token.{Kind, name, number, text, symbol}, Bytes.{is_blank, is_text_byte, is_line_byte, number_value}, Table.{Table}}
+use Rattle.uspec_lexer.specs.declared.grammar.Opening.{Opening, TheVariants.{Blank, LineComment, BlockComment, Name, Number, Text, ShortSymbol, LongSymbol}}
 
 pub data Form : Type 0 where
   blank : Form

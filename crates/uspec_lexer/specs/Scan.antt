@@ -1,16 +1,8 @@
 -- What the scanner's answers mean.
-use Rattle.std.specs.Prelude.{ℕ, ◌-◌, Bool, List, [], ◌∷◌, Option, Some, None}
-use Rattle.std.specs.Char.{is_ascii_digit}
-use Rattle.uspec_lexer.specs.Bytes.{is_text_byte, is_line_byte}
-use Rattle.uspec_lexer.specs.Table.{Table}
-use Rattle.uspec_lexer.specs.Piece.{Form as PlainForm, blank, comment, token, IsPiece, NoPiece}
-use Rattle.uspec_lexer.specs.Span.{kind_of_token}
-use Rattle.uspec_lexer.specs.declared.class.Class.{Class}
-use Rattle.uspec_lexer.specs.declared.class.Class.TheVariants.{NameByte, Digit, TextByte, LineByte}
-use Rattle.uspec_lexer.specs.declared.scan.Form.{Form}
-use Rattle.uspec_lexer.specs.declared.scan.Form.TheVariants.{Blank, Comment, Token}
-use Rattle.uspec_lexer.specs.declared.scan.Piece.{Piece}
-use Rattle.uspec_lexer.specs.declared.list.Span.{Span}
+use Rattle.std.specs.{Prelude.{ℕ, ◌-◌, Bool, List, [], ◌∷◌, Option, Some, None}, Char.{is_ascii_digit}}
+use Rattle.uspec_lexer.specs.{Bytes.{is_text_byte, is_line_byte}, Table.{Table}, Piece.{Form as PlainForm, blank, comment, token, IsPiece, NoPiece}}
+use Rattle.uspec_lexer.specs.{Span.{kind_of_token}, declared.{class.Class.{Class, TheVariants.{NameByte, Digit, TextByte, LineByte}}, scan.Form.{Form}}}
+use Rattle.uspec_lexer.specs.declared.{scan.{Form.TheVariants.{Blank, Comment, Token}, Piece.{Piece}}, list.Span.{Span}}
 
 abbrev pub is_in : Table → Class → ℕ → Bool
 is_in t NameByte c = t.is_name_byte c

@@ -1,8 +1,6 @@
 -- A span of a text, and the token that stands there.
 use Rattle.std.specs.Prelude.{ℕ, ◌+◌, ◌≤◌, List, slice_range, length}
-use Rattle.uspec_lexer.specs.Token.{Token, Kind, name, number, text, symbol}
-use Rattle.uspec_lexer.specs.declared.token.TokenKind.{TokenKind}
-use Rattle.uspec_lexer.specs.declared.token.TokenKind.TheVariants.{Name, Number, Text, Symbol}
+use Rattle.uspec_lexer.specs.{Token.{Token, Kind, name, number, text, symbol}, declared.token.TokenKind.{TokenKind, TheVariants.{Name, Number, Text, Symbol}}}
 use Rattle.uspec_lexer.specs.declared.list.Span.{Span}
 
 abbrev pub kind_of_token : TokenKind → Kind

@@ -1,9 +1,6 @@
 -- What a text spells from a place on: pieces put together up to its end, and those of them that are tokens.
 use Rattle.std.specs.Prelude.{◌≡◌, ℕ, ◌<◌, List, [], ◌∷◌, ◌++◌, length, slice_range}
-use Rattle.uspec_lexer.specs.Token.{Token}
-use Rattle.uspec_lexer.specs.Table.{Table}
-use Rattle.uspec_lexer.specs.Models.{models}
-use Rattle.uspec_lexer.specs.Piece.{Form, blank, comment, token, IsPiece, NoPiece}
+use Rattle.uspec_lexer.specs.{Token.{Token}, Table.{Table}, Models.{models}, Piece.{Form, blank, comment, token, IsPiece, NoPiece}}
 
 pub record Piece : Type 0 where
   pub form : Form

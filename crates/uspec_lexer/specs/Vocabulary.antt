@@ -1,6 +1,5 @@
 -- Which terminal of a grammar a token is.
-use Rattle.std.specs.Prelude.{ℕ, ◌==◌, List, [], ◌∷◌, if◌then◌else◌}
-use Rattle.std.specs.Str.{bytes_eq}
+use Rattle.std.specs.{Prelude.{ℕ, ◌==◌, List, [], ◌∷◌, if◌then◌else◌}, Str.{bytes_eq}}
 use Rattle.uspec_lexer.specs.Token.{Token, Kind, name, number, text, symbol}
 use Rattle.uspec_lexer.specs.Expected.{Expected, a_word, placed_word, a_number, placed_number, a_text, a_symbol, placed_symbol}
 

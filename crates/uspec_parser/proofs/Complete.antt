@@ -1,22 +1,14 @@
 -- Of a text the descent makes what it means.
 use Rattle.std.proofs.Common.{◌≡◌, Bool, true, false, List, [], ◌∷◌, ◌++◌, Option, Some, None, map, refl, sym, ap, subst, ◌∙◌, append_assoc}
-use Rattle.pc_syntax.specs.declared.term.Sort.{Sort}
-use Rattle.pc_syntax.specs.declared.term.Sort.TheVariants.{Microop as microop, Core as core}
-use Rattle.pc_syntax.specs.declared.term.Word.{Word}
-use Rattle.pc_syntax.specs.declared.term.Arg.{Arg}
-use Rattle.pc_syntax.specs.declared.term.Arg.TheVariants.{Word as word_arg, Number as number_arg}
-use Rattle.pc_syntax.specs.declared.term.NodeTerm.{NodeTerm}
-use Rattle.pc_syntax.specs.declared.term.EdgeTerm.{EdgeTerm}
+use Rattle.pc_syntax.specs.declared.term.{Sort.{Sort, TheVariants.{Microop as microop, Core as core}}, Word.{Word}, Arg.{Arg}}
+use Rattle.pc_syntax.specs.declared.term.{Arg.TheVariants.{Word as word_arg, Number as number_arg}, NodeTerm.{NodeTerm}, EdgeTerm.{EdgeTerm}}
 use Rattle.pc_syntax.specs.Written.{Written, edges_, nodes_, axiom_, macro_}
-use Rattle.uspec_parser.specs.Terminals.{Lexeme, plain, placed, quoted}
-use Rattle.uspec_parser.specs.declared.operands.Connective.{Connective}
+use Rattle.uspec_parser.specs.{Terminals.{Lexeme, plain, placed, quoted}, declared.operands.Connective.{Connective}}
 use Rattle.uspec_parser.specs.declared.operands.Connective.TheVariants.{And as conjoins, Or as disjoins, Implies as implies}
-use Rattle.uspec_parser.specs.Operands.{Operands, chain, formula_of}
-use Rattle.uspec_parser.specs.Syntax.{spelled_arg, spelled_node, Labels, unlabelled, labelled, coloured, spelled_labels, Edge, spelled_edge, Listing, empty, some, spelled_others, spelled_elements, elements, one_edge, one_node, edge_list, node_list, expand, predicate, spelled_atom, meant_atom, Quantifier, spelled_sort, spelled_connective, Formula, last, last_wide, more, Wide, binding, negated_wide, spelled_formula, spelled_operand, spelled_wide, meant_operands, meant_operand, meant_wide, quantified}
-use Rattle.uspec_parser.specs.Syntax.{Atom as AtomText, Operand as OperandText, spelled_quantifier_word, Item as ItemText, stage as stage_text, axiom_item, macro, spelled_model, stages_of, items_of}
+use Rattle.uspec_parser.specs.{declared.terminal.Terminal.TheVariants.{Forall, Exists, Open, Close, Comma, Colon, Dot}, Operands.{Operands, chain, formula_of}}
+use Rattle.uspec_parser.specs.Syntax.{spelled_arg, spelled_node, Labels, unlabelled, labelled, coloured, spelled_labels, Edge, spelled_edge, Listing, empty, some, spelled_others, spelled_elements, elements, one_edge, one_node, edge_list, node_list, expand, predicate, spelled_atom, meant_atom, Quantifier, spelled_sort, spelled_connective, Formula, last, last_wide, more, Wide, binding, negated_wide, spelled_formula, spelled_operand, spelled_wide, meant_operands, meant_operand, meant_wide, quantified, Atom as AtomText, Operand as OperandText, spelled_quantifier_word, Item as ItemText, stage as stage_text, axiom_item, macro, spelled_model, stages_of, items_of}
 use Rattle.uspec_parser.specs.Syntax.Operand.{atom as u_atom, bracketed as u_bracketed, negated as u_negated}
 use Rattle.uspec_parser.specs.Descent.{next, behind, sort_by, begins_argument, Arguments, behind_semicolon, behind_label, Elements, node, behind_node, edge, behind_edge, connective, Operand, Row, Tail, is_quoted, Parameters, Item, Items}
-use Rattle.uspec_parser.specs.declared.terminal.Terminal.TheVariants.{Forall, Exists, Open, Close, Comma, Colon, Dot}
 
 -- no argument comes next
 abbrev pub EndsAtom : List Lexeme → Type 0

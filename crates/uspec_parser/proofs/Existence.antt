@@ -1,16 +1,9 @@
 -- Tokens have an answer as a model and one as a formula.
 use Rattle.std.specs.Prelude.{List}
-use Rattle.ll_grammar.specs.Rules.{Derives}
-use Rattle.ll_grammar.specs.FirstFault.{AreDecided, HasAnswer}
-use Rattle.ll_grammar.proofs.Existence.{decided_by, some_answer}
-use Rattle.ll_grammar.proofs.Faults.{answer-along}
-use Rattle.uspec_parser.specs.Marks.{IsMarkedModel, IsMarkedFormula}
-use Rattle.uspec_parser.specs.Levels.{level_of}
-use Rattle.uspec_parser.specs.Phrases.{rules, follow, terminals, listed, is_predictable, has_texts}
-use Rattle.uspec_parser.specs.declared.terminal.Terminal.{Terminal}
-use Rattle.uspec_parser.specs.declared.phrase.Phrase.TheVariants.{Items, Operand}
-use Rattle.uspec_parser.proofs.DerivedIsMarked.{marked_model_of, marked_formula_of}
-use Rattle.uspec_parser.proofs.MarkedIsDerived.{model_derived, formula_derived}
+use Rattle.ll_grammar.{specs.{Rules.{Derives}, FirstFault.{AreDecided, HasAnswer}}, proofs.{Existence.{decided_by, some_answer}, Faults.{answer-along}}}
+use Rattle.uspec_parser.specs.{Marks.{IsMarkedModel, IsMarkedFormula}, Levels.{level_of}, Phrases.{rules, follow, terminals, listed, is_predictable, has_texts}}
+use Rattle.uspec_parser.specs.declared.{terminal.Terminal.{Terminal}, phrase.Phrase.TheVariants.{Items, Operand}}
+use Rattle.uspec_parser.proofs.{DerivedIsMarked.{marked_model_of, marked_formula_of}, MarkedIsDerived.{model_derived, formula_derived}}
 
 -- two terminals are one or are not
 decided : AreDecided Terminal

@@ -1,9 +1,7 @@
 -- A list of operands grouped from its last one on.
 use Rattle.std.proofs.Common.{◌≡◌, List, [], ◌∷◌, ◌++◌, refl, ap}
 use Rattle.pc_syntax.specs.Written.{written}
-use Rattle.uspec_parser.specs.Operands.{Operands, chain, Grouped, before, group}
-use Rattle.uspec_parser.specs.Grouping.{operands_before, grouped_before}
-use Rattle.uspec_parser.specs.declared.operands.Link.{Link}
+use Rattle.uspec_parser.specs.{Operands.{Operands, chain, Grouped, before, group}, Grouping.{operands_before, grouped_before}, declared.operands.Link.{Link}}
 
 -- the last of the operands goes before the grouping
 pub grouped_before-push : (js : List Link) (j : Link) (g : Grouped)

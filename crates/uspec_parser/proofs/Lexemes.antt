@@ -1,9 +1,7 @@
 -- The lexemes that are left, by the place of the next token.
 use Rattle.std.proofs.Common.{◌≡◌, ℕ, zero, suc, ◌<◌, ◌≤◌, List, [], ◌∷◌, Some, length, map, drop, slice_get, slice_index_or, refl, sym, ap, arith}
 use Rattle.uspec_lexer.specs.Token.{Token}
-use Rattle.uspec_parser.specs.Terminals.{terminal, terminal_of, lexeme_by, lexeme}
-use Rattle.uspec_parser.specs.Descent.{next, behind}
-use Rattle.uspec_parser.specs.declared.terminal.Terminal.{Terminal}
+use Rattle.uspec_parser.specs.{Terminals.{terminal, terminal_of, lexeme_by, lexeme}, Descent.{next, behind}, declared.terminal.Terminal.{Terminal}}
 use Rattle.uspec_parser.specs.declared.terminal.Terminal.TheVariants.{Name}
 
 -- the lexeme by a terminal has it

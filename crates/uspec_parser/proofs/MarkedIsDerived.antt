@@ -1,28 +1,20 @@
 -- The table reads each text of the grammar, with its marks.
 use Rattle.std.proofs.Common.{◌≡◌, ℕ, ◌+◌, Bool, true, false, List, [], ◌∷◌, ◌++◌, Option, Some, None, map, refl, sym, subst, append_assoc}
 use Rattle.std.proofs.lemmas.List.{append-nil, map-append}
-use Rattle.pc_syntax.specs.declared.term.Sort.{Sort}
-use Rattle.pc_syntax.specs.declared.term.Sort.TheVariants.{Microop as microop, Core as core}
-use Rattle.pc_syntax.specs.declared.term.Word.{Word}
-use Rattle.pc_syntax.specs.declared.term.Arg.{Arg}
-use Rattle.pc_syntax.specs.declared.term.Arg.TheVariants.{Word as word_arg, Number as number_arg}
-use Rattle.pc_syntax.specs.declared.term.NodeTerm.{NodeTerm}
-use Rattle.ll_grammar.specs.Rules.{Derives}
-use Rattle.ll_grammar.specs.declared.grammar.Symbol.TheVariants.{Terminal as a_terminal, Nonterminal as a_nonterminal}
-use Rattle.ll_grammar.proofs.DerivesLaws.{derives-begin, derives-end}
-use Rattle.ll_grammar.proofs.DerivesLaws.Each.{none, class, part}
-use Rattle.uspec_parser.specs.Terminals.{Lexeme, plain, name_, quoted, terminal}
-use Rattle.uspec_parser.specs.declared.operands.Connective.{Connective}
-use Rattle.uspec_parser.specs.declared.operands.Connective.TheVariants.{And as conjoins, Or as disjoins, Implies as implies}
-use Rattle.uspec_parser.specs.Syntax.{spelled_arg, spelled_location, spelled_node, Label, named, other, spelled_label, Labels, unlabelled, labelled, coloured, spelled_labels, Edge as EdgeText, spelled_edge, Listing, empty, some, spelled_others, spelled_elements, Atom, one_edge, one_node, edge_list, node_list, expand, predicate, spelled_atom, spelled_sort, spelled_quantifier_word, spelled_connective, Formula, last, last_wide, more, Operand as OperandText, atom, bracketed, negated, Wide, binding, negated_wide, spelled_formula, spelled_operand, spelled_wide, Item, stage, axiom_item, macro, spelled_model}
-use Rattle.uspec_parser.specs.Levels.{is_deep, level_of, level_after_and, level_after_or, level_after_implies}
-use Rattle.uspec_parser.specs.Marks.{shallow, open_at, level_behind, marks_formula, marks_operand, marks_wide, marks_model, IsMarkedFormula, IsMarkedModel}
-use Rattle.uspec_parser.specs.Phrases.{rules}
-use Rattle.uspec_parser.specs.declared.level.Level.{Level}
+use Rattle.pc_syntax.specs.declared.term.{Sort.{Sort, TheVariants.{Microop as microop, Core as core}}, Word.{Word}, Arg.{Arg}}
+use Rattle.pc_syntax.specs.declared.term.{Arg.TheVariants.{Word as word_arg, Number as number_arg}, NodeTerm.{NodeTerm}}
+use Rattle.ll_grammar.specs.{Rules.{Derives}, declared.grammar.Symbol.TheVariants.{Terminal as a_terminal, Nonterminal as a_nonterminal}}
+use Rattle.ll_grammar.proofs.DerivesLaws.{derives-begin, derives-end, Each.{none, class, part}}
+use Rattle.uspec_parser.specs.{Terminals.{Lexeme, plain, name_, quoted, terminal}, declared.operands.Connective.{Connective}}
+use Rattle.uspec_parser.specs.declared.{operands.Connective.TheVariants.{And as conjoins, Or as disjoins, Implies as implies}, level.Level.{Level}}
 use Rattle.uspec_parser.specs.declared.terminal.Terminal.{Terminal}
 use Rattle.uspec_parser.specs.declared.terminal.Terminal.TheVariants.{StageName, Axiom, DefineMacro, ExpandMacro, Forall, Exists, Microop, Core, OneEdge, EdgeList, OneNode, NodeList, Name, Number, Quoted, Text, Open, Close, OpenBracket, CloseBracket, Comma, Semicolon, Colon, Dot, Not, And, Or, Implies}
 use Rattle.uspec_parser.specs.declared.phrase.Phrase.{Phrase}
 use Rattle.uspec_parser.specs.declared.phrase.Phrase.TheVariants.{Items, Parameters, Label as LabelPhrase, Operand, More, Arguments, Argument, Node, Location, Edge, Labels as LabelsPhrase, SecondLabel, SortWord, Nodes, MoreNodes, Edges, MoreEdges}
+use Rattle.uspec_parser.specs.Syntax.{spelled_arg, spelled_location, spelled_node, Label, named, other, spelled_label, Labels, unlabelled, labelled, coloured, spelled_labels, Edge as EdgeText, spelled_edge, Listing, empty, some, spelled_others, spelled_elements, Atom, one_edge, one_node, edge_list, node_list, expand, predicate, spelled_atom, spelled_sort, spelled_quantifier_word, spelled_connective, Formula, last, last_wide, more, Operand as OperandText, atom, bracketed, negated, Wide, binding, negated_wide, spelled_formula, spelled_operand, spelled_wide, Item, stage, axiom_item, macro, spelled_model}
+use Rattle.uspec_parser.specs.Levels.{is_deep, level_of, level_after_and, level_after_or, level_after_implies}
+use Rattle.uspec_parser.specs.Marks.{shallow, open_at, level_behind, marks_formula, marks_operand, marks_wide, marks_model, IsMarkedFormula, IsMarkedModel}
+use Rattle.uspec_parser.specs.Phrases.{rules}
 
 -- a node and an edge with what stands after them, lexeme by lexeme
 node_lexemes : {Y : Type 0} (f : Lexeme → Y) (o w k z : Lexeme) (l r : List Lexeme)

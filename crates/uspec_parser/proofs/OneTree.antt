@@ -1,15 +1,10 @@
 -- The descent makes one thing of lexemes.
 use Rattle.std.proofs.Common.{◌≡◌, Bool, true, List, [], ◌∷◌, refl, sym, ap, subst, ◌∙◌}
-use Rattle.pc_syntax.specs.declared.term.Arg.{Arg}
-use Rattle.pc_syntax.specs.declared.term.Word.{Word}
-use Rattle.pc_syntax.specs.declared.model.StageItem.{StageItem}
+use Rattle.pc_syntax.specs.declared.{term.{Arg.{Arg}, Word.{Word}}, model.StageItem.{StageItem}}
 use Rattle.pc_syntax.specs.Written.{Written, not_, edges_, nodes_, static_, expand_, WrittenItem, axiom_}
-use Rattle.uspec_parser.specs.Terminals.{Lexeme}
-use Rattle.uspec_parser.specs.Operands.{Operands, chain, formula_of}
-use Rattle.uspec_parser.specs.Syntax.{quantified}
+use Rattle.uspec_parser.specs.{Terminals.{Lexeme}, Operands.{Operands, chain, formula_of}, Syntax.{quantified}}
 use Rattle.uspec_parser.specs.Descent.{next, behind, word, place, sort_by, argument, Arguments, Elements, Atom, Operand, Row, Tail, Parameters, begins_item, macro_item, Item, Items}
-use Rattle.uspec_parser.specs.declared.terminal.Terminal.{Terminal}
-use Rattle.uspec_parser.specs.declared.terminal.Terminal.TheVariants.{OneEdge, EdgeList, OneNode, NodeList, ExpandMacro}
+use Rattle.uspec_parser.specs.declared.terminal.Terminal.{Terminal, TheVariants.{OneEdge, EdgeList, OneNode, NodeList, ExpandMacro}}
 
 pub one_arguments : {xs r s : List Lexeme} {a b : List Arg} → Arguments xs a r → Arguments xs b s → (a ≡ b) × (r ≡ s)
 one_arguments (Arguments.ends e) (Arguments.ends f) = (refl, refl)

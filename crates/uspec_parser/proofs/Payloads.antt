@@ -2,15 +2,11 @@
 use Rattle.std.proofs.Common.{◌≡◌, ℕ, Bool, false, List, [], ◌∷◌, ◌++◌, Option, Some, None, MatchOption, map, refl, sym, ap, subst}
 use Rattle.pc_common.specs.declared.place.Place.{Place}
 use Rattle.pc_syntax.specs.declared.term.Word.{Word}
-use Rattle.ll_grammar.specs.declared.grammar.Symbol.{Symbol}
-use Rattle.ll_grammar.specs.declared.grammar.Symbol.TheVariants.{Terminal as a_terminal, Nonterminal as a_nonterminal}
-use Rattle.ll_grammar.proofs.DerivesLaws.{Each}
+use Rattle.ll_grammar.{specs.declared.grammar.Symbol.{Symbol, TheVariants.{Terminal as a_terminal, Nonterminal as a_nonterminal}}, proofs.DerivesLaws.{Each}}
 use Rattle.ll_grammar.proofs.DerivesLaws.Each.{none as e_none, class as e_class, part as e_part}
 use Rattle.uspec_lexer.specs.Token.{Token}
 use Rattle.uspec_parser.specs.Terminals.{Lexeme, plain, placed, name_, quoted, number_, terminal, lexeme_by, lexeme, terminal_of, content, start_of_token, value}
-use Rattle.uspec_parser.specs.Phrases.{deep}
-use Rattle.uspec_parser.specs.declared.terminal.Terminal.{Terminal}
-use Rattle.uspec_parser.specs.declared.terminal.Terminal.TheVariants.{Axiom, ExpandMacro, Forall, Exists, Name, Number, Quoted}
+use Rattle.uspec_parser.specs.{Phrases.{deep}, declared.terminal.Terminal.{Terminal, TheVariants.{Axiom, ExpandMacro, Forall, Exists, Name, Number, Quoted}}}
 use Rattle.uspec_parser.specs.declared.phrase.Phrase.{Phrase}
 
 -- what a lexeme has beside its terminal

@@ -1,6 +1,5 @@
 -- A list with one element more, and others after it, and a list that becomes a shared one.
-use Rattle.std.proofs.Common.{◌≡◌, List, [], ◌∷◌, ◌++◌, Result, IfOk, sym, ap, subst, ◌∙◌, append_assoc}
-use Rattle.std.proofs.lemmas.Result.{IfOk-weaker}
+use Rattle.std.proofs.{Common.{◌≡◌, List, [], ◌∷◌, ◌++◌, Result, IfOk, sym, ap, subst, ◌∙◌, append_assoc}, lemmas.Result.{IfOk-weaker}}
 
 pub pushed : {X : Type 0} (new old more : List X) (x y : X) → new ≡ old ++ x ∷ [] → x ≡ y → old ++ y ∷ more ≡ new ++ more
 pushed {X} new old more x y e same =

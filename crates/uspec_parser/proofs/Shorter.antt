@@ -1,15 +1,10 @@
 -- Each step of the descent leaves fewer lexemes.
 use Rattle.std.proofs.Common.{◌≡◌, ◌<◌, ◌≤◌, true, List, [], ◌∷◌, Some, length, ap, arith}
-use Rattle.pc_syntax.specs.declared.term.Arg.{Arg}
-use Rattle.pc_syntax.specs.declared.term.Word.{Word}
-use Rattle.pc_syntax.specs.declared.model.StageItem.{StageItem}
-use Rattle.pc_syntax.specs.Written.{Written, WrittenItem}
-use Rattle.uspec_parser.specs.declared.operands.Connective.{Connective}
-use Rattle.uspec_parser.specs.Operands.{Operands}
-use Rattle.uspec_parser.specs.Terminals.{Lexeme}
-use Rattle.uspec_parser.specs.Descent.{next, behind, behind_location_by, behind_node, behind_label_by, behind_label, behind_edge, behind_semicolon_by, behind_semicolon, Arguments, Elements, node, edge, Atom, connective, Operand, Row, Tail, Parameters, begins_item, Item}
-use Rattle.uspec_parser.specs.declared.terminal.Terminal.{Terminal}
+use Rattle.pc_syntax.specs.{declared.{term.{Arg.{Arg}, Word.{Word}}, model.StageItem.{StageItem}}, Written.{Written, WrittenItem}}
+use Rattle.uspec_parser.specs.declared.{operands.Connective.{Connective}, terminal.Terminal.{Terminal}}
 use Rattle.uspec_parser.specs.declared.terminal.Terminal.TheVariants.{Open, Comma, Semicolon, OneEdge, OneNode, EdgeList, NodeList, ExpandMacro}
+use Rattle.uspec_parser.specs.{Operands.{Operands}, Terminals.{Lexeme}}
+use Rattle.uspec_parser.specs.Descent.{next, behind, behind_location_by, behind_node, behind_label_by, behind_label, behind_edge, behind_semicolon_by, behind_semicolon, Arguments, Elements, node, edge, Atom, connective, Operand, Row, Tail, Parameters, begins_item, Item}
 
 pub behind_no_longer : (xs : List Lexeme) → length (behind xs) ≤ length xs
 behind_no_longer [] = omega arith

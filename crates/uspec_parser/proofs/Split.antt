@@ -1,8 +1,7 @@
 -- The split of a list of operands exists, it is one, and it is what grouping makes.
 use Rattle.std.proofs.Common.{◌≡◌, ◌≢◌, Option, Some, None, refl, sym, ap, subst, ◌∙◌}
 use Rattle.pc_syntax.specs.Written.{Written, and_, or_, implies_}
-use Rattle.uspec_parser.specs.declared.operands.Connective.{Connective}
-use Rattle.uspec_parser.specs.declared.operands.Connective.TheVariants.{And as conjoins, Or as disjoins, Implies as implies}
+use Rattle.uspec_parser.specs.declared.operands.Connective.{Connective, TheVariants.{And as conjoins, Or as disjoins, Implies as implies}}
 use Rattle.uspec_parser.specs.Operands.{Operands, only, chain, beside, Lacks, IsSplit, Grouped, or_now, implies_now, disjunction, whole, before, group, formula_of}
 
 -- the list `l` is the list `c`, and after it, if something is disjoined with it, a list that this is the split of

@@ -1,15 +1,10 @@
 -- Each stage of a model that tokens derive has a name: a letter, and then letters, digits, `_` and `'`.
 use Rattle.std.proofs.Common.{◌≡◌, ℕ, zero, suc, Bool, true, false, not, ◌&&◌, cond, if◌then◌else◌, List, [], ◌∷◌, ◌++◌, Some, map, slice_get, refl, sym, ◌∙◌, ap, subst}
-use Rattle.std.specs.Prelude.{IsTrue, unwrap_or}
-use Rattle.std.specs.List.{list_all}
-use Rattle.std.specs.Str.{bytes_eq}
-use Rattle.pc_syntax.specs.declared.model.StageItem.{StageItem}
-use Rattle.pc_syntax.specs.Written.{WrittenModel}
-use Rattle.uspec_lexer.specs.Token.{Token, Kind, name, number, text, symbol}
+use Rattle.std.specs.{Prelude.{IsTrue, unwrap_or}, List.{list_all}, Str.{bytes_eq}}
+use Rattle.pc_syntax.specs.{declared.model.StageItem.{StageItem}, Written.{WrittenModel}}
+use Rattle.uspec_lexer.specs.{Token.{Token, Kind, name, number, text, symbol}, Bytes.{is_name as is_spelled_as_name}}
 use Rattle.uspec_parser.specs.Terminals.{Lexeme, plain, placed, name_, quoted, number_, find_spelling, words, symbols, word_terminal, symbol_terminal, text_terminal, terminal_of_kind, terminal_of, content, is_name, lexeme_by, lexeme}
-use Rattle.uspec_lexer.specs.Bytes.{is_name as is_spelled_as_name}
-use Rattle.uspec_parser.specs.declared.terminal.Terminal.{Terminal}
-use Rattle.uspec_parser.specs.declared.terminal.Terminal.TheVariants.{Name, Number, Quoted, Text, Arrow}
+use Rattle.uspec_parser.specs.declared.terminal.Terminal.{Terminal, TheVariants.{Name, Number, Quoted, Text, Arrow}}
 use Rattle.uspec_parser.specs.Syntax.{Item, stage, axiom_item, macro, spelled_item, spelled_model, stages_of, DerivesModel}
 
 abbrev Each : {X : Type 0} → (X → Type 0) → List X → Type 0

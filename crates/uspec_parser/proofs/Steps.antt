@@ -1,16 +1,10 @@
 -- One step of the descent over formulas, as the code takes it.
 use Rattle.std.proofs.Common.{◌≡◌, Bool, List, [], ◌∷◌, ◌++◌, Result, Ok, Err, IfOk, refl, sym, subst, ap, ◌∙◌}
 use Rattle.pc_syntax.specs.Written.{Written, written, not_}
-use Rattle.uspec_parser.specs.Terminals.{Lexeme}
-use Rattle.uspec_parser.specs.Operands.{Operands, chain, formula_of}
-use Rattle.uspec_parser.specs.Grouping.{operands_before}
-use Rattle.uspec_parser.specs.declared.formulas.Head.{Head}
-use Rattle.uspec_parser.specs.declared.operands.Link.{Link}
-use Rattle.uspec_parser.proofs.GroupedBefore.{operands_before-push}
-use Rattle.uspec_parser.specs.Syntax.{quantified}
+use Rattle.uspec_parser.specs.{Terminals.{Lexeme}, Operands.{Operands, chain, formula_of}, Grouping.{operands_before}, declared.formulas.Head.{Head}}
+use Rattle.uspec_parser.specs.{declared.{operands.Link.{Link}, terminal.Terminal.{Terminal, TheVariants.{Not, Open, Forall, Exists}}}, Syntax.{quantified}}
 use Rattle.uspec_parser.specs.Descent.{next, behind, word, place, sort_by, Atom, quantifier, no_opener, start, Operand, Row}
-use Rattle.uspec_parser.specs.declared.terminal.Terminal.{Terminal}
-use Rattle.uspec_parser.specs.declared.terminal.Terminal.TheVariants.{Not, Open, Forall, Exists}
+use Rattle.uspec_parser.proofs.GroupedBefore.{operands_before-push}
 
 pub ok_map : {X E : Type 0} (r : Result X E) (P Q : X → Type 0) → IfOk r P → ((x : X) → P x → Q x) → IfOk r Q
 ok_map (Ok x) P Q p f = f x p

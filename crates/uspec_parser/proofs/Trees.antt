@@ -1,32 +1,15 @@
 -- Accepted tokens have a tree, the one that the descent builds.
-use Rattle.std.proofs.Common.{◌≡◌, Bool, List, [], ◌∷◌, map, Option, Some, None, refl, sym, ap, subst, ◌∙◌}
-use Rattle.std.proofs.lemmas.List.{append-nil}
-use Rattle.ll_grammar.specs.Rules.{Derives}
-use Rattle.ll_grammar.specs.Texts.{IsText}
-use Rattle.ll_grammar.specs.FirstFault.{IsAccepted, IsAnswer}
-use Rattle.ll_grammar.specs.declared.fault.Fault.{Fault}
-use Rattle.ll_grammar.specs.declared.fault.Fault.TheVariants.{Syntax, Depth}
-use Rattle.pc_syntax.specs.declared.model.StageItem.{StageItem}
-use Rattle.pc_syntax.specs.Written.{Written, WrittenItem, WrittenModel}
+use Rattle.std.proofs.{Common.{◌≡◌, Bool, List, [], ◌∷◌, map, Option, Some, None, refl, sym, ap, subst, ◌∙◌}, lemmas.List.{append-nil}}
+use Rattle.ll_grammar.specs.{Rules.{Derives}, Texts.{IsText}, FirstFault.{IsAccepted, IsAnswer}, declared.fault.Fault.{Fault, TheVariants.{Syntax, Depth}}}
+use Rattle.pc_syntax.specs.{declared.model.StageItem.{StageItem}, Written.{Written, WrittenItem, WrittenModel}}
 use Rattle.uspec_lexer.specs.Token.{Token}
-use Rattle.uspec_parser.specs.Terminals.{Lexeme, terminal, terminal_of, lexeme}
-use Rattle.uspec_parser.specs.Operands.{Operands, formula_of}
+use Rattle.uspec_parser.specs.{Terminals.{Lexeme, terminal, terminal_of, lexeme}, Operands.{Operands, formula_of}}
 use Rattle.uspec_parser.specs.Syntax.{Formula, spelled_formula, meant_operands, meant_formula, DerivesFormula, Item, spelled_model, stages_of, items_of, meant_model, DerivesModel}
-use Rattle.uspec_parser.specs.Marks.{IsMarkedFormula, IsMarkedModel, marks_model, marks_outer}
-use Rattle.uspec_parser.specs.Levels.{level_of}
-use Rattle.uspec_parser.specs.Phrases.{rules}
-use Rattle.uspec_parser.specs.Answers.{terminals, refusal_of, IsParseRefusal}
-use Rattle.uspec_parser.specs.Descent.{Row, Items}
-use Rattle.uspec_parser.specs.declared.terminal.Terminal.{Terminal}
-use Rattle.uspec_parser.specs.declared.fault.ParseFault.{ParseFault}
-use Rattle.uspec_parser.specs.declared.phrase.Phrase.TheVariants.{Operand as OperandPhrase, Items as ItemsPhrase}
-use Rattle.uspec_parser.proofs.Lexemes.{terminal-lexeme_by}
-use Rattle.uspec_parser.proofs.Payloads.{payloads_of_tokens}
-use Rattle.uspec_parser.proofs.DerivedIsMarked.{formula_read, model_read}
-use Rattle.uspec_parser.proofs.MarkedIsDerived.{formula_derived, model_derived}
-use Rattle.uspec_parser.proofs.Complete.{row_of, items_made}
-use Rattle.uspec_parser.proofs.OneTree.{one_row, one_items}
-use Rattle.uspec_parser.proofs.Steps.{RowOf}
+use Rattle.uspec_parser.specs.{Marks.{IsMarkedFormula, IsMarkedModel, marks_model, marks_outer}, Levels.{level_of}, Phrases.{rules}}
+use Rattle.uspec_parser.specs.{Answers.{terminals, refusal_of, IsParseRefusal}, Descent.{Row, Items}, declared.terminal.Terminal.{Terminal}}
+use Rattle.uspec_parser.specs.declared.{fault.ParseFault.{ParseFault}, phrase.Phrase.TheVariants.{Operand as OperandPhrase, Items as ItemsPhrase}}
+use Rattle.uspec_parser.proofs.{Lexemes.{terminal-lexeme_by}, Payloads.{payloads_of_tokens}, DerivedIsMarked.{formula_read, model_read}}
+use Rattle.uspec_parser.proofs.{MarkedIsDerived.{formula_derived, model_derived}, Complete.{row_of, items_made}, OneTree.{one_row, one_items}, Steps.{RowOf}}
 
 pub terminals-lexemes : (ts : List Token) → map terminal (map lexeme ts) ≡ terminals ts
 terminals-lexemes [] = refl

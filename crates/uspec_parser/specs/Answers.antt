@@ -1,12 +1,8 @@
 -- What the answers of the two calls mean.
 use Rattle.std.specs.Prelude.{List, Bool, map, ⊤}
-use Rattle.ll_grammar.specs.FirstFault.{IsFirstTokenFault}
-use Rattle.ll_grammar.specs.declared.fault.Fault.{Fault}
-use Rattle.ll_grammar.specs.declared.fault.Fault.TheVariants.{Syntax as syntax_fault, Depth as depth_fault}
+use Rattle.ll_grammar.specs.{FirstFault.{IsFirstTokenFault}, declared.fault.Fault.{Fault, TheVariants.{Syntax as syntax_fault, Depth as depth_fault}}}
 use Rattle.uspec_lexer.specs.Token.{Token}
-use Rattle.uspec_parser.specs.Terminals.{terminal_of}
-use Rattle.uspec_parser.specs.declared.terminal.Terminal.{Terminal}
-use Rattle.uspec_parser.specs.declared.fault.ParseFault.{ParseFault}
+use Rattle.uspec_parser.specs.{Terminals.{terminal_of}, declared.{terminal.Terminal.{Terminal}, fault.ParseFault.{ParseFault}}}
 use Rattle.uspec_parser.specs.declared.fault.ParseFault.TheVariants.{Syntax, Depth, Memory}
 
 abbrev pub terminals : List Token → List Terminal

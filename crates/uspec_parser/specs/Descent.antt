@@ -2,22 +2,13 @@
 -- lexemes that are no text it makes something too. Only private functions are described by it.
 use Rattle.std.specs.Prelude.{◌≡◌, ◌≢◌, ℕ, zero, suc, Bool, true, false, List, [], ◌∷◌, ◌++◌, Option, Some, None}
 use Rattle.pc_common.specs.declared.place.Place.{Place}
-use Rattle.pc_syntax.specs.declared.term.Sort.{Sort}
-use Rattle.pc_syntax.specs.declared.term.Sort.TheVariants.{Microop as microop, Core as core}
-use Rattle.pc_syntax.specs.declared.term.Word.{Word}
-use Rattle.pc_syntax.specs.declared.term.Arg.{Arg}
-use Rattle.pc_syntax.specs.declared.term.Arg.TheVariants.{Word as word_arg, Number as number_arg}
-use Rattle.pc_syntax.specs.declared.term.NodeTerm.{NodeTerm}
-use Rattle.pc_syntax.specs.declared.term.EdgeTerm.{EdgeTerm}
-use Rattle.pc_syntax.specs.declared.model.StageItem.{StageItem}
-use Rattle.pc_syntax.specs.Written.{Written, not_, static_, nodes_, edges_, expand_, WrittenItem, axiom_, macro_}
-use Rattle.uspec_parser.specs.Terminals.{Lexeme, placed, name_, quoted, number_, terminal}
-use Rattle.uspec_parser.specs.declared.operands.Connective.{Connective}
-use Rattle.uspec_parser.specs.declared.operands.Connective.TheVariants.{And as conjoins, Or as disjoins, Implies as implies}
-use Rattle.uspec_parser.specs.Operands.{Operands, only, chain, formula_of}
-use Rattle.uspec_parser.specs.Syntax.{quantified}
-use Rattle.uspec_parser.specs.declared.terminal.Terminal.{Terminal}
+use Rattle.pc_syntax.specs.declared.term.{Sort.{Sort, TheVariants.{Microop as microop, Core as core}}, Word.{Word}, Arg.{Arg}}
+use Rattle.pc_syntax.specs.declared.term.{Arg.TheVariants.{Word as word_arg, Number as number_arg}, NodeTerm.{NodeTerm}, EdgeTerm.{EdgeTerm}}
+use Rattle.pc_syntax.specs.{declared.model.StageItem.{StageItem}, Written.{Written, not_, static_, nodes_, edges_, expand_, WrittenItem, axiom_, macro_}}
+use Rattle.uspec_parser.specs.{Terminals.{Lexeme, placed, name_, quoted, number_, terminal}, declared.operands.Connective.{Connective}}
+use Rattle.uspec_parser.specs.declared.{operands.Connective.TheVariants.{And as conjoins, Or as disjoins, Implies as implies}, terminal.Terminal.{Terminal}}
 use Rattle.uspec_parser.specs.declared.terminal.Terminal.TheVariants.{StageName, Axiom, DefineMacro, ExpandMacro, Forall, Exists, Core, OneEdge, EdgeList, OneNode, NodeList, Name, Number, Quoted, Open, Comma, Semicolon, Not, And, Or, Implies, Arrow}
+use Rattle.uspec_parser.specs.{Operands.{Operands, only, chain, formula_of}, Syntax.{quantified}}
 
 -- the first terminal; after the end the one that no text has
 abbrev pub next : List Lexeme → Terminal

@@ -1,10 +1,7 @@
 -- What the code's grouping of operands stands for.
 use Rattle.std.specs.Prelude.{List, [], ◌∷◌, Option, Some, None}
-use Rattle.pc_syntax.specs.declared.formula.Formula.{Formula}
-use Rattle.pc_syntax.specs.Written.{Written, written}
-use Rattle.uspec_parser.specs.Operands.{Operands, chain, Grouped, before}
-use Rattle.uspec_parser.specs.declared.operands.Link.{Link}
-use Rattle.uspec_parser.specs.declared.operands.Grouping.{Grouping}
+use Rattle.pc_syntax.specs.{declared.formula.Formula.{Formula}, Written.{Written, written}}
+use Rattle.uspec_parser.specs.{Operands.{Operands, chain, Grouped, before}, declared.operands.{Link.{Link}, Grouping.{Grouping}}}
 
 -- operands with the connectives after them, and a list
 abbrev pub operands_before : List Link → Operands → Operands

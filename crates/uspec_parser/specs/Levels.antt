@@ -1,7 +1,6 @@
 -- How many openers are open at the tokens of a list of operands.
 use Rattle.std.specs.Prelude.{ℕ, ◌+◌, Bool, nat_le}
-use Rattle.uspec_parser.specs.declared.level.TheConstants.{MAX_OPENERS}
-use Rattle.uspec_parser.specs.declared.level.Level.{Level}
+use Rattle.uspec_parser.specs.declared.level.{TheConstants.{MAX_OPENERS}, Level.{Level}}
 
 -- as many openers are open already as may be: one more is too deep
 abbrev pub is_deep : ℕ → Bool

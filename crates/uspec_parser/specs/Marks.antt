@@ -1,12 +1,10 @@
 -- Which tokens of a text stand too deep: those that open with as many openers open as may be.
 use Rattle.std.specs.Prelude.{◌≡◌, ℕ, ◌+◌, Bool, false, List, [], ◌∷◌, ◌++◌, map}
-use Rattle.uspec_parser.specs.Terminals.{quoted, terminal}
-use Rattle.uspec_parser.specs.declared.operands.Connective.{Connective}
-use Rattle.uspec_parser.specs.declared.operands.Connective.TheVariants.{And as conjoins, Or as disjoins, Implies as implies}
+use Rattle.uspec_parser.specs.{Terminals.{quoted, terminal}, declared.operands.Connective.{Connective}}
+use Rattle.uspec_parser.specs.declared.{operands.Connective.TheVariants.{And as conjoins, Or as disjoins, Implies as implies}, level.Level.{Level}}
+use Rattle.uspec_parser.specs.declared.terminal.Terminal.{Terminal}
 use Rattle.uspec_parser.specs.Syntax.{Formula, last, last_wide, more, Operand, atom, bracketed, negated, Wide, binding, negated_wide, Item, stage, axiom_item, macro, spelled_atom, spelled_formula, spelled_item, spelled_model}
 use Rattle.uspec_parser.specs.Levels.{is_deep, level_of, level_after_and, level_after_or, level_after_implies}
-use Rattle.uspec_parser.specs.declared.level.Level.{Level}
-use Rattle.uspec_parser.specs.declared.terminal.Terminal.{Terminal}
 
 -- no opener among these
 abbrev pub shallow : {X : Type 0} → List X → List Bool

@@ -2,8 +2,7 @@
 -- and the lists on both sides are split likewise.
 use Rattle.std.specs.Prelude.{◌≢◌, Option, Some, None}
 use Rattle.pc_syntax.specs.Written.{Written, and_, or_, implies_}
-use Rattle.uspec_parser.specs.declared.operands.Connective.{Connective}
-use Rattle.uspec_parser.specs.declared.operands.Connective.TheVariants.{And as conjoins, Or as disjoins, Implies as implies}
+use Rattle.uspec_parser.specs.declared.operands.Connective.{Connective, TheVariants.{And as conjoins, Or as disjoins, Implies as implies}}
 
 pub data Operands : Type 0 where
   only : Written → Operands

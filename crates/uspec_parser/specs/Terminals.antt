@@ -1,10 +1,8 @@
 -- The terminals of a model's grammar, and what the tree keeps of a token.
-use Rattle.std.specs.Prelude.{ℕ, ◌-◌, Bool, true, false, ◌&&◌, List, [], ◌∷◌, length, slice_range, codes, if◌then◌else◌}
-use Rattle.std.specs.Str.{bytes_eq}
+use Rattle.std.specs.{Prelude.{ℕ, ◌-◌, Bool, true, false, ◌&&◌, List, [], ◌∷◌, length, slice_range, codes, if◌then◌else◌}, Str.{bytes_eq}}
 use Rattle.pc_common.specs.declared.place.Place.{Place}
 use Rattle.pc_syntax.specs.declared.term.Word.{Word}
-use Rattle.uspec_lexer.specs.Token.{Token, Kind, name, number, text, symbol}
-use Rattle.uspec_lexer.specs.Bytes.{is_name as is_spelled_as_name}
+use Rattle.uspec_lexer.specs.{Token.{Token, Kind, name, number, text, symbol}, Bytes.{is_name as is_spelled_as_name}}
 use Rattle.uspec_parser.specs.declared.terminal.Terminal.{Terminal}
 use Rattle.uspec_parser.specs.declared.terminal.Terminal.TheVariants.{StageName, Axiom, DefineMacro, ExpandMacro, Forall, Exists, Microop, Core, OneEdge, EdgeList, OneNode, NodeList, Name, Number, Quoted, Text, Open, Close, OpenBracket, CloseBracket, Comma, Semicolon, Colon, Dot, Not, And, Or, Implies, Arrow}
 

@@ -123,7 +123,7 @@ fn copy_word(alloc: Global, bytes: &[u8], at: Place) -> Result<Word, Memory>
     let mut name = Vec::new(alloc);
     name.extend_from_slice(bytes)?;
     Ok(Word {
-        name: Shared::of(Listed::from_vec(name))?,
+        name: Shared::from_listed(Listed::from_vec(name))?,
         at,
     })
 }

@@ -36,7 +36,7 @@ impl Cursor<'_> {
         let edge = self.edge(alloc)?;
         let mut edges = Listed::new(alloc);
         edges.push(edge)?;
-        Ok(Formula::Edges(Shared::of(edges)?))
+        Ok(Formula::Edges(Shared::from_listed(edges)?))
     }
 
     fn one_node(&mut self, alloc: Global) -> Result<Formula, Memory>
@@ -46,7 +46,7 @@ impl Cursor<'_> {
         let node = self.node(alloc)?;
         let mut nodes = Listed::new(alloc);
         nodes.push(node)?;
-        Ok(Formula::Nodes(Shared::of(nodes)?))
+        Ok(Formula::Nodes(Shared::from_listed(nodes)?))
     }
 
     fn edge_list(&mut self, alloc: Global) -> Result<Formula, Memory>

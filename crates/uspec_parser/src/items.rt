@@ -28,7 +28,7 @@ impl Cursor<'_> {
             words.push(self.word(alloc)?)?;
             self.skip();
         }
-        Shared::of(words)
+        Shared::from_listed(words)
     }
 
     fn stage(&mut self, alloc: Global) -> Result<StageItem, Memory>

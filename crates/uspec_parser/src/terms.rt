@@ -42,7 +42,7 @@ impl Cursor<'_> {
             args.push(self.argument(alloc)?)?;
             self.skip();
         }
-        Shared::of(args)
+        Shared::from_listed(args)
     }
 
     /// Reads a node's core, if it has one, and its stage.
@@ -129,7 +129,7 @@ impl Cursor<'_> {
             self.semicolon();
         }
         self.skip();
-        Shared::of(elements)
+        Shared::from_listed(elements)
     }
 }
 

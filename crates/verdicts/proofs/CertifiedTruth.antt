@@ -1,19 +1,15 @@
 -- What a verdict with its certificate says of the outcome, and which verdict is due.
 use Rattle.std.proofs.Common.{◌≡◌, ℕ, List, refl, sym}
-use Rattle.pc_common.specs.Case.{Case}
-use Rattle.pc_common.specs.declared.status.Status.{Status}
+use Rattle.pc_common.specs.{Case.{Case}, declared.status.Status.{Status}}
 use Rattle.pc_common.specs.declared.status.Status.TheVariants.{Observable as is_observable, Unobservable as is_unobservable, Usage, ReadFault}
 use Rattle.pc_common.specs.Lines.{Line, unobservable, lines_text}
 use Rattle.pc_syntax.specs.Written.{WrittenModel}
 use Rattle.pc_ground.specs.declared.version.Version.{Version}
 use Rattle.cert_check.specs.Certificates.{IsTreeCertificate, IsCertificateText}
-use Rattle.command_base.specs.Questions.{names_by, question_by}
-use Rattle.solver.specs.declared.answer.Answer.{Answer as Found}
-use Rattle.solver.specs.declared.answer.Answer.TheVariants.{Observable as a_graph, Unobservable as a_refutation}
-use Rattle.command_base.specs.VerdictStatus.{IsTrueStatus, IsDueStatus}
+use Rattle.command_base.specs.{Questions.{names_by, question_by}, VerdictStatus.{IsTrueStatus, IsDueStatus}}
 use Rattle.command_base.proofs.CertificateTruth.{graph_observable, tree_unobservable}
-use Rattle.verdicts.specs.Verdicts.{status_of}
-use Rattle.verdicts.specs.Certified.{IsCertified, seen, unseen}
+use Rattle.solver.specs.declared.answer.Answer.{Answer as Found, TheVariants.{Observable as a_graph, Unobservable as a_refutation}}
+use Rattle.verdicts.specs.{Verdicts.{status_of}, Certified.{IsCertified, seen, unseen}}
 
 one_verdict : is_observable ≡ is_unobservable → ⊥
 one_verdict e = cc

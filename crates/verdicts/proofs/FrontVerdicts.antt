@@ -1,21 +1,13 @@
 -- A verdict on the front of a model and a case is one on these, and can be written.
 use Rattle.std.proofs.Common.{◌≡◌}
-use Rattle.pc_common.specs.Case.{Case}
-use Rattle.pc_common.specs.World.{Node}
+use Rattle.pc_common.specs.{Case.{Case}, World.{Node}}
 use Rattle.pc_case.specs.MicroOps.{AreMicroOps}
 use Rattle.pc_syntax.specs.Written.{WrittenModel}
-use Rattle.pc_ground.specs.declared.front.Front.{Front}
-use Rattle.pc_ground.specs.declared.version.Version.{Version}
-use Rattle.pc_ground.specs.Tree.{Tree}
-use Rattle.pc_ground.specs.Rows.{rows_of}
-use Rattle.pc_ground.specs.GroundTree.{ground_tree}
+use Rattle.pc_ground.specs.{declared.{front.Front.{Front}, version.Version.{Version}}, Tree.{Tree}, Rows.{rows_of}, GroundTree.{ground_tree}}
 use Rattle.pc_ground.specs.NodeForm.{names_of}
 use Rattle.pc_front.specs.Front.{IsFrontOf}
-use Rattle.solver.specs.Answers.{IsAnswer}
-use Rattle.solver.specs.declared.answer.Answer.{Answer as Found}
-use Rattle.verdicts.specs.declared.verdict.Verdict.{Verdict}
-use Rattle.verdicts.specs.Verdicts.{IsVerdict, IsWritable}
-use Rattle.verdicts.proofs.Fronts.{writable}
+use Rattle.solver.specs.{Answers.{IsAnswer}, declared.answer.Answer.{Answer as Found}}
+use Rattle.verdicts.{specs.{declared.verdict.Verdict.{Verdict}, Verdicts.{IsVerdict, IsWritable}}, proofs.Fronts.{writable}}
 
 pub verdict_is : (m : WrittenModel) (c : Case) (front : Front) → IsFrontOf m c front → (version : Version) (found : Found)
     → ((t : Tree Node) → front.tree ≡ rows_of t → IsAnswer version front.numbering t found)

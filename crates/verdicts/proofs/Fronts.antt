@@ -1,27 +1,15 @@
 -- What is found of a front is of the model and of the test, and can be written.
 use Rattle.std.proofs.Common.{◌≡◌, ℕ, zero, suc, ◌<◌, inl, inr, List, [], ◌∷◌, length, map, get_or, refl, sym, ◌∙◌, ap, subst, arith}
 use Rattle.std.specs.Prelude.{Contains, All}
-use Rattle.pc_common.specs.Case.{Case}
-use Rattle.pc_common.specs.World.{Node, Edge}
-use Rattle.pc_common.proofs.Elements.{In, in_map, contains_from_in}
+use Rattle.pc_common.{specs.{Case.{Case}, World.{Node, Edge}}, proofs.Elements.{In, in_map, contains_from_in}}
 use Rattle.pc_case.specs.MicroOps.{AreMicroOps}
-use Rattle.pc_syntax.specs.Written.{stage_numbers, WrittenModel}
-use Rattle.pc_syntax.specs.Observable.{IsNodeOf}
-use Rattle.pc_ground.specs.declared.front.Front.{Front}
-use Rattle.pc_ground.specs.declared.version.Version.{Version}
-use Rattle.pc_ground.specs.Keys.{key_node}
-use Rattle.pc_ground.specs.Tree.{Tree}
-use Rattle.pc_ground.specs.Numbers.{nodes_of_tree, numbered}
-use Rattle.pc_ground.specs.GroundTree.{ground_tree}
-use Rattle.pc_ground.specs.Stages.{plain_stage, numbers_of}
-use Rattle.pc_ground.specs.NodeForm.{names_of, IsNodeIn}
-use Rattle.pc_ground.proofs.TreeNodes.{nodes_are_of}
+use Rattle.pc_syntax.specs.{Written.{stage_numbers, WrittenModel}, Observable.{IsNodeOf}}
+use Rattle.pc_ground.specs.{declared.{front.Front.{Front}, version.Version.{Version}}, Keys.{key_node}, Tree.{Tree}, Numbers.{nodes_of_tree, numbered}}
+use Rattle.pc_ground.{specs.{GroundTree.{ground_tree}, Stages.{plain_stage, numbers_of}, NodeForm.{names_of, IsNodeIn}}, proofs.TreeNodes.{nodes_are_of}}
 use Rattle.pc_ground.proofs.FirstSeen.{numbered_lists}
 use Rattle.pc_front.specs.Front.{IsFrontOf}
 use Rattle.graph_text.specs.Graphs.{key_edge, graph_nodes}
-use Rattle.solver.specs.Answers.{IsAnswer}
-use Rattle.solver.specs.declared.answer.Answer.{Answer as Found}
-use Rattle.solver.specs.declared.answer.Answer.TheVariants.{Observable as a_graph, Unobservable as a_refutation}
+use Rattle.solver.specs.{Answers.{IsAnswer}, declared.answer.Answer.{Answer as Found, TheVariants.{Observable as a_graph, Unobservable as a_refutation}}}
 use Rattle.verdicts.specs.Verdicts.{IsWritable}
 use Rattle.command_base.proofs.AskedAlike.{numbers_same, same_tree}
 use Rattle.cert_check.proofs.StepNodes.{refutation_in}

@@ -1,10 +1,7 @@
 -- How the steps of a refutation are counted.
 use Rattle.std.proofs.Common.{◌≡◌, ℕ, ◌+◌, ◌-◌, List, Some, length, take, refl, sym, ◌∙◌, ap, arith, cond, not}
-use Rattle.std.specs.List.{slice_get}
-use Rattle.std.proofs.lemmas.List.Filters.{length-filter_more, length-filter_both}
-use Rattle.std.proofs.lemmas.Option.{slice_get_within, get_or_from_slice_get}
-use Rattle.pc_common.specs.World.{Node}
-use Rattle.pc_common.specs.Steps.{Step}
+use Rattle.std.{proofs.lemmas.{List.Filters.{length-filter_more, length-filter_both}, Option.{slice_get_within, get_or_from_slice_get}}, specs.List.{slice_get}}
+use Rattle.pc_common.specs.{World.{Node}, Steps.{Step}}
 use Rattle.verdicts.specs.StepCounts.{splits, splits_of, leaves_of}
 
 -- one step more

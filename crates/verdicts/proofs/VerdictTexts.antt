@@ -1,34 +1,20 @@
 -- The text of a verdict is that of its certificate.
-use Rattle.std.proofs.Common.{◌≡◌, ℕ, List, [], ◌∷◌, ◌++◌, refl, sym, ◌∙◌, ap, subst}
-use Rattle.std.specs.Prelude.{codes, Contains}
-use Rattle.pc_common.specs.Case.{Case, Expectation}
-use Rattle.pc_common.specs.World.{Node}
+use Rattle.std.{proofs.Common.{◌≡◌, ℕ, List, [], ◌∷◌, ◌++◌, refl, sym, ◌∙◌, ap, subst}, specs.{Prelude.{codes, Contains}, List.{flat_map}}}
+use Rattle.pc_common.specs.{Case.{Case, Expectation}, World.{Node}}
 use Rattle.pc_common.specs.Lines.{Names, Line as Line', Verdict as Kind, observable, unobservable, end, lines_text, verdict_text as verdict_words, second_text}
-use Rattle.pc_case.specs.MicroOps.{AreMicroOps}
-use Rattle.pc_syntax.specs.Written.{stage_numbers, WrittenModel}
-use Rattle.pc_syntax.specs.Observable.{IsNodeOf, IsWorldOf}
-use Rattle.std.specs.List.{flat_map}
 use Rattle.pc_common.specs.Steps.{Step}
-use Rattle.pc_ground.specs.declared.front.Front.{Front}
-use Rattle.pc_ground.specs.declared.version.Version.{Version}
-use Rattle.pc_ground.specs.declared.version.Version.TheVariants.{One, Two}
-use Rattle.pc_ground.specs.GroundTree.{ground_tree}
-use Rattle.pc_ground.specs.NodeForm.{names_of}
+use Rattle.pc_case.specs.MicroOps.{AreMicroOps}
+use Rattle.pc_syntax.specs.{Written.{stage_numbers, WrittenModel}, Observable.{IsNodeOf, IsWorldOf}}
+use Rattle.pc_ground.specs.{declared.{front.Front.{Front}, version.Version.{Version, TheVariants.{One, Two}}}, GroundTree.{ground_tree}, NodeForm.{names_of}}
 use Rattle.pc_ground.proofs.UnfoldedTruth.{ground_tree_true}
 use Rattle.pc_front.specs.Front.{IsFrontOf}
 use Rattle.refutation.specs.Steps.{step_text}
 use Rattle.graph_text.specs.Graphs.{graph_nodes, graph_edges, graph_lines}
-use Rattle.solver.specs.Answers.{IsAnswer}
-use Rattle.solver.specs.declared.answer.Answer.{Answer as Found}
-use Rattle.solver.specs.declared.answer.Answer.TheVariants.{Observable as a_graph, Unobservable as a_refutation}
-use Rattle.verdicts.specs.declared.verdict.Verdict.{Verdict}
-use Rattle.cert_check.specs.Certificates.{Question, certificate_lines, tree_lines}
-use Rattle.command_base.specs.Questions.{names_by, question_by}
-use Rattle.verdicts.specs.Verdicts.{IsVerdict, status_of, version_text, verdict_text}
-use Rattle.verdicts.specs.Certified.{IsCertified, seen, unseen}
-use Rattle.cert_check.proofs.StepNodes.{steps_text, lines_append}
-use Rattle.command_base.proofs.AskedAlike.{numbers_same, names_same}
-use Rattle.verdicts.proofs.Fronts.{node_of_both, all_nodes}
+use Rattle.solver.specs.{Answers.{IsAnswer}, declared.answer.Answer.{Answer as Found, TheVariants.{Observable as a_graph, Unobservable as a_refutation}}}
+use Rattle.verdicts.specs.{declared.verdict.Verdict.{Verdict}, Verdicts.{IsVerdict, status_of, version_text, verdict_text}}
+use Rattle.verdicts.{specs.Certified.{IsCertified, seen, unseen}, proofs.Fronts.{node_of_both, all_nodes}}
+use Rattle.cert_check.{specs.Certificates.{Question, certificate_lines, tree_lines}, proofs.StepNodes.{steps_text, lines_append}}
+use Rattle.command_base.{specs.Questions.{names_by, question_by}, proofs.AskedAlike.{numbers_same, names_same}}
 
 -- a text by its names and what it compares with
 text_by : Kind → List Line' → Names → Expectation → List ℕ

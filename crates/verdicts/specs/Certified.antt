@@ -1,9 +1,6 @@
 -- The verdict on a model and a case as a status, with the text of a certificate.
 use Rattle.std.specs.Prelude.{◌≡◌, ℕ, List}
-use Rattle.pc_common.specs.Case.{Case}
-use Rattle.pc_common.specs.Lines.{Line, observable, lines_text}
-use Rattle.pc_common.specs.declared.status.Status.{Status}
-use Rattle.pc_common.specs.declared.status.Status.TheVariants.{Observable, Unobservable}
+use Rattle.pc_common.specs.{Case.{Case}, Lines.{Line, observable, lines_text}, declared.status.Status.{Status, TheVariants.{Observable, Unobservable}}}
 use Rattle.pc_syntax.specs.Written.{WrittenModel}
 use Rattle.pc_ground.specs.declared.version.Version.{Version}
 use Rattle.cert_check.specs.Certificates.{IsTreeCertificate, IsCertificateText}

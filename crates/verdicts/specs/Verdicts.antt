@@ -1,21 +1,13 @@
 -- What is decided of a model and a case, before it is written, and its text.
-use Rattle.std.specs.Prelude.{◌++◌, ℕ, List, [], codes, All}
-use Rattle.std.specs.List.{flat_map}
-use Rattle.pc_common.specs.Case.{Case}
-use Rattle.pc_common.specs.Lines.{Names, Verdict as Kind, observable, unobservable, verdict_text as verdict_words, second_text, lines_text}
-use Rattle.pc_common.specs.declared.status.Status.{Status}
-use Rattle.pc_common.specs.declared.status.Status.TheVariants.{Observable, Unobservable}
+use Rattle.std.specs.{Prelude.{◌++◌, ℕ, List, [], codes, All}, List.{flat_map}}
+use Rattle.pc_common.specs.{Case.{Case}, Lines.{Names, Verdict as Kind, observable, unobservable, verdict_text as verdict_words, second_text, lines_text}}
+use Rattle.pc_common.specs.declared.status.Status.{Status, TheVariants.{Observable, Unobservable}}
 use Rattle.pc_syntax.specs.Written.{WrittenModel}
-use Rattle.pc_ground.specs.GroundTree.{ground_tree}
-use Rattle.pc_ground.specs.NodeForm.{names_of}
-use Rattle.pc_ground.specs.declared.version.Version.{Version}
-use Rattle.pc_ground.specs.declared.version.Version.TheVariants.{One, Two}
+use Rattle.pc_ground.specs.{GroundTree.{ground_tree}, NodeForm.{names_of}, declared.version.Version.{Version, TheVariants.{One, Two}}}
 use Rattle.pc_front.specs.Front.{IsFrontOf}
 use Rattle.refutation.specs.Steps.{step_text, IsStepIn}
 use Rattle.graph_text.specs.Graphs.{graph_nodes, graph_edges, graph_lines, IsKeyIn, IsEdgeIn}
-use Rattle.solver.specs.Answers.{IsAnswer}
-use Rattle.solver.specs.declared.answer.Answer.{Answer as Found}
-use Rattle.solver.specs.declared.answer.Answer.TheVariants.{Observable as a_graph, Unobservable as a_refutation}
+use Rattle.solver.specs.{Answers.{IsAnswer}, declared.answer.Answer.{Answer as Found, TheVariants.{Observable as a_graph, Unobservable as a_refutation}}}
 use Rattle.verdicts.specs.declared.verdict.Verdict.{Verdict}
 
 -- the front is that of the model and the case, and what is found is of their ground tree

@@ -1,20 +1,11 @@
 -- What the first bytes of a file tell of its first line, and that a front asks what its parts ask.
 use Rattle.std.proofs.Common.{◌≡◌, inl, inr, ℕ, List, ◌++◌, take, drop, sym, ◌∙◌, ap, append_assoc}
-use Rattle.std.specs.Prelude.{codes, map}
-use Rattle.std.proofs.lemmas.List.{append-nil, take-append-le, take-append-drop}
-use Rattle.std.proofs.Math.Seq.{take-append_seam}
+use Rattle.std.{proofs.{lemmas.List.{append-nil, take-append-le, take-append-drop}, Math.Seq.{take-append_seam}}, specs.Prelude.{codes, map}}
 use Rattle.pc_common.specs.Case.{Case}
-use Rattle.pc_ground.specs.declared.front.Front.{Front}
-use Rattle.pc_ground.specs.declared.parts.Parts.{Parts}
-use Rattle.pc_ground.specs.declared.stage.Stage.{Stage}
-use Rattle.pc_ground.specs.GroundTree.{closed_ground_tree}
-use Rattle.pc_ground.specs.NodeForm.{names_by}
+use Rattle.pc_ground.specs.{declared.{front.Front.{Front}, parts.Parts.{Parts}, stage.Stage.{Stage}}, GroundTree.{closed_ground_tree}, NodeForm.{names_by}}
 use Rattle.pc_ground.specs.Stages.{plain_stage, plain_axioms}
-use Rattle.pc_syntax.specs.Closed.{closed_satisfies}
-use Rattle.pc_syntax.specs.declared.closed.Closed.{Closed}
-use Rattle.cert_check.specs.Certificates.{Question}
-use Rattle.cert_check.specs.GraphBegins.{SaysUnobservable}
-use Rattle.cert_check.specs.Questions.{question_of, question_of_parts}
+use Rattle.pc_syntax.specs.{Closed.{closed_satisfies}, declared.closed.Closed.{Closed}}
+use Rattle.cert_check.specs.{Certificates.{Question}, GraphBegins.{SaysUnobservable}, Questions.{question_of, question_of_parts}}
 use Rattle.verify_command.specs.Reading.{IsEnough}
 
 -- where enough first bytes do not say unobservable, the file does not

@@ -1,31 +1,15 @@
 -- The outcome of `verify-lifted`: what its answer says, and that it is due.
-use Rattle.std.proofs.Common.{◌≡◌, ℕ, List, Some, None, refl, ◌∙◌, ap, subst}
-use Rattle.std.specs.Prelude.{IsTrue}
-use Rattle.pc_common.specs.Outside.{FilesView}
-use Rattle.pc_common.specs.Case.{Case}
-use Rattle.pc_common.specs.Reads.{Reads}
-use Rattle.pc_common.specs.declared.fault.InputFault.{InputFault}
-use Rattle.pc_common.specs.declared.status.Status.{Status}
+use Rattle.std.{proofs.Common.{◌≡◌, ℕ, List, Some, None, refl, ◌∙◌, ap, subst}, specs.Prelude.{IsTrue}}
+use Rattle.pc_common.specs.{Outside.{FilesView}, Case.{Case}, Reads.{Reads}, declared.{fault.InputFault.{InputFault}, status.Status.{Status}}}
 use Rattle.pc_common.specs.declared.status.Status.TheVariants.{Usage, ReadFault}
-use Rattle.pc_syntax.specs.Written.{WrittenModel}
-use Rattle.pc_syntax.specs.ModelFault.{first_model_fault}
-use Rattle.pc_syntax.specs.Closed.{PlainClosed}
+use Rattle.pc_syntax.specs.{Written.{WrittenModel}, ModelFault.{first_model_fault}, Closed.{PlainClosed}}
 use Rattle.pc_ground.specs.declared.front.Front.{Front}
 use Rattle.pc_front.specs.Front.{IsFrontOf}
-use Rattle.lifted_check.specs.declared.lifted.Lifted.{Lifted}
-use Rattle.lifted_check.specs.declared.lifted.Lifted.TheVariants.{Unobservable as is_unseen, Refused as is_refused_at}
-use Rattle.lifted_check.specs.LiftedTexts.{Question, asked}
-use Rattle.lifted_check.specs.Fed.{IsFound}
-use Rattle.command_base.specs.Inputs.{Inputs, Contents, Says}
-use Rattle.command_base.specs.SecondFiles.{IsForm}
-use Rattle.command_base.specs.VerdictStatus.{IsTrueStatus}
-use Rattle.command_base.specs.Outcomes.{HasFront, IsThirdOutcome}
-use Rattle.command_base.proofs.OneCase.{one_held}
-use Rattle.command_base.proofs.AnsweredFiles.{found_of, due_of_files}
-use Rattle.command_base.proofs.ThirdFile.{third_found}
-use Rattle.verify_command.specs.LiftedTexts.{lifted_status, lifted_text}
-use Rattle.command_base.specs.LiftedQuestions.{lifted_question}
-use Rattle.verify_command.specs.LiftedAnswers.{AnswersLifted, IsLiftedDue, IsJudged, judged, IsDueCheck}
+use Rattle.lifted_check.specs.declared.lifted.Lifted.{Lifted, TheVariants.{Unobservable as is_unseen, Refused as is_refused_at}}
+use Rattle.lifted_check.specs.{LiftedTexts.{Question, asked}, Fed.{IsFound}}
+use Rattle.command_base.specs.{Inputs.{Inputs, Contents, Says}, SecondFiles.{IsForm}, VerdictStatus.{IsTrueStatus}, Outcomes.{HasFront, IsThirdOutcome}}
+use Rattle.command_base.{specs.LiftedQuestions.{lifted_question}, proofs.{OneCase.{one_held}, AnsweredFiles.{found_of, due_of_files}, ThirdFile.{third_found}}}
+use Rattle.verify_command.specs.{LiftedTexts.{lifted_status, lifted_text}, LiftedAnswers.{AnswersLifted, IsLiftedDue, IsJudged, judged, IsDueCheck}}
 use Rattle.verify_command.proofs.OneAnswer.{found_true, one_found}
 
 no_read_fault : (found : Lifted) → lifted_status found ≡ ReadFault → ⊥

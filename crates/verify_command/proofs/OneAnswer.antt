@@ -1,24 +1,15 @@
 -- A text is one thing to a model and a case, and what it is says whether the outcome is observable.
 use Rattle.std.proofs.Common.{◌≡◌, ℕ, ◌<◌, ◌+◌, List, [], ◌++◌, Option, Some, None, length, refl, sym, ◌∙◌, ap, arith, length-append}
-use Rattle.pc_common.specs.Case.{Case}
-use Rattle.pc_common.specs.declared.limits.TheConstants.{MAX_CERTIFICATE}
+use Rattle.pc_common.specs.{Case.{Case}, declared.limits.TheConstants.{MAX_CERTIFICATE}}
 use Rattle.pc_common.specs.declared.status.Status.TheVariants.{Observable as is_observable, Unobservable as is_unobservable}
-use Rattle.pc_syntax.specs.Written.{WrittenModel}
-use Rattle.pc_syntax.specs.Observable.{Observable}
-use Rattle.pc_syntax.specs.ModelFault.{first_model_fault}
+use Rattle.pc_syntax.specs.{Written.{WrittenModel}, Observable.{Observable}, ModelFault.{first_model_fault}}
 use Rattle.pc_ground.proofs.KeptTrees.{no_name_fault}
 use Rattle.pc_front.proofs.FrontLaws.{satisfied_alike}
 use Rattle.line_judge.specs.Texts.{IsMadeOf}
-use Rattle.lifted_check.specs.LiftedTexts.{Question, IsLiftedText, BeginsLifted}
-use Rattle.lifted_check.specs.Fed.{IsFound, unseen, too_long, refused, IsFed}
-use Rattle.lifted_check.specs.declared.checker.LiftedChecker.{LiftedChecker}
-use Rattle.lifted_check.specs.declared.lifted.Lifted.{Lifted}
-use Rattle.lifted_check.specs.declared.lifted.Lifted.TheVariants.{Refused}
-use Rattle.lifted_check.proofs.Outcomes.{text_forbids}
-use Rattle.command_base.specs.VerdictStatus.{IsTrueStatus}
-use Rattle.verify_command.specs.LiftedTexts.{lifted_status}
-use Rattle.command_base.specs.LiftedQuestions.{lifted_question}
-use Rattle.verify_command.specs.Reading.{TookFile}
+use Rattle.lifted_check.specs.{LiftedTexts.{Question, IsLiftedText, BeginsLifted}, Fed.{IsFound, unseen, too_long, refused, IsFed}}
+use Rattle.lifted_check.{specs.declared.{checker.LiftedChecker.{LiftedChecker}, lifted.Lifted.{Lifted, TheVariants.{Refused}}}, proofs.Outcomes.{text_forbids}}
+use Rattle.command_base.specs.{VerdictStatus.{IsTrueStatus}, LiftedQuestions.{lifted_question}}
+use Rattle.verify_command.specs.{LiftedTexts.{lifted_status}, Reading.{TookFile}}
 use Rattle.verify_command.proofs.FirstBytes.{refused_seen, refused_unseen, one_line, both_lengths, file_is}
 
 one_verdict : is_unobservable ≡ is_observable → ⊥

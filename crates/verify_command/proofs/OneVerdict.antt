@@ -1,19 +1,11 @@
 -- A text is one thing to a model and a case, and what it is says whether the outcome is observable.
 use Rattle.std.proofs.Common.{◌≡◌, ℕ, ◌<◌, ◌+◌, List, [], ◌++◌, length, refl, sym, ap, arith, length-append}
-use Rattle.pc_common.specs.Case.{Case}
-use Rattle.pc_common.specs.declared.status.Status.TheVariants.{Observable as is_observable, Unobservable as is_unobservable}
-use Rattle.pc_common.specs.Lines.{observable, unobservable}
+use Rattle.pc_common.specs.{Case.{Case}, declared.status.Status.TheVariants.{Observable as is_observable, Unobservable as is_unobservable}}
+use Rattle.pc_common.specs.{declared.limits.TheConstants.{MAX_CERTIFICATE}, Lines.{observable, unobservable}}
 use Rattle.pc_syntax.specs.Written.{WrittenModel}
-use Rattle.cert_check.specs.Certificates.{Question}
-use Rattle.pc_common.specs.declared.limits.TheConstants.{MAX_CERTIFICATE}
-use Rattle.cert_check.specs.RawLines.{RawBegins, RawWhole}
-use Rattle.cert_check.specs.Verified.{Verified, seen, unseen, too_long, refused}
-use Rattle.cert_check.specs.declared.checked.Checked.{Checked}
-use Rattle.cert_check.specs.declared.checked.Checked.TheVariants.{Refused}
-use Rattle.command_base.specs.Questions.{question_by}
-use Rattle.command_base.specs.CheckedTexts.{checked_status}
-use Rattle.command_base.specs.Feeding.{TookFirst}
-use Rattle.command_base.specs.VerdictStatus.{IsTrueStatus}
+use Rattle.cert_check.specs.{Certificates.{Question}, RawLines.{RawBegins, RawWhole}, Verified.{Verified, seen, unseen, too_long, refused}}
+use Rattle.cert_check.specs.declared.checked.Checked.{Checked, TheVariants.{Refused}}
+use Rattle.command_base.specs.{Questions.{question_by}, CheckedTexts.{checked_status}, Feeding.{TookFirst}, VerdictStatus.{IsTrueStatus}}
 use Rattle.command_base.proofs.CertificateTruth.{graph_observable, tree_unobservable}
 use Rattle.verify_command.proofs.FirstBytes.{refused_seen, refused_unseen, one_line, both_lengths, file_is}
 

@@ -1,31 +1,15 @@
 -- The outcome of `verify`: what its answer says, and that it is due.
-use Rattle.std.proofs.Common.{◌≡◌, ℕ, List, Some, refl, subst}
-use Rattle.std.specs.Prelude.{IsTrue}
-use Rattle.pc_common.specs.Outside.{FilesView}
-use Rattle.pc_common.specs.Case.{Case}
-use Rattle.pc_common.specs.Reads.{Reads}
-use Rattle.pc_common.specs.declared.fault.InputFault.{InputFault}
-use Rattle.pc_common.specs.declared.status.Status.{Status}
+use Rattle.std.{proofs.Common.{◌≡◌, ℕ, List, Some, refl, subst}, specs.Prelude.{IsTrue}}
+use Rattle.pc_common.specs.{Outside.{FilesView}, Case.{Case}, Reads.{Reads}, declared.{fault.InputFault.{InputFault}, status.Status.{Status}}}
 use Rattle.pc_common.specs.declared.status.Status.TheVariants.{Usage, ReadFault}
 use Rattle.pc_syntax.specs.Written.{WrittenModel}
 use Rattle.pc_ground.specs.declared.front.Front.{Front}
-use Rattle.cert_check.specs.declared.checked.Checked.{Checked}
-use Rattle.cert_check.specs.declared.checked.Checked.TheVariants.{Observable as is_seen, Unobservable as is_unseen, Refused as is_refused_at}
-use Rattle.cert_check.specs.Questions.{question_of}
-use Rattle.cert_check.specs.Verified.{Verified}
-use Rattle.cert_check.proofs.Alike.{verified_alike}
-use Rattle.command_base.specs.Inputs.{Inputs, Contents, Says}
-use Rattle.command_base.specs.SecondFiles.{IsForm}
-use Rattle.command_base.specs.Questions.{question_by}
-use Rattle.command_base.specs.VerdictStatus.{IsTrueStatus}
-use Rattle.command_base.specs.Outcomes.{HasFront, IsThirdOutcome}
-use Rattle.command_base.proofs.OneCase.{one_held}
-use Rattle.command_base.proofs.AskedAlike.{asks_alike}
-use Rattle.command_base.proofs.AnsweredFiles.{found_of, due_of_files}
-use Rattle.command_base.proofs.ThirdFile.{third_found}
-use Rattle.command_base.specs.CheckedTexts.{checked_status, checked_text}
-use Rattle.verify_command.specs.VerifyAnswers.{AnswersVerify, IsVerifyDue, IsJudged, judged, IsDueCheck}
-use Rattle.verify_command.proofs.OneVerdict.{verified_true, one_found}
+use Rattle.cert_check.specs.declared.checked.Checked.{Checked, TheVariants.{Observable as is_seen, Unobservable as is_unseen, Refused as is_refused_at}}
+use Rattle.cert_check.{specs.{Questions.{question_of}, Verified.{Verified}}, proofs.Alike.{verified_alike}}
+use Rattle.command_base.specs.{Inputs.{Inputs, Contents, Says}, SecondFiles.{IsForm}, Questions.{question_by}, VerdictStatus.{IsTrueStatus}}
+use Rattle.command_base.{specs.{Outcomes.{HasFront, IsThirdOutcome}, CheckedTexts.{checked_status, checked_text}}, proofs.OneCase.{one_held}}
+use Rattle.command_base.proofs.{AskedAlike.{asks_alike}, AnsweredFiles.{found_of, due_of_files}, ThirdFile.{third_found}}
+use Rattle.verify_command.{specs.VerifyAnswers.{AnswersVerify, IsVerifyDue, IsJudged, judged, IsDueCheck}, proofs.OneVerdict.{verified_true, one_found}}
 
 no_read_fault : (found : Checked) → checked_status found ≡ ReadFault → ⊥
 no_read_fault is_seen e = cc

@@ -1,21 +1,11 @@
 -- The answer of `verify-lifted` to three files, and the status that is due.
 use Rattle.std.specs.Prelude.{◌≡◌, ℕ, List, Some, Result}
-use Rattle.pc_common.specs.Outside.{FilesView}
-use Rattle.pc_common.specs.Case.{Case}
-use Rattle.pc_common.specs.declared.fault.InputFault.{InputFault}
-use Rattle.pc_common.specs.declared.status.Status.{Status}
+use Rattle.pc_common.specs.{Outside.{FilesView}, Case.{Case}, declared.{fault.InputFault.{InputFault}, status.Status.{Status}}}
 use Rattle.pc_syntax.specs.Written.{WrittenModel}
-use Rattle.lifted_check.specs.declared.lifted.Lifted.{Lifted}
-use Rattle.lifted_check.specs.LiftedTexts.{Question}
-use Rattle.lifted_check.specs.Fed.{IsFound}
-use Rattle.command_base.specs.declared.inputs.Inputs.{Inputs as CodeInputs}
-use Rattle.command_base.specs.declared.ending.Ending.{Ending}
-use Rattle.command_base.specs.Inputs.{Inputs, Contents, plain_inputs}
-use Rattle.command_base.specs.Endings.{HasOutcome}
-use Rattle.command_base.specs.Outcomes.{IsThirdOutcome}
-use Rattle.command_base.specs.FileAnswers.{AnswersFiles, IsDueOfFiles}
+use Rattle.lifted_check.specs.{declared.lifted.Lifted.{Lifted}, LiftedTexts.{Question}, Fed.{IsFound}}
+use Rattle.command_base.specs.{declared.{inputs.Inputs.{Inputs as CodeInputs}, ending.Ending.{Ending}}, Inputs.{Inputs, Contents, plain_inputs}}
+use Rattle.command_base.specs.{Endings.{HasOutcome}, Outcomes.{IsThirdOutcome}, FileAnswers.{AnswersFiles, IsDueOfFiles}, LiftedQuestions.{lifted_question}}
 use Rattle.verify_command.specs.LiftedTexts.{lifted_status, lifted_text}
-use Rattle.command_base.specs.LiftedQuestions.{lifted_question}
 
 -- what the third file is to the model and the case
 pub data IsJudged (holds : Contents) (certificate : List ℕ) (m : WrittenModel) (c : Case) : Status → List ℕ → Type 0 where

@@ -1,10 +1,7 @@
 -- The status and the line of what a text was found to be.
-use Rattle.std.specs.Prelude.{◌++◌, ℕ, List, codes}
-use Rattle.std.specs.Fmt.{decimal}
-use Rattle.pc_common.specs.declared.status.Status.{Status}
-use Rattle.pc_common.specs.declared.status.Status.TheVariants.{Unobservable, CertRefused}
-use Rattle.lifted_check.specs.declared.lifted.Lifted.{Lifted}
-use Rattle.lifted_check.specs.declared.lifted.Lifted.TheVariants.{Unobservable as unseen, Refused as refused_at}
+use Rattle.std.specs.{Prelude.{◌++◌, ℕ, List, codes}, Fmt.{decimal}}
+use Rattle.pc_common.specs.declared.status.Status.{Status, TheVariants.{Unobservable, CertRefused}}
+use Rattle.lifted_check.specs.declared.lifted.Lifted.{Lifted, TheVariants.{Unobservable as unseen, Refused as refused_at}}
 
 abbrev pub lifted_status : Lifted → Status
 lifted_status unseen = Unobservable

@@ -1,8 +1,7 @@
 -- What tells the first line of a file, and what a checker is fed of one.
 use Rattle.std.specs.Prelude.{◌≡◌, ◌⊎◌, ◌≤◌, ◌+◌, ℕ, List, [], Option, Some, length}
 use Rattle.pc_common.specs.declared.limits.TheConstants.{MAX_CERTIFICATE}
-use Rattle.lifted_check.specs.Fed.{IsFed}
-use Rattle.lifted_check.specs.declared.checker.LiftedChecker.{LiftedChecker}
+use Rattle.lifted_check.specs.{Fed.{IsFed}, declared.checker.LiftedChecker.{LiftedChecker}}
 use Rattle.command_base.specs.Feeding.{TookFirst}
 
 -- these first bytes tell whether the first line is unobservable: they are as many, with its LF, or nothing else is left

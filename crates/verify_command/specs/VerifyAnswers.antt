@@ -1,20 +1,10 @@
 -- The answer of `verify` to three files, and the status that is due.
 use Rattle.std.specs.Prelude.{◌≡◌, ℕ, List, Some, Result}
-use Rattle.pc_common.specs.Outside.{FilesView}
-use Rattle.pc_common.specs.Case.{Case}
-use Rattle.pc_common.specs.declared.fault.InputFault.{InputFault}
-use Rattle.pc_common.specs.declared.status.Status.{Status}
+use Rattle.pc_common.specs.{Outside.{FilesView}, Case.{Case}, declared.{fault.InputFault.{InputFault}, status.Status.{Status}}}
 use Rattle.pc_syntax.specs.Written.{WrittenModel}
-use Rattle.cert_check.specs.declared.checked.Checked.{Checked}
-use Rattle.cert_check.specs.Certificates.{Question}
-use Rattle.cert_check.specs.Verified.{Verified}
-use Rattle.command_base.specs.declared.inputs.Inputs.{Inputs as CodeInputs}
-use Rattle.command_base.specs.declared.ending.Ending.{Ending}
-use Rattle.command_base.specs.Inputs.{Inputs, Contents, plain_inputs}
-use Rattle.command_base.specs.Endings.{HasOutcome}
-use Rattle.command_base.specs.Outcomes.{IsThirdOutcome}
-use Rattle.command_base.specs.Questions.{question_by}
-use Rattle.command_base.specs.FileAnswers.{AnswersFiles, IsDueOfFiles}
+use Rattle.cert_check.specs.{declared.checked.Checked.{Checked}, Certificates.{Question}, Verified.{Verified}}
+use Rattle.command_base.specs.{declared.{inputs.Inputs.{Inputs as CodeInputs}, ending.Ending.{Ending}}, Inputs.{Inputs, Contents, plain_inputs}}
+use Rattle.command_base.specs.{Endings.{HasOutcome}, Outcomes.{IsThirdOutcome}, Questions.{question_by}, FileAnswers.{AnswersFiles, IsDueOfFiles}}
 use Rattle.command_base.specs.CheckedTexts.{checked_status, checked_text}
 
 -- what the third file is to the model and the case

@@ -1,26 +1,20 @@
 -- The table reads exactly the terminals of the listings.
 use Rattle.std.proofs.Common.{◌≡◌, ℕ, Bool, true, false, List, [], ◌∷◌, ◌++◌, Some, IsTrue, MatchOption, map, codes, refl, sym, ap, subst, ◌∙◌, append_assoc}
 use Rattle.std.proofs.lemmas.List.{append-nil, map-append}
-use Rattle.ll_grammar.specs.Rules.{Derives}
-use Rattle.ll_grammar.specs.Texts.{IsText}
-use Rattle.ll_grammar.specs.declared.grammar.Symbol.{Symbol}
+use Rattle.ll_grammar.specs.{Rules.{Derives}, Texts.{IsText}, declared.grammar.Symbol.{Symbol}}
 use Rattle.ll_grammar.specs.declared.grammar.Symbol.TheVariants.{Terminal as a_terminal, Nonterminal as a_nonterminal}
-use Rattle.ll_grammar.proofs.DerivesLaws.{Each, meaning, derives-begin, derives-end}
-use Rattle.ll_grammar.proofs.DerivesLaws.Each.{none, class, part}
-use Rattle.uspec_lexer.specs.Token.{Token}
-use Rattle.uspec_lexer.specs.Vocabulary.{expected_terminal}
+use Rattle.ll_grammar.proofs.DerivesLaws.{Each, meaning, derives-begin, derives-end, Each.{none, class, part}}
+use Rattle.uspec_lexer.specs.{Token.{Token}, Vocabulary.{expected_terminal}, Expected.{Expected, a_word, placed_word, a_number, a_symbol, Is, Spell}}
+use Rattle.uspec_lexer.proofs.Spelling.{spell-append, map-head, map-part}
+use Rattle.uspec_lexer.proofs.Words.{is_word, is_placed_word, is_symbol, is_placed_symbol, is_number, is_named, word_is_name, terminals-of_tokens}
 use Rattle.x86_litmus.specs.Listing.{Named, Location, bare, bracketed, Stated, Block, no_values, values, Action, fence, store, load, Cell, empty, instruction, Row, Equation, of_register, of_location, Condition, Listing}
-use Rattle.uspec_lexer.specs.Expected.{Expected, a_word, placed_word, a_number, a_symbol, Is, Spell}
 use Rattle.x86_litmus.specs.Syntax.{a_name, spelled_location, spelled_stated, spelled_values, spelled_block, spelled_columns, spelled_action, spelled_cell, spelled_cells, spelled_row, spelled_equation, spelled_equations, spelled_conjunction, spelled_asked, spelled_denial, spelled_rows, spelled_listing, IsListing}
 use Rattle.x86_litmus.specs.Terminals.{word_terminal, symbol_terminal, vocabulary, terminal_of, is_name}
-use Rattle.x86_litmus.specs.Phrases.{number_and, bracketed_and, register_and, production, is_nullable, deep, rules}
-use Rattle.x86_litmus.specs.declared.terminal.Terminal.{Terminal}
+use Rattle.x86_litmus.specs.{Phrases.{number_and, bracketed_and, register_and, production, is_nullable, deep, rules}, declared.terminal.Terminal.{Terminal}}
 use Rattle.x86_litmus.specs.declared.terminal.Terminal.TheVariants.{Mov, Mfence, Exists, Name, Number, OpenBrace, CloseBrace, Semicolon, Bar, OpenBracket, CloseBracket, Comma, Dollar, Colon, Equals, Open, Close, Tilde, And}
 use Rattle.x86_litmus.specs.declared.phrase.Phrase.{Phrase}
 use Rattle.x86_litmus.specs.declared.phrase.Phrase.TheVariants.{Listing as ListingPart, Values, MoreValues, Columns, MoreColumns, Rows, Cells, MoreCells, Move, Asked, Equations, MoreEquations, AnyName}
 use Rattle.x86_litmus.proofs.Words.{sorted}
-use Rattle.uspec_lexer.proofs.Spelling.{spell-append, map-head, map-part}
-use Rattle.uspec_lexer.proofs.Words.{is_word, is_placed_word, is_symbol, is_placed_symbol, is_number, is_named, word_is_name, terminals-of_tokens}
 
 -- From the table to the grammar: tokens of these terminals spell a listing.
 

@@ -1,6 +1,5 @@
 -- Words that are one, byte for byte.
-use Rattle.std.proofs.Common.{◌≡◌, ℕ, true, List, refl}
-use Rattle.std.proofs.lemmas.Slice.Eq.{bytes_eq-Decides}
+use Rattle.std.proofs.{Common.{◌≡◌, ℕ, true, List, refl}, lemmas.Slice.Eq.{bytes_eq-Decides}}
 use Rattle.pc_common.specs.Names.{same_name}
 
 pub same_is : (v w : List ℕ) → same_name v w ≡ true → v ≡ w

@@ -1,19 +1,12 @@
 -- The case of what is sound: its micro-ops and its stated values are what the type of a case asks for.
 use Rattle.std.proofs.Common.{◌≡◌, ℕ, zero, suc, ◌+◌, ◌<◌, ◌≤◌, Bool, true, false, not, List, [], ◌∷◌, ◌++◌, Some, length, map, slice_get, get_or, if◌then◌else◌, cond, refl, sym, ap, subst, ◌∙◌, ◌⊎◌, inl, inr, arith}
-use Rattle.std.specs.Prelude.{◌↔◌, IsNone, filter, fold, ◌==◌, ◌||◌}
+use Rattle.std.{proofs.lemmas.{Bool.{eqb-true}, List.{length-append, Folds.{list_any-append}}}, specs.Prelude.{◌↔◌, IsNone, filter, fold, ◌==◌, ◌||◌}}
 use Rattle.std.specs.List.{list_any}
-use Rattle.std.proofs.lemmas.Bool.{eqb-true}
-use Rattle.std.proofs.lemmas.List.{length-append}
-use Rattle.std.proofs.lemmas.List.Folds.{list_any-append}
-use Rattle.pc_common.specs.Names.{same_name}
-use Rattle.pc_common.specs.Case.{PageAt, Address, Value, number, MicroOp, fence as a_fence}
-use Rattle.pc_case.specs.MicroOps.{AreMicroOps}
-use Rattle.pc_case.specs.Stated.{IsStatedOnce}
-use Rattle.x86_litmus.specs.Listing.{Action, fence, store, load}
-use Rattle.x86_litmus.specs.Said.{Instruction, Asked, Said}
+use Rattle.pc_common.specs.{Names.{same_name}, Case.{PageAt, Address, Value, number, MicroOp, fence as a_fence}}
+use Rattle.pc_case.specs.{MicroOps.{AreMicroOps}, Stated.{IsStatedOnce}}
+use Rattle.x86_litmus.specs.{Listing.{Action, fence, store, load}, Said.{Instruction, Asked, Said}}
 use Rattle.x86_litmus.specs.Cases.{seen, seen_value, seen_in, seen_by, locations, number_of, test_order, address_of, kind_of_action, touched, op_of, numbered, stated, case_of}
-use Rattle.x86_litmus.specs.Sound.{IsOnce, IsSound}
-use Rattle.x86_litmus.proofs.Bytes.{same_is, same_self}
+use Rattle.x86_litmus.{specs.Sound.{IsOnce, IsSound}, proofs.Bytes.{same_is, same_self}}
 
 -- an instruction stands in one column at most
 cons_none : (k : ℕ) (i : Instruction) (is : List Instruction) → k ≤ i.thread → length (test_order k (i ∷ is)) ≡ length (test_order k is)

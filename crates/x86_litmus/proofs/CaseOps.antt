@@ -2,10 +2,7 @@
 use Rattle.std.proofs.Common.{ℕ, List, sym, subst}
 use Rattle.pc_common.specs.Case.{Case}
 use Rattle.pc_case.specs.MicroOps.{AreMicroOps}
-use Rattle.x86_litmus.specs.Items.{items_of}
-use Rattle.x86_litmus.specs.Answer.{CaseOf}
-use Rattle.x86_litmus.proofs.Sounds.{sound}
-use Rattle.x86_litmus.proofs.CaseFacts.{are_micro_ops}
+use Rattle.x86_litmus.{specs.{Items.{items_of}, Answer.{CaseOf}}, proofs.{Sounds.{sound}, CaseFacts.{are_micro_ops}}}
 
 pub case_ops : (bytes : List ℕ) (c : Case) → CaseOf bytes c → AreMicroOps c.ops
 case_ops bytes c (s, comes, is) =

@@ -1,11 +1,7 @@
 -- The line at a place, and those after it.
 use Rattle.std.proofs.Common.{◌≡◌, ℕ, zero, suc, ◌+◌, ◌<◌, ◌≤◌, Bool, true, false, not, List, [], ◌∷◌, length, take, drop, if◌then◌else◌, refl, sym, ap, ◌∙◌, arith, ⊎_elim, nat_lt}
-use Rattle.std.specs.List.{prefix_len, onto_first}
-use Rattle.std.proofs.str.Laws.{order}
-use Rattle.std.proofs.lemmas.Bool.{lt-ltb, le-ltb}
-use Rattle.std.proofs.lemmas.List.{drop-drop, length-drop}
-use Rattle.x86_litmus.specs.Header.{is_line_end, lines}
-use Rattle.x86_litmus.specs.Lines.{lines_from}
+use Rattle.std.{proofs.{str.Laws.{order}, lemmas.{Bool.{lt-ltb, le-ltb}, List.{drop-drop, length-drop}}}, specs.List.{prefix_len, onto_first}}
+use Rattle.x86_litmus.specs.{Header.{is_line_end, lines}, Lines.{lines_from}}
 
 -- the lines after this many bytes
 abbrev rest : ℕ → List ℕ → List (List ℕ)

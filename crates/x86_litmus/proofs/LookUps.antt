@@ -1,18 +1,10 @@
 -- Values and locations that are looked up by name.
 use Rattle.std.proofs.Common.{◌≡◌, ℕ, ◌+◌, Bool, true, false, not, List, [], ◌∷◌, ◌++◌, map, length, Option, Some, None, cond, Bor, if◌then◌else◌, nat_lt, refl, ap, ◌∙◌, arith}
-use Rattle.std.specs.Prelude.{◌||◌}
-use Rattle.std.specs.Map.{lookup}
+use Rattle.std.{proofs.lemmas.{Bool.{ltb-false}, List.{map-append, Sums.{prefix_len-le-length}}}, specs.{Prelude.{◌||◌}, Map.{lookup}}}
 use Rattle.std.specs.List.{list_any, position, position_or_len}
-use Rattle.std.proofs.lemmas.Bool.{ltb-false}
-use Rattle.std.proofs.lemmas.List.{map-append}
-use Rattle.std.proofs.lemmas.List.Sums.{prefix_len-le-length}
-use Rattle.indexmap.specs.IndexMap.{IndexMap, insert_entry}
-use Rattle.indexmap.specs.IndexSet.{insert_key}
-use Rattle.indexmap.proofs.CallerLemmas.{insert_entry-new}
+use Rattle.indexmap.{specs.{IndexMap.{IndexMap, insert_entry}, IndexSet.{insert_key}}, proofs.CallerLemmas.{insert_entry-new}}
 use Rattle.pc_common.specs.Names.{same_name}
-use Rattle.x86_litmus.specs.Cases.{seen, number_of}
-use Rattle.x86_litmus.specs.Faults.{value_at}
-use Rattle.x86_litmus.specs.Values.{plain_entry, plain_word}
+use Rattle.x86_litmus.specs.{Cases.{seen, number_of}, Faults.{value_at}, Values.{plain_entry, plain_word}}
 
 pub look_up : (es : List (Bor (List ℕ) × ℕ)) (w : List ℕ) → lookup (λ k. same_name w k.now) es ≡ value_at (map plain_entry es) w
 look_up [] w = refl

@@ -1,18 +1,11 @@
 -- What the loops over what is said keep.
 use Rattle.std.proofs.Common.{◌≡◌, ℕ, zero, suc, ◌+◌, ◌<◌, Bool, true, false, List, [], ◌∷◌, ◌++◌, map, length, take, drop, get_or, slice_get, Some, cond, fold, filter, ◌==◌, append_assoc, refl, sym, ap, subst, ◌∙◌, arith}
-use Rattle.std.proofs.lemmas.List.{append-nil, drop_more, map-append, map_more, length-map}
-use Rattle.std.proofs.lemmas.Option.{slice_get_within, get_or_from_slice_get}
-use Rattle.std.proofs.lemmas.List.Sums.{fold_more}
-use Rattle.std.proofs.lemmas.List.Elements.{filter-append}
+use Rattle.std.proofs.lemmas.List.{append-nil, drop_more, map-append, map_more, length-map, Sums.{fold_more}, Elements.{filter-append}}
+use Rattle.std.proofs.lemmas.{Option.{slice_get_within, get_or_from_slice_get}, Bool.{eqb-true, eq-eqb}}
 use Rattle.pc_common.specs.Case.{MicroOp}
-use Rattle.pc_case.specs.declared.op.Op.{Op}
-use Rattle.pc_case.specs.Plain.{micro_op}
-use Rattle.x86_litmus.specs.declared.item.Instruction.{Instruction as Placed}
-use Rattle.x86_litmus.specs.declared.item.Action.TheVariants.{Fence}
-use Rattle.std.proofs.lemmas.Bool.{eqb-true, eq-eqb}
-use Rattle.x86_litmus.specs.Plain.{plain_instruction}
-use Rattle.x86_litmus.specs.Said.{Instruction, Asked}
-use Rattle.x86_litmus.specs.Cases.{op_of, numbered}
+use Rattle.pc_case.specs.{declared.op.Op.{Op}, Plain.{micro_op}}
+use Rattle.x86_litmus.specs.{declared.item.{Instruction.{Instruction as Placed}, Action.TheVariants.{Fence}}, Plain.{plain_instruction}}
+use Rattle.x86_litmus.specs.{Said.{Instruction, Asked}, Cases.{op_of, numbered}}
 
 -- the first of the elements that a loop has still to see
 pub front : {X Y : Type 0} (f : X → Y) (xs : List X) (i : ℕ) (d : X) → i < length xs → map f (drop i xs) ≡ f (get_or xs i d) ∷ map f (drop (i + 1) xs)

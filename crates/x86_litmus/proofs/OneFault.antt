@@ -1,18 +1,10 @@
 -- A text has one first fault at most.
 use Rattle.std.proofs.Common.{◌≡◌, ◌≢◌, ℕ, inl, inr, List, refl, sym, ap, subst, ◌∙◌}
-use Rattle.pc_common.specs.declared.place.Place.{Place}
-use Rattle.pc_common.specs.declared.fault.FaultKind.{FaultKind}
-use Rattle.ll_grammar.specs.FirstFault.{IsFaultAt}
-use Rattle.ll_grammar.proofs.Faults.{one_place}
-use Rattle.uspec_lexer.specs.Token.{Token, token_place}
-use Rattle.x86_litmus.specs.Tokens.{IsLexicalFault}
-use Rattle.x86_litmus.specs.Header.{fault}
-use Rattle.uspec_lexer.proofs.SpellsLaws.{spells-no_fault, lexical_fault-unique}
-use Rattle.x86_litmus.specs.Syntax.{IsListing}
-use Rattle.x86_litmus.specs.Faults.{Found, faulty, found}
-use Rattle.x86_litmus.specs.Answer.{IsTokenFault, IsX86Fault}
-use Rattle.x86_litmus.specs.declared.fault.X86Fault.{X86Fault}
-use Rattle.x86_litmus.specs.declared.fault.X86Fault.TheVariants.{Lexical, Syntax, Content, Memory}
+use Rattle.pc_common.specs.declared.{place.Place.{Place}, fault.FaultKind.{FaultKind}}
+use Rattle.ll_grammar.{specs.FirstFault.{IsFaultAt}, proofs.Faults.{one_place}}
+use Rattle.uspec_lexer.{specs.Token.{Token, token_place}, proofs.SpellsLaws.{spells-no_fault, lexical_fault-unique}}
+use Rattle.x86_litmus.specs.{Tokens.{IsLexicalFault}, Header.{fault}, Syntax.{IsListing}, Faults.{Found, faulty, found}, Answer.{IsTokenFault, IsX86Fault}}
+use Rattle.x86_litmus.specs.declared.fault.X86Fault.{X86Fault, TheVariants.{Lexical, Syntax, Content, Memory}}
 use Rattle.x86_litmus.proofs.OneReading.{one_body, no_body, one_list, one_outcome, no_lexical, no_token_fault}
 
 one_token_fault : (bytes : List ℕ) (p q : Place) → IsTokenFault bytes p → IsTokenFault bytes q → p.offset ≡ q.offset

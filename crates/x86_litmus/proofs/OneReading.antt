@@ -1,19 +1,11 @@
 -- A text has one case at most, and none where it has a first fault.
 use Rattle.std.proofs.Common.{◌≡◌, ◌≢◌, ℕ, inl, inr, List, refl, sym, ap, subst, ◌∙◌}
 use Rattle.pc_common.specs.Case.{Case}
-use Rattle.ll_grammar.specs.FirstFault.{IsFaultAt}
-use Rattle.ll_grammar.proofs.Faults.{no_place}
-use Rattle.uspec_lexer.specs.Token.{Token}
-use Rattle.x86_litmus.specs.Tokens.{Spells, IsLexicalFault}
-use Rattle.x86_litmus.specs.Header.{body, fault, header_of}
-use Rattle.uspec_lexer.proofs.SpellsLaws.{spells-unique, spells-no_fault}
-use Rattle.x86_litmus.specs.Syntax.{IsListingOf, IsListing}
-use Rattle.x86_litmus.specs.Faults.{Outcome, faulty, says, found, outcome_of}
-use Rattle.x86_litmus.specs.Cases.{case_of}
-use Rattle.x86_litmus.specs.Reading.{items_in}
-use Rattle.x86_litmus.specs.Answer.{IsBody, ComesTo, CaseOf, IsX86Fault}
-use Rattle.x86_litmus.specs.declared.fault.X86Fault.{X86Fault}
-use Rattle.x86_litmus.specs.declared.fault.X86Fault.TheVariants.{Lexical, Syntax, Content, Memory}
+use Rattle.ll_grammar.{specs.FirstFault.{IsFaultAt}, proofs.Faults.{no_place}}
+use Rattle.uspec_lexer.{specs.Token.{Token}, proofs.SpellsLaws.{spells-unique, spells-no_fault}}
+use Rattle.x86_litmus.specs.{Tokens.{Spells, IsLexicalFault}, Header.{body, fault, header_of}, Syntax.{IsListingOf, IsListing}}
+use Rattle.x86_litmus.specs.{Faults.{Outcome, faulty, says, found, outcome_of}, Cases.{case_of}, Reading.{items_in}}
+use Rattle.x86_litmus.specs.{Answer.{IsBody, ComesTo, CaseOf, IsX86Fault}, declared.fault.X86Fault.{X86Fault, TheVariants.{Lexical, Syntax, Content, Memory}}}
 use Rattle.x86_litmus.proofs.Readings.{read_listing}
 
 pub one_body : (bytes : List ℕ) {j k : ℕ} → header_of bytes ≡ body j → header_of bytes ≡ body k → j ≡ k

@@ -1,19 +1,10 @@
 -- What is read of a listing's tokens, as a case or a fault of its bytes.
 use Rattle.std.proofs.Common.{◌≡◌, ℕ, List, Option, Some, None, sym, ap, ◌∙◌}
-use Rattle.pc_common.specs.Case.{Case}
-use Rattle.pc_common.specs.declared.place.Place.{Place}
-use Rattle.pc_common.specs.declared.fault.FaultKind.{FaultKind}
+use Rattle.pc_common.specs.{Case.{Case}, declared.{place.Place.{Place}, fault.FaultKind.{FaultKind}}}
 use Rattle.uspec_lexer.specs.Token.{Token}
-use Rattle.x86_litmus.specs.Syntax.{IsListing}
-use Rattle.x86_litmus.specs.Said.{Said}
-use Rattle.x86_litmus.specs.Faults.{Found, found, open_fault, says, unless, outcome_of}
-use Rattle.x86_litmus.specs.Cases.{case_of}
-use Rattle.x86_litmus.specs.Reading.{items_in, IsReadTo, IsFaultIn, CaseIn, IsListingFault}
-use Rattle.x86_litmus.specs.Answer.{IsBody, CaseOf, IsX86Fault}
-use Rattle.x86_litmus.specs.Sound.{IsSound}
-use Rattle.x86_litmus.specs.declared.fault.X86Fault.{X86Fault}
-use Rattle.x86_litmus.specs.declared.fault.X86Fault.TheVariants.{Lexical, Syntax, Content, Memory}
-use Rattle.x86_litmus.proofs.Readings.{read_listing}
+use Rattle.x86_litmus.specs.{Syntax.{IsListing}, Said.{Said}, Faults.{Found, found, open_fault, says, unless, outcome_of}, Cases.{case_of}}
+use Rattle.x86_litmus.specs.{Reading.{items_in, IsReadTo, IsFaultIn, CaseIn, IsListingFault}, Answer.{IsBody, CaseOf, IsX86Fault}, Sound.{IsSound}}
+use Rattle.x86_litmus.{specs.declared.fault.X86Fault.{X86Fault, TheVariants.{Lexical, Syntax, Content, Memory}}, proofs.Readings.{read_listing}}
 use Rattle.x86_litmus.proofs.Sounds.{sound}
 
 -- no load is open

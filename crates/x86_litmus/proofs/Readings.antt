@@ -2,8 +2,8 @@
 use Rattle.std.proofs.Common.{◌≡◌, ℕ, ◌+◌, Bool, true, false, List, [], ◌∷◌, ◌++◌, map, codes, refl, sym, ap, subst, ◌∙◌, append_assoc}
 use Rattle.std.proofs.lemmas.List.{append-nil}
 use Rattle.uspec_lexer.specs.Token.{Token, Kind}
-use Rattle.x86_litmus.specs.Listing.{Named, Location, bare, bracketed, Stated, Block, no_values, values, fence, store, load, Cell, empty, instruction, Row, Equation, of_register, of_location, Condition, Listing}
 use Rattle.uspec_lexer.specs.Expected.{Expected, a_word, placed_word, a_number, placed_number, a_text, a_symbol, placed_symbol, Is, Spell}
+use Rattle.x86_litmus.specs.Listing.{Named, Location, bare, bracketed, Stated, Block, no_values, values, fence, store, load, Cell, empty, instruction, Row, Equation, of_register, of_location, Condition, Listing}
 use Rattle.x86_litmus.specs.Syntax.{a_name, spelled_location, spelled_stated, spelled_values, spelled_block, spelled_columns, spelled_cell, spelled_cells, spelled_row, spelled_equation, spelled_equations, spelled_conjunction, spelled_asked, spelled_denial, spelled_rows, IsListingOf}
 use Rattle.x86_litmus.specs.Items.{Item, initial, column, instructed, denied, final, name_of, initial_of, items_of_block, items_of_cell, items_of_cells, items_of_row, item_of_equation, items_of_denial, items_of_rows, items_of}
 use Rattle.x86_litmus.specs.Spots.{Spot, block, valued, head, row, moving, storing, stored, loading, asking, thread, register, behind, Step, goes, after_name, after_number, after_symbol, after_kind, after, with_item, items_from}

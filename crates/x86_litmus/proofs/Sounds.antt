@@ -1,20 +1,12 @@
 -- What a listing without a fault says is sound.
 use Rattle.std.proofs.Common.{◌≡◌, ℕ, zero, suc, ◌<◌, ◌≤◌, Bool, true, false, List, [], ◌∷◌, ◌++◌, Option, Some, None, length, slice_get, if◌then◌else◌, nat_lt, refl, sym, ap, subst, ◌∙◌, ◌⊎◌, inl, inr, arith}
-use Rattle.std.specs.Option.{option_map}
-use Rattle.std.proofs.lemmas.Bool.{ltb-true, ltb-false}
-use Rattle.std.proofs.lemmas.List.{length-append}
-use Rattle.pc_common.specs.Names.{same_name}
-use Rattle.pc_common.specs.declared.fault.FaultKind.{FaultKind}
-use Rattle.pc_common.specs.declared.fault.FaultKind.TheVariants.{CoreNumber, TooManyOps, AgainInitial, AgainFinal, X86Column}
-use Rattle.pc_common.specs.declared.value.Value.{Value}
-use Rattle.pc_common.specs.declared.value.Value.TheVariants.{Number}
-use Rattle.pc_common.specs.declared.limits.TheConstants.{MAX_CORE, MAX_OPS}
-use Rattle.x86_litmus.specs.Listing.{Named, Action}
-use Rattle.x86_litmus.specs.Items.{Item, initial, column, instructed, row_ended, denied, register_is, final}
+use Rattle.std.{proofs.lemmas.{Bool.{ltb-true, ltb-false}, List.{length-append}}, specs.Option.{option_map}}
+use Rattle.pc_common.specs.{Names.{same_name}, declared.fault.FaultKind.{FaultKind, TheVariants.{CoreNumber, TooManyOps, AgainInitial, AgainFinal, X86Column}}}
+use Rattle.pc_common.specs.declared.{value.Value.{Value, TheVariants.{Number}}, limits.TheConstants.{MAX_CORE, MAX_OPS}}
+use Rattle.x86_litmus.specs.{Listing.{Named, Action}, Items.{Item, initial, column, instructed, row_ended, denied, register_is, final}}
 use Rattle.x86_litmus.specs.Said.{Instruction, Said, nothing, add}
 use Rattle.x86_litmus.specs.Faults.{Found, found, value_at, again, thread_name, column_fault, reload, instruction_fault, fault_of, open_fault, says, unless, judged}
-use Rattle.x86_litmus.specs.Sound.{IsOnce, IsSound}
-use Rattle.x86_litmus.proofs.Bytes.{same_self}
+use Rattle.x86_litmus.{specs.Sound.{IsOnce, IsSound}, proofs.Bytes.{same_self}}
 
 -- one more value of a location that has none
 value_absent : (values : List (List ℕ × ℕ)) (w : List ℕ) (k : ℕ) (e : List ℕ × ℕ) → value_at values w ≡ None → slice_get values k ≡ Some e → e.0 ≡ w → ⊥

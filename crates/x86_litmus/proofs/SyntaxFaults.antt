@@ -1,18 +1,11 @@
 -- The faults of the terminals are those of the tokens.
 use Rattle.std.proofs.Common.{◌≡◌, ℕ, ◌⊎◌, List, Option, map, refl}
-use Rattle.ll_grammar.specs.Rules.{Derives}
-use Rattle.ll_grammar.specs.FirstFault.{IsFaultAt, IsAnswer, IsSyntaxAnswer, fault_place}
-use Rattle.ll_grammar.specs.declared.fault.Fault.{Fault}
-use Rattle.ll_grammar.proofs.Existence.{decided_by, kept_by}
-use Rattle.ll_grammar.proofs.Shallow.{syntax_answer, text_or_fault}
-use Rattle.uspec_lexer.specs.Token.{Token}
-use Rattle.uspec_lexer.specs.Vocabulary.{some_token}
-use Rattle.x86_litmus.specs.Syntax.{IsListing}
-use Rattle.x86_litmus.specs.Terminals.{spelling, sort_of, terminal_of, word_terminal, symbol_terminal}
-use Rattle.x86_litmus.specs.Phrases.{rules, follow, terminals, listed, rules_predictable, rules_texts}
-use Rattle.x86_litmus.specs.declared.terminal.Terminal.{Terminal}
-use Rattle.x86_litmus.specs.declared.phrase.Phrase.TheVariants.{Listing}
-use Rattle.x86_litmus.proofs.Bridge.{listing_of_derives, derives_of_listing}
+use Rattle.ll_grammar.specs.{Rules.{Derives}, FirstFault.{IsFaultAt, IsAnswer, IsSyntaxAnswer, fault_place}, declared.fault.Fault.{Fault}}
+use Rattle.ll_grammar.proofs.{Existence.{decided_by, kept_by}, Shallow.{syntax_answer, text_or_fault}}
+use Rattle.uspec_lexer.specs.{Token.{Token}, Vocabulary.{some_token}}
+use Rattle.x86_litmus.specs.{Syntax.{IsListing}, Terminals.{spelling, sort_of, terminal_of, word_terminal, symbol_terminal}}
+use Rattle.x86_litmus.specs.{Phrases.{rules, follow, terminals, listed, rules_predictable, rules_texts}, declared.terminal.Terminal.{Terminal}}
+use Rattle.x86_litmus.{specs.declared.phrase.Phrase.TheVariants.{Listing}, proofs.Bridge.{listing_of_derives, derives_of_listing}}
 
 -- some token of each terminal
 abbrev some : Terminal → Token

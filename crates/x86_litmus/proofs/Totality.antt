@@ -2,19 +2,11 @@
 use Rattle.std.proofs.Common.{◌≡◌, ◌≢◌, ℕ, ◌+◌, ◌≤◌, Bool, true, false, ◌⊎◌, ⊎_elim, inl, inr, List, [], ◌∷◌, length, if◌then◌else◌, refl, arith}
 use Rattle.std.specs.List.{onto_first}
 use Rattle.pc_common.specs.Case.{Case}
-use Rattle.uspec_lexer.specs.Token.{Token, token_place}
+use Rattle.uspec_lexer.{specs.Token.{Token, token_place}, proofs.Totality.{some_answer}}
 use Rattle.x86_litmus.specs.Header.{Header, body, fault, is_line_end, lines, indent, opens_body, has_no_meaning, is_title, header_behind, header_of_lines, header_of}
-use Rattle.x86_litmus.specs.Tokens.{listings}
-use Rattle.uspec_lexer.proofs.Totality.{some_answer}
-use Rattle.x86_litmus.specs.Listing.{Listing}
-use Rattle.x86_litmus.specs.Syntax.{IsListingOf}
-use Rattle.x86_litmus.specs.Items.{items_of}
-use Rattle.x86_litmus.specs.Faults.{Outcome, faulty, says, outcome_of}
-use Rattle.x86_litmus.specs.Cases.{case_of}
-use Rattle.x86_litmus.specs.Answer.{IsBody, ComesTo, CaseOf, IsX86Fault}
-use Rattle.x86_litmus.specs.declared.fault.X86Fault.{X86Fault}
-use Rattle.x86_litmus.specs.declared.fault.X86Fault.TheVariants.{Lexical, Syntax, Content, Memory}
-use Rattle.x86_litmus.proofs.SyntaxFaults.{listing_or_fault}
+use Rattle.x86_litmus.specs.{Tokens.{listings}, Listing.{Listing}, Syntax.{IsListingOf}, Items.{items_of}, Faults.{Outcome, faulty, says, outcome_of}}
+use Rattle.x86_litmus.specs.{Cases.{case_of}, Answer.{IsBody, ComesTo, CaseOf, IsX86Fault}, declared.fault.X86Fault.{X86Fault}}
+use Rattle.x86_litmus.{specs.declared.fault.X86Fault.TheVariants.{Lexical, Syntax, Content, Memory}, proofs.SyntaxFaults.{listing_or_fault}}
 
 -- the bytes of lines, each with an LF
 total : List (List ℕ) → ℕ

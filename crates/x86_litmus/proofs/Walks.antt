@@ -1,18 +1,12 @@
 -- A reader's steps over the tokens of a listing.
 use Rattle.std.proofs.Common.{◌≡◌, ℕ, ◌+◌, ◌<◌, ◌≤◌, Bool, true, false, List, ◌∷◌, length, drop, slice_get, Option, Some, None, codes, if◌then◌else◌, refl, sym, ap, ◌∙◌, arith}
-use Rattle.std.proofs.lemmas.List.{drop_more}
-use Rattle.std.proofs.lemmas.Option.{get_or_from_slice_get}
+use Rattle.std.proofs.lemmas.{List.{drop_more}, Option.{get_or_from_slice_get}}
 use Rattle.pc_common.specs.Names.{same_name}
 use Rattle.uspec_lexer.specs.Token.{Token, Kind, name, number, text, symbol}
-use Rattle.x86_litmus.specs.Listing.{Named, fence}
-use Rattle.x86_litmus.specs.Items.{Item, instructed, row_ended, denied}
-use Rattle.x86_litmus.specs.Said.{Said, add}
+use Rattle.x86_litmus.specs.{Listing.{Named, fence}, Items.{Item, instructed, row_ended, denied}, Said.{Said, add}}
 use Rattle.x86_litmus.specs.Spots.{Spot, block, valued, head, row, moving, storing, stored, loading, asking, thread, register, behind, goes, tells, after_word, after_name, after_number, after_row_symbol, after_symbol, after_kind, after, with_item, items_from, column_of}
-use Rattle.x86_litmus.specs.Faults.{Found, found, fault_of, faulty, unless, judged, outcome_of}
-use Rattle.x86_litmus.specs.Reading.{items_in, IsFaultIn}
-use Rattle.x86_litmus.specs.Takes.{IsListingRefusal}
-use Rattle.x86_litmus.specs.declared.fault.X86Fault.{X86Fault}
-use Rattle.x86_litmus.specs.declared.fault.X86Fault.TheVariants.{Lexical, Syntax, Content, Memory}
+use Rattle.x86_litmus.specs.{Faults.{Found, found, fault_of, faulty, unless, judged, outcome_of}, Reading.{items_in, IsFaultIn}, Takes.{IsListingRefusal}}
+use Rattle.x86_litmus.specs.declared.fault.X86Fault.{X86Fault, TheVariants.{Lexical, Syntax, Content, Memory}}
 
 next_tokens : (ts : List Token) (k : ℕ) (t : Token) → slice_get ts k ≡ Some t → k < length ts → drop k ts ≡ t ∷ drop (k + 1) ts
 next_tokens ts k t at lt =

@@ -2,19 +2,11 @@
 -- those of syntax, and those of content.
 use Rattle.std.specs.Prelude.{◌≡◌, ℕ, ⊤, ◌⊎◌, List}
 use Rattle.ll_grammar.specs.FirstFault.{IsFaultAt}
-use Rattle.pc_common.specs.Case.{Case}
-use Rattle.pc_common.specs.declared.place.Place.{Place}
+use Rattle.pc_common.specs.{Case.{Case}, declared.place.Place.{Place}}
 use Rattle.uspec_lexer.specs.Token.{Token, token_place}
-use Rattle.x86_litmus.specs.Tokens.{Spells, IsLexicalFault}
-use Rattle.x86_litmus.specs.Header.{header_of, body, fault}
-use Rattle.x86_litmus.specs.Listing.{Listing}
-use Rattle.x86_litmus.specs.Syntax.{IsListingOf, IsListing}
-use Rattle.x86_litmus.specs.Items.{items_of}
-use Rattle.x86_litmus.specs.Said.{Said}
-use Rattle.x86_litmus.specs.Faults.{Outcome, faulty, says, found, outcome_of}
-use Rattle.x86_litmus.specs.Cases.{case_of}
-use Rattle.x86_litmus.specs.declared.fault.X86Fault.{X86Fault}
-use Rattle.x86_litmus.specs.declared.fault.X86Fault.TheVariants.{Lexical, Syntax, Content, Memory}
+use Rattle.x86_litmus.specs.{Tokens.{Spells, IsLexicalFault}, Header.{header_of, body, fault}, Listing.{Listing}, Syntax.{IsListingOf, IsListing}}
+use Rattle.x86_litmus.specs.{Items.{items_of}, Said.{Said}, Faults.{Outcome, faulty, says, found, outcome_of}, Cases.{case_of}}
+use Rattle.x86_litmus.specs.declared.fault.X86Fault.{X86Fault, TheVariants.{Lexical, Syntax, Content, Memory}}
 
 -- after their header the bytes spell these tokens
 pub record IsBody (bytes : List ℕ) (tokens : List Token) : Type 0 where

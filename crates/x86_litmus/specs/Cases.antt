@@ -3,8 +3,7 @@ use Rattle.std.specs.Prelude.{ℕ, zero, suc, ◌+◌, ◌==◌, Bool, true, fal
 use Rattle.std.specs.List.{list_any, position_or_len}
 use Rattle.pc_common.specs.Names.{same_name}
 use Rattle.pc_common.specs.Case.{Address, page, Value, number, Touch, Kind, read, write, fence as a_fence, MicroOp, Expectation, forbidden, unstated, Case}
-use Rattle.x86_litmus.specs.Listing.{Action, fence, store, load}
-use Rattle.x86_litmus.specs.Said.{Instruction, Asked, Said, is_about}
+use Rattle.x86_litmus.specs.{Listing.{Action, fence, store, load}, Said.{Instruction, Asked, Said, is_about}}
 
 -- the words with this one after them, where it is not among them
 abbrev pub seen : List (List ℕ) → List ℕ → List (List ℕ)

@@ -1,17 +1,11 @@
 -- The content faults of a listing. Each item is judged by those before it, and the loads once more after the
 -- condition.
-use Rattle.std.specs.Prelude.{ℕ, ◌==◌, ◌++◌, List, [], ◌∷◌, Option, Some, None, length, nat_lt, codes, if◌then◌else◌}
-use Rattle.std.specs.Map.{lookup}
-use Rattle.std.specs.Option.{option_map}
+use Rattle.std.specs.{Prelude.{ℕ, ◌==◌, ◌++◌, List, [], ◌∷◌, Option, Some, None, length, nat_lt, codes, if◌then◌else◌}, Map.{lookup}, Option.{option_map}}
 use Rattle.std.specs.Fmt.{decimal}
-use Rattle.pc_common.specs.Names.{same_name}
-use Rattle.pc_common.specs.declared.fault.FaultKind.{FaultKind}
+use Rattle.pc_common.specs.{Names.{same_name}, declared.fault.FaultKind.{FaultKind}}
 use Rattle.pc_common.specs.declared.fault.FaultKind.TheVariants.{CoreNumber, TooManyOps, AgainInitial, AgainFinal, X86Column, X86Reload, X86Unloaded, X86Again, X86Open}
-use Rattle.pc_common.specs.declared.value.Value.{Value}
-use Rattle.pc_common.specs.declared.value.Value.TheVariants.{Number}
-use Rattle.pc_common.specs.declared.limits.TheConstants.{MAX_CORE, MAX_OPS}
-use Rattle.x86_litmus.specs.Listing.{Named, Action, fence, store, load}
-use Rattle.x86_litmus.specs.Items.{Item, initial, column, instructed, row_ended, denied, register_is, final}
+use Rattle.pc_common.specs.declared.{value.Value.{Value, TheVariants.{Number}}, limits.TheConstants.{MAX_CORE, MAX_OPS}}
+use Rattle.x86_litmus.specs.{Listing.{Named, Action, fence, store, load}, Items.{Item, initial, column, instructed, row_ended, denied, register_is, final}}
 use Rattle.x86_litmus.specs.Said.{Instruction, Asked, Said, nothing, add, loads, gives}
 
 -- a fault, and where it stands

@@ -1,11 +1,7 @@
 -- Parts of the table of faults that the code judges alone.
 use Rattle.std.specs.Prelude.{ℕ, ◌==◌, Bool, ◌&&◌, List}
-use Rattle.pc_common.specs.declared.fault.FaultKind.{FaultKind}
-use Rattle.pc_common.specs.declared.fault.FaultKind.TheVariants.{AgainInitial, AgainFinal}
-use Rattle.pc_common.specs.declared.value.Value.{Value}
-use Rattle.x86_litmus.specs.Said.{Instruction, is_load_of}
-use Rattle.x86_litmus.specs.declared.faults.When.{When}
-use Rattle.x86_litmus.specs.declared.faults.When.TheVariants.{Before, Behind}
+use Rattle.pc_common.specs.declared.{fault.FaultKind.{FaultKind, TheVariants.{AgainInitial, AgainFinal}}, value.Value.{Value}}
+use Rattle.x86_litmus.specs.{Said.{Instruction, is_load_of}, declared.faults.When.{When, TheVariants.{Before, Behind}}}
 
 -- the kind of the fault where such a value is stated again
 abbrev pub word_of : When → Value → Value → FaultKind

@@ -1,9 +1,7 @@
 -- What holds of the bytes of every listing. Want of memory counts as no fault.
 use Rattle.std.specs.Prelude.{◌≡◌, ◌≢◌, ◌⊎◌, ℕ, List}
 use Rattle.pc_common.specs.Case.{Case}
-use Rattle.x86_litmus.specs.Answer.{CaseOf, IsX86Fault}
-use Rattle.x86_litmus.specs.declared.fault.X86Fault.{X86Fault}
-use Rattle.x86_litmus.specs.declared.fault.X86Fault.TheVariants.{Memory}
+use Rattle.x86_litmus.specs.{Answer.{CaseOf, IsX86Fault}, declared.fault.X86Fault.{X86Fault, TheVariants.{Memory}}}
 
 -- a fault of the bytes
 abbrev pub IsFault : List ℕ → X86Fault → Type 0

@@ -1,8 +1,7 @@
 -- The lines of a header as the reader goes over them.
 use Rattle.std.specs.Prelude.{◌≡◌, ℕ, ◌≤◌, Bool, not, List, [], length, drop, nat_lt, if◌then◌else◌}
 use Rattle.pc_common.specs.declared.place.Place.{Place}
-use Rattle.x86_litmus.specs.Header.{body, fault, is_blank, is_space, is_line_end, lines, header_of}
-use Rattle.x86_litmus.specs.declared.header.Leading.{Leading}
+use Rattle.x86_litmus.specs.{Header.{body, fault, is_blank, is_space, is_line_end, lines, header_of}, declared.header.Leading.{Leading}}
 use Rattle.x86_litmus.specs.declared.header.Leading.TheVariants.{Blanks, Spaces, Nonblanks, LineBytes}
 
 -- whether a run of this kind has the byte

@@ -1,12 +1,9 @@
 -- The grammar of listings as a table: what stands after a token where a phrase begins with it.
 use Rattle.std.specs.Prelude.{◌≡◌, ℕ, Bool, true, false, List, [], ◌∷◌, Option, Some, None, refl, if◌then◌else◌}
-use Rattle.ll_grammar.specs.Rules.{Rules}
-use Rattle.ll_grammar.specs.Predictable.{IsPredictable, HasTexts}
-use Rattle.ll_grammar.specs.LawsOfTables.{AreListed, predictable_by, texts_by, is_predictable_part, is_ranked_part}
-use Rattle.ll_grammar.specs.declared.grammar.Symbol.{Symbol}
+use Rattle.ll_grammar.specs.{Rules.{Rules}, Predictable.{IsPredictable, HasTexts}}
+use Rattle.ll_grammar.specs.{LawsOfTables.{AreListed, predictable_by, texts_by, is_predictable_part, is_ranked_part}, declared.grammar.Symbol.{Symbol}}
 use Rattle.ll_grammar.specs.declared.grammar.Symbol.TheVariants.{Terminal as a_terminal, Nonterminal as a_nonterminal}
-use Rattle.x86_litmus.specs.Terminals.{is_name}
-use Rattle.x86_litmus.specs.declared.terminal.Terminal.{Terminal}
+use Rattle.x86_litmus.specs.{Terminals.{is_name}, declared.terminal.Terminal.{Terminal}}
 use Rattle.x86_litmus.specs.declared.terminal.Terminal.TheVariants.{Mov, Mfence, Exists, Name, Number, OpenBrace, CloseBrace, Semicolon, Bar, OpenBracket, CloseBracket, Comma, Dollar, Colon, Equals, Open, Close, Tilde, And, Other}
 use Rattle.x86_litmus.specs.declared.phrase.Phrase.{Phrase}
 use Rattle.x86_litmus.specs.declared.phrase.Phrase.TheVariants.{Listing, Values, MoreValues, Columns, MoreColumns, Rows, Cells, MoreCells, Move, Asked, Equations, MoreEquations, AnyName}

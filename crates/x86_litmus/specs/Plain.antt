@@ -4,22 +4,12 @@ use Rattle.x86_litmus.specs.Listing.{Named as PlainNamed, Action as PlainAction,
 use Rattle.x86_litmus.specs.Items.{Item as PlainItem, initial, column, instructed, row_ended, denied, register_is, final}
 use Rattle.x86_litmus.specs.Said.{Instruction as PlainInstruction, Asked as PlainAsked, Said as PlainSaid}
 use Rattle.x86_litmus.specs.Spots.{Spot as PlainSpot, block, valued, head, row, moving, storing, stored, loading, asking, thread, register, behind}
-use Rattle.x86_litmus.specs.Faults.{Found}
-use Rattle.x86_litmus.specs.declared.item.Named.{Named}
-use Rattle.x86_litmus.specs.declared.item.Action.{Action}
-use Rattle.x86_litmus.specs.declared.item.Action.TheVariants.{Fence, Store, Load}
-use Rattle.x86_litmus.specs.declared.item.Instruction.{Instruction}
-use Rattle.x86_litmus.specs.declared.item.Item.{Item}
-use Rattle.x86_litmus.specs.declared.item.Item.TheVariants.{Initial, Column, Instructed, RowEnded, Denied, RegisterIs, Final}
-use Rattle.x86_litmus.specs.declared.spot.Spot.{Spot}
+use Rattle.x86_litmus.specs.{Faults.{Found}, declared.item.{Named.{Named}, Action.{Action, TheVariants.{Fence, Store, Load}}, Instruction.{Instruction}}}
+use Rattle.x86_litmus.specs.declared.{item.Item.{Item, TheVariants.{Initial, Column, Instructed, RowEnded, Denied, RegisterIs, Final}}, spot.Spot.{Spot}}
 use Rattle.x86_litmus.specs.declared.spot.Spot.TheVariants.{Block, Valued, Head, Row, Moving, Storing, Stored, Loading, Asking, Thread, Register, Behind}
-use Rattle.x86_litmus.specs.declared.said.Asked.{Asked}
-use Rattle.x86_litmus.specs.declared.said.Said.{Said}
-use Rattle.x86_litmus.specs.declared.content_fault.ContentFault.{ContentFault}
-use Rattle.x86_litmus.specs.declared.fault.X86Fault.{X86Fault}
+use Rattle.x86_litmus.specs.declared.{said.{Asked.{Asked}, Said.{Said}}, content_fault.ContentFault.{ContentFault}, fault.X86Fault.{X86Fault}}
 use Rattle.x86_litmus.specs.declared.fault.X86Fault.TheVariants.{Lexical, Memory}
-use Rattle.uspec_lexer.specs.declared.fault.LexFault.{LexFault}
-use Rattle.uspec_lexer.specs.declared.fault.LexFault.TheVariants.{Lexical as lexical, Memory as lex_memory}
+use Rattle.uspec_lexer.specs.declared.fault.LexFault.{LexFault, TheVariants.{Lexical as lexical, Memory as lex_memory}}
 
 abbrev pub plain_named : Named → PlainNamed
 plain_named n = record { word = n.word.now; at = n.at.offset }

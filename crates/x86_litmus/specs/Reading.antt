@@ -2,14 +2,8 @@
 use Rattle.std.specs.Prelude.{◌≡◌, ⊤, List, []}
 use Rattle.pc_common.specs.Case.{Case}
 use Rattle.uspec_lexer.specs.Token.{Token}
-use Rattle.x86_litmus.specs.Listing.{Listing}
-use Rattle.x86_litmus.specs.Syntax.{IsListingOf}
-use Rattle.x86_litmus.specs.Items.{Item, items_of}
-use Rattle.x86_litmus.specs.Said.{Said}
-use Rattle.x86_litmus.specs.Spots.{block, items_from}
-use Rattle.x86_litmus.specs.Faults.{faulty, says, found, outcome_of, judged}
-use Rattle.x86_litmus.specs.Cases.{case_of}
-use Rattle.x86_litmus.specs.declared.fault.X86Fault.{X86Fault}
+use Rattle.x86_litmus.specs.{Listing.{Listing}, Syntax.{IsListingOf}, Items.{Item, items_of}, Said.{Said}, Spots.{block, items_from}}
+use Rattle.x86_litmus.specs.{Faults.{faulty, says, found, outcome_of, judged}, Cases.{case_of}, declared.fault.X86Fault.{X86Fault}}
 use Rattle.x86_litmus.specs.declared.fault.X86Fault.TheVariants.{Lexical, Syntax, Content, Memory}
 
 -- what the tokens say, from the first to the last

@@ -1,9 +1,7 @@
 -- What a listing has said up to some place.
-use Rattle.std.specs.Prelude.{ℕ, ◌+◌, ◌==◌, Bool, true, false, ◌&&◌, List, [], ◌∷◌, ◌++◌}
-use Rattle.std.specs.List.{list_any}
+use Rattle.std.specs.{Prelude.{ℕ, ◌+◌, ◌==◌, Bool, true, false, ◌&&◌, List, [], ◌∷◌, ◌++◌}, List.{list_any}}
 use Rattle.pc_common.specs.Names.{same_name}
-use Rattle.x86_litmus.specs.Listing.{Action, fence, store, load}
-use Rattle.x86_litmus.specs.Items.{Item, initial, column, instructed, row_ended, denied, register_is, final}
+use Rattle.x86_litmus.specs.{Listing.{Action, fence, store, load}, Items.{Item, initial, column, instructed, row_ended, denied, register_is, final}}
 
 -- an instruction of a thread, whose word stands at a place
 pub record Instruction : Type 0 where

@@ -3,8 +3,7 @@
 use Rattle.std.specs.Prelude.{ℕ, ◌+◌, List, [], ◌∷◌, Option, Some, None, codes, if◌then◌else◌}
 use Rattle.pc_common.specs.Names.{same_name}
 use Rattle.uspec_lexer.specs.Token.{Token, Kind, name, number, text, symbol}
-use Rattle.x86_litmus.specs.Listing.{Named, fence, store, load}
-use Rattle.x86_litmus.specs.Items.{Item, initial, column, instructed, row_ended, denied, register_is, final}
+use Rattle.x86_litmus.specs.{Listing.{Named, fence, store, load}, Items.{Item, initial, column, instructed, row_ended, denied, register_is, final}}
 
 pub data Spot : Type 0 where
   -- in the block, before a location

@@ -1,9 +1,6 @@
 -- What the code answers at a token.
 use Rattle.std.specs.Prelude.{◌≡◌, Option}
-use Rattle.x86_litmus.specs.Spots.{Step}
-use Rattle.x86_litmus.specs.Plain.{plain_spot, plain_some}
-use Rattle.x86_litmus.specs.declared.item.Item.{Item}
-use Rattle.x86_litmus.specs.declared.spot.Spot.{Spot}
+use Rattle.x86_litmus.specs.{Spots.{Step}, Plain.{plain_spot, plain_some}, declared.{item.Item.{Item}, spot.Spot.{Spot}}}
 
 -- the answer is this step
 abbrev pub IsStep : Step → Spot × Option Item → Type 0

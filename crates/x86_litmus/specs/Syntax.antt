@@ -2,8 +2,7 @@
 -- first to the last. Its words are names by their spelling, and none is reserved: a cell that begins with MOV or MFENCE
 -- is an instruction, and what stands after the rows begins with exists or ~.
 use Rattle.std.specs.Prelude.{ℕ, Bool, true, false, List, [], ◌∷◌, ◌++◌, codes}
-use Rattle.uspec_lexer.specs.Token.{Token}
-use Rattle.uspec_lexer.specs.Expected.{Expected, a_word, placed_word, a_number, placed_number, a_symbol, placed_symbol, Spell}
+use Rattle.uspec_lexer.specs.{Token.{Token}, Expected.{Expected, a_word, placed_word, a_number, placed_number, a_symbol, placed_symbol, Spell}}
 use Rattle.x86_litmus.specs.Listing.{Named, Location, bare, bracketed, Stated, Block, no_values, values, Action, fence, store, load, Cell, empty, instruction, Row, Equation, of_register, of_location, Condition, Listing}
 
 -- a name of this spelling at this place

@@ -1,7 +1,6 @@
 -- The terminals of a listing's grammar.
 use Rattle.std.specs.Prelude.{ℕ, ◌==◌, Bool, List, [], ◌∷◌, codes}
-use Rattle.uspec_lexer.specs.Token.{Token}
-use Rattle.uspec_lexer.specs.Vocabulary.{Vocabulary, find_terminal, token_terminal}
+use Rattle.uspec_lexer.specs.{Token.{Token}, Vocabulary.{Vocabulary, find_terminal, token_terminal}}
 use Rattle.x86_litmus.specs.declared.terminal.Terminal.{Terminal}
 use Rattle.x86_litmus.specs.declared.terminal.Terminal.TheVariants.{Mov, Mfence, Exists, Name, Number, OpenBrace, CloseBrace, Semicolon, Bar, OpenBracket, CloseBracket, Comma, Dollar, Colon, Equals, Open, Close, Tilde, And, Other}
 

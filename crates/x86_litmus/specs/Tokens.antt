@@ -1,12 +1,7 @@
 -- The lexical grammar of listings, and what a listing spells from a place on. It has no texts, and no comments up to
 -- the line's end.
-use Rattle.std.specs.Prelude.{ℕ, ◌==◌, Bool, ◌&&◌, ◌||◌, List, codes, if◌then◌else◌}
-use Rattle.std.specs.List.{list_any}
-use Rattle.std.specs.Char.{is_ascii_alphabetic, is_ascii_digit}
-use Rattle.uspec_lexer.specs.Token.{Token}
-use Rattle.uspec_lexer.specs.Table.{Table}
-use Rattle.uspec_lexer.specs.Spells.{SpellsFrom, IsFaultFrom}
-use Rattle.uspec_lexer.specs.declared.grammar.Opening.{Opening}
+use Rattle.std.specs.{Prelude.{ℕ, ◌==◌, Bool, ◌&&◌, ◌||◌, List, codes, if◌then◌else◌}, List.{list_any}, Char.{is_ascii_alphabetic, is_ascii_digit}}
+use Rattle.uspec_lexer.specs.{Token.{Token}, Table.{Table}, Spells.{SpellsFrom, IsFaultFrom}, declared.grammar.Opening.{Opening}}
 use Rattle.uspec_lexer.specs.declared.grammar.Opening.TheVariants.{ShortSymbol, LongSymbol, Nothing}
 
 -- a letter, a digit or `_`

@@ -179,7 +179,7 @@ pub(crate) fn case_of(alloc: Global, said: &Said<'_>) -> Result<Case, Memory>
     requires { IsSound (plain_said said.now) }
     ensures { IfOk result (λ c. c ≡ case_of_spec (plain_said said.now)) }
 {
-    let locations = Locations::of(alloc, said)?;
+    let locations = Locations::from_said(alloc, said)?;
     Case::full(
         alloc,
         ops(alloc, &locations, said)?,

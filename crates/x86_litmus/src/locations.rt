@@ -41,7 +41,7 @@ impl<'a> Locations<'a> {
     }
 
     /// The locations of what a listing says.
-    pub(crate) fn of(alloc: Global, said: &Said<'a>) -> Result<Self, Memory>
+    pub(crate) fn from_said(alloc: Global, said: &Said<'a>) -> Result<Self, Memory>
         ensures { IfOk result (λ r. r ≡ locations_spec (plain_said said.now)) }
     {
         let mut locations = Locations::new(alloc);

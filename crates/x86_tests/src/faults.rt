@@ -1,6 +1,6 @@
 //! Listings that are refused, by the reader: the first fault of each, with its place.
 use example_texts::LISTED_WITH_AN_OPEN_LOAD;
-use formula_texts::told;
+use formula_texts::tell_fault;
 use pc_common::{FaultKind, Memory, Place, Value, line_col};
 use std::alloc::Global;
 use std::test::Fail;
@@ -10,7 +10,7 @@ use x86_litmus::{X86Fault, read_x86};
 type LineColumn = (u32, u32);
 
 /// What is wrong, and where; None where memory was refused.
-fn placed(fault: X86Fault) -> Option<(FaultKind, Place)> {
+fn place_fault(fault: X86Fault) -> Option<(FaultKind, Place)> {
     match fault {
         X86Fault::Lexical(place) => Some((FaultKind::Lexical, place)),
         X86Fault::Syntax(place) => Some((FaultKind::Syntax, place)),
@@ -37,8 +37,8 @@ fn is_at(text: &[u8], place: Place, at: LineColumn) -> bool {
 fn is_refused(alloc: Global, listing: &str, kind: FaultKind, at: LineColumn) -> bool {
     let text = listing.as_bytes();
     match first_fault(alloc, text) {
-        Some(fault) => match placed(fault) {
-            Some((found, place)) => told(found) == told(kind) && is_at(text, place, at),
+        Some(fault) => match place_fault(fault) {
+            Some((found, place)) => tell_fault(found) == tell_fault(kind) && is_at(text, place, at),
             None => false,
         },
         None => false,
@@ -370,7 +370,7 @@ const CROWDS: &[(Pieces, LineColumn)] = &[
     ),
 ];
 
-fn joined(alloc: Global, pieces: &[(&'static str, usize)]) -> Result<String, Memory> {
+fn join_pieces(alloc: Global, pieces: &[(&'static str, usize)]) -> Result<String, Memory> {
     let mut text = String::new(alloc);
     for (piece, times) in pieces {
         for _ in 0..*times {
@@ -387,7 +387,7 @@ fn are_refused(
     kind: FaultKind,
     at: LineColumn,
 ) -> Result<bool, Memory> {
-    let listing = joined(alloc, pieces)?;
+    let listing = join_pieces(alloc, pieces)?;
     Ok(is_refused(alloc, &listing, kind, at))
 }
 

@@ -1,8 +1,7 @@
 use Rattle.std.proofs.lemmas.Result.{IfOk-weaker}
 use Rattle.pc_syntax.specs.Closed.{plain_closed}
 use Rattle.pc_ground.specs.Stages.{plain_axioms}
-use Rattle.ask_command.specs.Asking.{IsAsked}
-use Rattle.ask_command.proofs.MoreParts.{within_stages, asked_same}
+use Rattle.ask_command.{specs.Asking.{IsAsked}, proofs.MoreParts.{within_stages, asked_same}}
 use Rattle.ask_command.proofs.asking.ask.Goals as goal
 
 pub ask_parts-requires : goal.ask_parts-requires

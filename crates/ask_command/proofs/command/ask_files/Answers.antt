@@ -1,5 +1,4 @@
-use Rattle.ask_command.proofs.MoreFronts.{formula_within}
-use Rattle.ask_command.proofs.AskOutcomes.{ending_outcome, found_outcome, ask_writable}
+use Rattle.ask_command.proofs.{MoreFronts.{formula_within}, AskOutcomes.{ending_outcome, found_outcome, ask_writable}}
 use Rattle.ask_command.proofs.command.ask_files.Goals as goal
 
 pub returns-in-Err-clause-outcome : goal.returns-in-Err-clause-outcome

@@ -1,6 +1,5 @@
 use Rattle.std.proofs.Common.{[], sym, ap, subst, ◌∙◌}
-use Rattle.pc_syntax.specs.Closed.{closed_not}
-use Rattle.pc_syntax.specs.IsClosed.{IsClosed}
+use Rattle.pc_syntax.specs.{Closed.{closed_not}, IsClosed.{IsClosed}}
 use Rattle.ask_command.proofs.copies.denial.Goals as goal
 
 pub invariant_of-result : goal.invariant_of-result

@@ -1,9 +1,8 @@
 use Rattle.std.proofs.Common.{refl}
 use Rattle.pc_common.specs.declared.fault.Which.TheVariants.{Query}
-use Rattle.pc_syntax.specs.Written.{not_, written_model}
+use Rattle.pc_syntax.specs.{Written.{not_, written_model}, Closed.{plain_closed}}
 use Rattle.macro_expand.specs.Faults.{macro_fault_of}
 use Rattle.scope_check.specs.FirstFault.{name_fault_of}
-use Rattle.pc_syntax.specs.Closed.{plain_closed}
 use Rattle.ask_command.proofs.InquiryParts.{denial_macro_first, is_denial, denial_name_first, denied_closed}
 use Rattle.ask_command.proofs.denial.close_as_named.Goals as goal
 

@@ -1,13 +1,8 @@
-use Rattle.std.proofs.Common.{◌≡◌, None, refl}
-use Rattle.std.proofs.lemmas.Result.{IfOk-weaker, IfErr-weaker, err_from_is_err_and}
+use Rattle.std.proofs.{Common.{◌≡◌, None, refl}, lemmas.Result.{IfOk-weaker, IfErr-weaker, err_from_is_err_and}}
 use Rattle.pc_common.specs.declared.fault.Which.TheVariants.{Query}
-use Rattle.pc_syntax.specs.declared.closed.Closed.{Closed}
-use Rattle.pc_syntax.specs.Written.{Written, WrittenModel, written_model}
-use Rattle.pc_syntax.specs.Closed.{plain_closed}
-use Rattle.pc_front.specs.declared.model_front.FrontEnd.{FrontEnd}
-use Rattle.pc_front.specs.ModelFront.{closed_axiom}
-use Rattle.ask_command.specs.Queries.{with_denial, first_query_fault}
-use Rattle.ask_command.specs.Denials.{IsFirstQueryEnd}
+use Rattle.pc_syntax.specs.{declared.closed.Closed.{Closed}, Written.{Written, WrittenModel, written_model}, Closed.{plain_closed}}
+use Rattle.pc_front.specs.{declared.model_front.FrontEnd.{FrontEnd}, ModelFront.{closed_axiom}}
+use Rattle.ask_command.specs.{Queries.{with_denial, first_query_fault}, Denials.{IsFirstQueryEnd}}
 use Rattle.ask_command.proofs.ShortNames.{short_denial, short_stages, short_closed, short_end}
 use Rattle.ask_command.proofs.denial.close_denied.Goals as goal
 

@@ -1,14 +1,8 @@
-use Rattle.std.proofs.Common.{◌≡◌, ℕ, List, None}
-use Rattle.std.proofs.lemmas.Result.{IfOk-weaker, IfErr-weaker}
-use Rattle.pc_syntax.specs.declared.closed.Closed.{Closed}
-use Rattle.pc_syntax.specs.Written.{Written, written, WrittenModel, written_model}
-use Rattle.pc_syntax.specs.Closed.{plain_closed}
-use Rattle.pc_front.specs.declared.model_front.FrontEnd.{FrontEnd}
-use Rattle.pc_front.specs.ModelFront.{closed_axiom}
-use Rattle.ask_command.specs.Queries.{FormulaOf, with_denial, first_query_fault, IsQueryEnd}
-use Rattle.ask_command.specs.Denials.{IsFirstQueryEnd}
-use Rattle.ask_command.proofs.InquiryParts.{stage_fault_kept}
-use Rattle.ask_command.proofs.QueryEnds.{first_end}
+use Rattle.std.proofs.{Common.{◌≡◌, ℕ, List, None}, lemmas.Result.{IfOk-weaker, IfErr-weaker}}
+use Rattle.pc_syntax.specs.{declared.closed.Closed.{Closed}, Written.{Written, written, WrittenModel, written_model}, Closed.{plain_closed}}
+use Rattle.pc_front.specs.{declared.model_front.FrontEnd.{FrontEnd}, ModelFront.{closed_axiom}}
+use Rattle.ask_command.specs.{Queries.{FormulaOf, with_denial, first_query_fault, IsQueryEnd}, Denials.{IsFirstQueryEnd}}
+use Rattle.ask_command.proofs.{InquiryParts.{stage_fault_kept}, QueryEnds.{first_end}}
 use Rattle.ask_command.proofs.denial.close_formula.Goals as goal
 
 pub close_denied-requires-clause-denial : goal.close_denied-requires-clause-denial

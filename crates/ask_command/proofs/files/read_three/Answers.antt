@@ -1,10 +1,6 @@
-use Rattle.std.proofs.Common.{ap, Err, arith}
-use Rattle.std.specs.Prelude.{IsTrue}
-use Rattle.std.proofs.lemmas.Result.{MatchResult-weaker}
-use Rattle.command_base.specs.Inputs.{plain_inputs}
-use Rattle.command_base.proofs.InputsRead.{read_of, large_of, reads_then, rose_later}
-use Rattle.ask_command.specs.AskFiles.{AreRead}
-use Rattle.ask_command.proofs.ThreeFiles.{two_end, query_end, bytes_end, inquiry_read}
+use Rattle.std.{proofs.{Common.{ap, Err, arith}, lemmas.Result.{MatchResult-weaker}}, specs.Prelude.{IsTrue}}
+use Rattle.command_base.{specs.Inputs.{plain_inputs}, proofs.InputsRead.{read_of, large_of, reads_then, rose_later}}
+use Rattle.ask_command.{specs.AskFiles.{AreRead}, proofs.ThreeFiles.{two_end, query_end, bytes_end, inquiry_read}}
 use Rattle.ask_command.proofs.files.read_three.Goals as goal
 
 pub returns-in-Err : goal.returns-in-Err

@@ -1,6 +1,5 @@
 use Rattle.pc_syntax.specs.Closed.{plain_closed}
-use Rattle.axiom_core.specs.Choices.{choice}
-use Rattle.axiom_core.proofs.Taking.{copied_more}
+use Rattle.axiom_core.{specs.Choices.{choice}, proofs.Taking.{copied_more}}
 use Rattle.axiom_core.proofs.chosen.chosen_axioms.Goals as goal
 
 pub loop-k-preserved : goal.loop-k-preserved

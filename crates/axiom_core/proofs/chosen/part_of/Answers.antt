@@ -1,9 +1,7 @@
 use Rattle.std.proofs.Common.{List, map, sym, subst}
 use Rattle.pc_syntax.specs.Closed.{PlainClosed}
 use Rattle.pc_ground.specs.Stages.{plain_stage, plain_axioms, numbers_of, AxiomsWithin}
-use Rattle.axiom_core.specs.Choices.{choice}
-use Rattle.axiom_core.proofs.Taking.{within_taken}
-use Rattle.axiom_core.proofs.SameCores.{part_is}
+use Rattle.axiom_core.{specs.Choices.{choice}, proofs.{Taking.{within_taken}, SameCores.{part_is}}}
 use Rattle.axiom_core.proofs.chosen.part_of.Goals as goal
 
 pub front_with-requires : goal.front_with-requires

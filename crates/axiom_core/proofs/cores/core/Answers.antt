@@ -1,5 +1,4 @@
-use Rattle.axiom_core.specs.declared.answer.Core.TheVariants.{None as no_core}
-use Rattle.axiom_core.proofs.SameCores.{found_forbid, core_none, core_none_ok}
+use Rattle.axiom_core.{specs.declared.answer.Core.TheVariants.{None as no_core}, proofs.SameCores.{found_forbid, core_none, core_none_ok}}
 use Rattle.axiom_core.proofs.cores.core.Goals as goal
 
 pub returns-in-Observable-clause-none : goal.returns-in-Observable-clause-none

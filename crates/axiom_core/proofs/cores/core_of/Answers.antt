@@ -1,7 +1,5 @@
-use Rattle.std.proofs.Common.{◌∙◌}
-use Rattle.std.proofs.lemmas.List.{length-map}
-use Rattle.axiom_core.proofs.Numbered.{kept_flagged}
-use Rattle.axiom_core.proofs.SameCores.{core_of_flags}
+use Rattle.std.proofs.{Common.{◌∙◌}, lemmas.List.{length-map}}
+use Rattle.axiom_core.proofs.{Numbered.{kept_flagged}, SameCores.{core_of_flags}}
 use Rattle.axiom_core.proofs.cores.core_of.Goals as goal
 
 pub refuted_by-requires-clause-size : goal.refuted_by-requires-clause-size

@@ -1,5 +1,4 @@
-use Rattle.axiom_core.specs.Choices.{choice}
-use Rattle.axiom_core.proofs.SameCores.{part_judged}
+use Rattle.axiom_core.{specs.Choices.{choice}, proofs.SameCores.{part_judged}}
 use Rattle.axiom_core.proofs.judged.are_refuted.Goals as goal
 
 pub returns : goal.returns

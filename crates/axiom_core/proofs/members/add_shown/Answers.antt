@@ -1,6 +1,5 @@
 use Rattle.pc_ground.specs.Stages.{plain_axioms}
-use Rattle.axiom_core.specs.Chosen.{taken, less, flagged}
-use Rattle.axiom_core.proofs.SameCores.{found_forbid, part_forbid, never_both, pushed}
+use Rattle.axiom_core.{specs.Chosen.{taken, less, flagged}, proofs.SameCores.{found_forbid, part_forbid, never_both, pushed}}
 use Rattle.axiom_core.proofs.members.add_shown.Goals as goal
 
 pub unreachable-requires : goal.unreachable-requires

@@ -1,7 +1,5 @@
-use Rattle.std.proofs.Common.{◌∙◌}
-use Rattle.std.proofs.lemmas.List.{length-map}
-use Rattle.axiom_core.specs.Chosen.{flagged}
-use Rattle.axiom_core.proofs.SameCores.{shown_next}
+use Rattle.std.proofs.{Common.{◌∙◌}, lemmas.List.{length-map}}
+use Rattle.axiom_core.{specs.Chosen.{flagged}, proofs.SameCores.{shown_next}}
 use Rattle.axiom_core.proofs.members.all_shown.Goals as goal
 
 pub loop-at-preserved : goal.loop-at-preserved

@@ -1,7 +1,6 @@
 -- Each number so far has its graph.
 use Rattle.std.proofs.Common.{take}
-use Rattle.axiom_core.specs.Chosen.{flagged}
-use Rattle.axiom_core.specs.Cores.{AreShownWithout}
+use Rattle.axiom_core.specs.{Chosen.{flagged}, Cores.{AreShownWithout}}
 use Rattle.axiom_core.proofs.members.all_shown.Given as goal
 
 abbrev pub invariant-loop-at : goal.invariant-loop-at

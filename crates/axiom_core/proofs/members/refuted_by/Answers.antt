@@ -1,6 +1,5 @@
 use Rattle.pc_ground.specs.Stages.{plain_axioms}
-use Rattle.axiom_core.specs.Chosen.{taken, flagged}
-use Rattle.axiom_core.proofs.SameCores.{found_allow, part_allow, never_both}
+use Rattle.axiom_core.{specs.Chosen.{taken, flagged}, proofs.SameCores.{found_allow, part_allow, never_both}}
 use Rattle.axiom_core.proofs.members.refuted_by.Goals as goal
 
 pub unreachable-requires : goal.unreachable-requires

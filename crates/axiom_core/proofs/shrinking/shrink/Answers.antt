@@ -1,8 +1,6 @@
-use Rattle.std.proofs.Common.{◌≡◌, ◌∙◌, Bool, true, List, length, replicate, sym, ap, subst}
-use Rattle.std.proofs.lemmas.List.{length-map, with_items_is}
+use Rattle.std.proofs.{Common.{◌≡◌, ◌∙◌, Bool, true, List, length, replicate, sym, ap, subst}, lemmas.List.{length-map, with_items_is}}
 use Rattle.pc_ground.specs.Stages.{plain_axioms}
-use Rattle.axiom_core.specs.Choices.{IsTried}
-use Rattle.axiom_core.proofs.Tries.{tried_none}
+use Rattle.axiom_core.{specs.Choices.{IsTried}, proofs.Tries.{tried_none}}
 use Rattle.axiom_core.proofs.shrinking.shrink.Goals as goal
 
 pub try_all-requires : goal.try_all-requires

@@ -1,5 +1,4 @@
-use Rattle.std.proofs.Common.{◌∙◌}
-use Rattle.std.proofs.lemmas.List.{length-map}
+use Rattle.std.proofs.{Common.{◌∙◌}, lemmas.List.{length-map}}
 use Rattle.pc_ground.specs.Stages.{plain_axioms}
 use Rattle.axiom_core.proofs.Tries.{tried_dropped, tried_kept}
 use Rattle.axiom_core.proofs.shrinking.try_without.Goals as goal

@@ -1,20 +1,12 @@
-use Rattle.std.proofs.Common.{◌≡◌, List, true, false, subst}
-use Rattle.std.specs.Prelude.{MatchBool}
-use Rattle.std.proofs.lemmas.Result.{IfOk-weaker}
-use Rattle.pc_common.specs.Lines.{Line}
-use Rattle.pc_common.proofs.Bools.{clash}
+use Rattle.std.{proofs.{Common.{◌≡◌, List, true, false, subst}, lemmas.Result.{IfOk-weaker}}, specs.Prelude.{MatchBool}}
+use Rattle.pc_common.{specs.Lines.{Line}, proofs.Bools.{clash}}
 use Rattle.pc_ground.specs.NodeForm.{names_of_parts, AreReadable}
 use Rattle.graph_text.specs.OpenGraphs.{Takes, Refuses}
-use Rattle.cert_check.specs.Questions.{question_of_parts}
-use Rattle.cert_check.specs.Stages.{StandsAt, IsGraphSoFar}
-use Rattle.cert_check.specs.GraphStages.{as_stage, HasGraphAdvanced}
-use Rattle.cert_check.specs.declared.header.Verdict.TheVariants.{Observable}
-use Rattle.cert_check.specs.declared.graph_stage.GraphStage.{GraphStage}
-use Rattle.cert_check.specs.declared.graph_stage.GraphStage.TheVariants.{Graph}
-use Rattle.cert_check.proofs.Advances.{graph_advanced, ended_stuck}
-use Rattle.cert_check.proofs.GraphJudged.{as_other}
-use Rattle.cert_check.proofs.graph_next.advance_graph.Goals as goal
+use Rattle.cert_check.specs.{Questions.{question_of_parts}, Stages.{StandsAt, IsGraphSoFar}, GraphStages.{as_stage, HasGraphAdvanced}}
+use Rattle.cert_check.specs.declared.{header.Verdict.TheVariants.{Observable}, graph_stage.GraphStage.{GraphStage, TheVariants.{Graph}}}
+use Rattle.cert_check.proofs.{Advances.{graph_advanced, ended_stuck}, GraphJudged.{as_other}}
 use Rattle.cert_check.proofs.graph_next.advance_graph.Goals.{in-Start, in-Said, in-Graph+else-not-is_end+in_ok-next-in-Graph, in-Ended}
+use Rattle.cert_check.proofs.graph_next.advance_graph.Goals as goal
 
 pub returns-then-not-is_end : goal.returns-then-not-is_end
 returns-then-not-is_end c =

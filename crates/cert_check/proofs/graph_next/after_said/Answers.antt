@@ -1,10 +1,7 @@
 use Rattle.std.proofs.Common.{◌≡◌, true, false, sym, ◌∙◌, ap, subst}
-use Rattle.pc_common.specs.Lines.{second_text, observable}
-use Rattle.pc_common.proofs.Bools.{clash}
+use Rattle.pc_common.{specs.Lines.{second_text, observable}, proofs.Bools.{clash}}
 use Rattle.graph_text.specs.OpenGraphs.{PlainGraph}
-use Rattle.cert_check.specs.Questions.{question_of_parts}
-use Rattle.cert_check.specs.Stages.{GoesOn}
-use Rattle.cert_check.specs.declared.stage.Stage.TheVariants.{Graph}
+use Rattle.cert_check.specs.{Questions.{question_of_parts}, Stages.{GoesOn}, declared.stage.Stage.TheVariants.{Graph}}
 use Rattle.cert_check.proofs.Advances.{said_stuck, graph_begins}
 use Rattle.cert_check.proofs.graph_next.after_said.Goals as goal
 

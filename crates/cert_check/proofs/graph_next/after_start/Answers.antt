@@ -1,8 +1,6 @@
 use Rattle.std.proofs.Common.{true, false}
 use Rattle.pc_common.proofs.Bools.{clash}
-use Rattle.cert_check.specs.declared.header.Verdict.TheVariants.{Observable}
-use Rattle.cert_check.proofs.Advances.{start_goes}
-use Rattle.cert_check.proofs.GraphJudged.{first_stuck}
+use Rattle.cert_check.{specs.declared.header.Verdict.TheVariants.{Observable}, proofs.{Advances.{start_goes}, GraphJudged.{first_stuck}}}
 use Rattle.cert_check.proofs.graph_next.after_start.Goals as goal
 
 pub returns-then-not-is_observable : goal.returns-then-not-is_observable

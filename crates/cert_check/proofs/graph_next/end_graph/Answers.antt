@@ -1,8 +1,5 @@
-use Rattle.std.proofs.Common.{refl}
-use Rattle.std.specs.Prelude.{codes}
-use Rattle.cert_check.specs.Questions.{question_of_parts}
-use Rattle.cert_check.proofs.Advances.{graph_end_stuck, graph_ended}
-use Rattle.cert_check.proofs.Shown.{no_world, some_world}
+use Rattle.std.{proofs.Common.{refl}, specs.Prelude.{codes}}
+use Rattle.cert_check.{specs.Questions.{question_of_parts}, proofs.{Advances.{graph_end_stuck, graph_ended}, Shown.{no_world, some_world}}}
 use Rattle.cert_check.proofs.graph_next.end_graph.Goals as goal
 
 pub returns-then-not-branch : goal.returns-then-not-branch

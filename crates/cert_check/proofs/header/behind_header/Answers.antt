@@ -1,8 +1,5 @@
-use Rattle.std.proofs.Common.{◌≡◌, ◌≢◌, ℕ, List, ◌++◌, Bor, Option, Some, None, sym, ◌∙◌, ap, subst, append_assoc}
-use Rattle.std.specs.Prelude.{MatchOption, codes}
-use Rattle.std.proofs.lemmas.List.{append_cancel_left}
-use Rattle.std.proofs.lemmas.Slice.Eq.{strip_prefix_is}
-use Rattle.std.proofs.lemmas.Bool.Decides.{Decides-eqb}
+use Rattle.std.proofs.{Common.{◌≡◌, ◌≢◌, ℕ, List, ◌++◌, Bor, Option, Some, None, sym, ◌∙◌, ap, subst, append_assoc}, lemmas.List.{append_cancel_left}}
+use Rattle.std.{proofs.lemmas.{Slice.Eq.{strip_prefix_is}, Bool.Decides.{Decides-eqb}}, specs.Prelude.{MatchOption, codes}}
 use Rattle.pc_common.specs.Lines.{unobservable, second_text}
 use Rattle.pc_case.specs.Plain.{expectation}
 use Rattle.cert_check.proofs.header.behind_header.Goals as goal

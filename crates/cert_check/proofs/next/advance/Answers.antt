@@ -1,19 +1,11 @@
-use Rattle.std.proofs.Common.{◌≡◌, List, true, false, subst}
-use Rattle.std.specs.Prelude.{MatchBool, codes}
-use Rattle.std.proofs.lemmas.Result.{IfOk-weaker}
-use Rattle.pc_common.specs.Lines.{Line}
-use Rattle.pc_common.proofs.Bools.{clash}
+use Rattle.std.{proofs.{Common.{◌≡◌, List, true, false, subst}, lemmas.Result.{IfOk-weaker}}, specs.Prelude.{MatchBool, codes}}
+use Rattle.pc_common.{specs.Lines.{Line}, proofs.Bools.{clash}}
 use Rattle.pc_ground.specs.NodeForm.{names_of}
 use Rattle.graph_text.specs.OpenGraphs.{Takes, Refuses}
-use Rattle.cert_check.specs.Certificates.{Question}
-use Rattle.cert_check.specs.Questions.{question_of}
-use Rattle.cert_check.specs.Proper.{IsAsked}
-use Rattle.cert_check.specs.Stages.{StandsAt, HasAdvanced, IsGraphSoFar, IsTreeSoFar}
-use Rattle.cert_check.specs.declared.stage.Stage.{Stage}
-use Rattle.cert_check.specs.declared.stage.Stage.TheVariants.{Graph, Tree}
-use Rattle.cert_check.proofs.Advances.{graph_advanced, ended_stuck}
-use Rattle.cert_check.proofs.next.advance.Goals as goal
+use Rattle.cert_check.specs.{Certificates.{Question}, Questions.{question_of}, Proper.{IsAsked}, Stages.{StandsAt, HasAdvanced, IsGraphSoFar, IsTreeSoFar}}
+use Rattle.cert_check.{specs.declared.stage.Stage.{Stage, TheVariants.{Graph, Tree}}, proofs.Advances.{graph_advanced, ended_stuck}}
 use Rattle.cert_check.proofs.next.advance.Goals.{in-Start, in-Said+in_ok-next-in-Said, in-Graph+else-not-is_end+in_ok-next-in-Graph, in-Tree+else-not-is_end-2, in-Ended}
+use Rattle.cert_check.proofs.next.advance.Goals as goal
 
 pub returns-then-not-is_end : goal.returns-then-not-is_end
 returns-then-not-is_end c =

@@ -1,12 +1,8 @@
 use Rattle.std.proofs.Common.{◌≡◌, [], ◌∷◌, sym, ◌∙◌, ap, subst}
 use Rattle.pc_common.specs.Lines.{verdict, second_text, observable, unobservable}
 use Rattle.graph_text.specs.OpenGraphs.{PlainGraph}
-use Rattle.cert_check.specs.Questions.{question_of}
-use Rattle.cert_check.specs.Stages.{GoesOn}
-use Rattle.cert_check.specs.Verdicts.{plain_verdict}
-use Rattle.cert_check.specs.declared.header.Verdict.{Verdict}
-use Rattle.cert_check.specs.declared.stage.Stage.TheVariants.{Graph}
-use Rattle.cert_check.proofs.Advances.{graph_begins}
+use Rattle.cert_check.specs.{Questions.{question_of}, Stages.{GoesOn}, Verdicts.{plain_verdict}, declared.header.Verdict.{Verdict}}
+use Rattle.cert_check.{specs.declared.stage.Stage.TheVariants.{Graph}, proofs.Advances.{graph_begins}}
 use Rattle.cert_check.proofs.next.after_verdict.Goals as goal
 
 pub returns-in-Observable : goal.returns-in-Observable

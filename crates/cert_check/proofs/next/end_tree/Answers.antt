@@ -1,5 +1,4 @@
-use Rattle.std.proofs.Common.{refl, ◌≡◌, true, false, sym, ◌∙◌, Bool}
-use Rattle.std.specs.Prelude.{codes}
+use Rattle.std.{proofs.Common.{refl, ◌≡◌, true, false, sym, ◌∙◌, Bool}, specs.Prelude.{codes}}
 use Rattle.cert_check.proofs.Advances.{tree_end_stuck, tree_ended}
 use Rattle.cert_check.proofs.next.end_tree.Goals as goal
 

@@ -1,7 +1,6 @@
 use Rattle.std.proofs.Common.{true, false}
 use Rattle.pc_common.proofs.Bools.{clash}
-use Rattle.cert_check.specs.Questions.{question_of}
-use Rattle.cert_check.specs.declared.one.One.TheVariants.{Graph, Tree, Refused}
+use Rattle.cert_check.specs.{Questions.{question_of}, declared.one.One.TheVariants.{Graph, Tree, Refused}}
 use Rattle.cert_check.proofs.OneTexts.{one_two, one_seen, tree_steps, one_unseen, one_at, only_one}
 use Rattle.cert_check.proofs.one.check_one.Goals as goal
 

@@ -1,9 +1,5 @@
-use Rattle.std.proofs.Common.{◌≡◌, ◌++◌, List, ℕ, length, drop, sym, ◌∙◌, ap}
-use Rattle.std.specs.Prelude.{codes}
-use Rattle.std.proofs.lemmas.List.{append_cancel_left}
-use Rattle.std.proofs.lemmas.Slice.Eq.{starts_is}
-use Rattle.std.proofs.lemmas.Bool.Decides.{Decides-eqb}
-use Rattle.std.proofs.lemmas.Bool.{false≢true}
+use Rattle.std.proofs.{Common.{◌≡◌, ◌++◌, List, ℕ, length, drop, sym, ◌∙◌, ap}, lemmas.{List.{append_cancel_left}, Slice.Eq.{starts_is}}}
+use Rattle.std.{proofs.lemmas.Bool.{Decides.{Decides-eqb}, false≢true}, specs.Prelude.{codes}}
 use Rattle.cert_check.specs.StepTexts.{header_text}
 use Rattle.cert_check.proofs.one.says_two.Goals as goal
 

@@ -1,6 +1,4 @@
-use Rattle.std.proofs.Common.{arith}
-use Rattle.std.specs.Prelude.{◌==◌}
-use Rattle.std.proofs.lemmas.List.Sums.{count_by-le-length}
+use Rattle.std.{proofs.{Common.{arith}, lemmas.List.Sums.{count_by-le-length}}, specs.Prelude.{◌==◌}}
 use Rattle.cert_check.proofs.open_tree.room_for.Goals as goal
 
 pub returns-then-line-le-SHORT : goal.returns-then-line-le-SHORT

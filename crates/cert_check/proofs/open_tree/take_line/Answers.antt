@@ -1,14 +1,8 @@
-use Rattle.std.proofs.Common.{List, ◌∙◌, subst}
-use Rattle.std.specs.Prelude.{IfOk}
-use Rattle.std.proofs.lemmas.Result.{IfOk-weaker}
-use Rattle.pc_common.specs.World.{Node}
-use Rattle.pc_common.specs.Steps.{Step}
-use Rattle.pc_ground.specs.Tree.{Tree}
-use Rattle.pc_ground.specs.declared.version.Version.{Version}
-use Rattle.pc_ground.specs.Refutes.{Branch}
+use Rattle.std.{proofs.{Common.{List, ◌∙◌, subst}, lemmas.Result.{IfOk-weaker}}, specs.Prelude.{IfOk}}
+use Rattle.pc_common.specs.{World.{Node}, Steps.{Step}}
+use Rattle.pc_ground.specs.{Tree.{Tree}, declared.version.Version.{Version}, Refutes.{Branch}}
 use Rattle.tree_check.specs.OpenBranches.{Stands, HasTakenStep}
-use Rattle.cert_check.specs.Stages.{StepsOn}
-use Rattle.cert_check.proofs.TakenLines.{line_steps, only_step}
+use Rattle.cert_check.{specs.Stages.{StepsOn}, proofs.TakenLines.{line_steps, only_step}}
 use Rattle.cert_check.proofs.open_tree.take_line.Goals as goal
 
 pub returns-in-Ok : goal.returns-in-Ok

@@ -1,5 +1,4 @@
-use Rattle.cert_check.specs.Questions.{question_of}
-use Rattle.cert_check.proofs.StepReads.{ahead_start, no_header, all_start, all_read, none_ahead}
+use Rattle.cert_check.{specs.Questions.{question_of}, proofs.StepReads.{ahead_start, no_header, all_start, all_read, none_ahead}}
 use Rattle.cert_check.proofs.steps.read_steps.Goals as goal
 
 pub returns-in_default : goal.returns-in_default

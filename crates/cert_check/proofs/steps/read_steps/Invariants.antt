@@ -1,10 +1,7 @@
 -- The steps that were read and those ahead are all of them.
 use Rattle.std.proofs.Common.{List, length}
-use Rattle.pc_common.specs.World.{Node}
-use Rattle.pc_common.specs.Steps.{Step}
-use Rattle.cert_check.specs.Questions.{question_of}
-use Rattle.cert_check.specs.Ones.{IsTreeText}
-use Rattle.cert_check.proofs.StepReads.{AllSteps}
+use Rattle.pc_common.specs.{World.{Node}, Steps.{Step}}
+use Rattle.cert_check.{specs.{Questions.{question_of}, Ones.{IsTreeText}}, proofs.StepReads.{AllSteps}}
 use Rattle.cert_check.proofs.steps.read_steps.Given as goal
 
 abbrev pub invariant-loop-refutation : goal.invariant-loop-refutation

@@ -1,6 +1,5 @@
 use Rattle.command_base.proofs.AnsweredFiles.{ending_outcome, memory_outcome}
-use Rattle.verdicts.specs.Certified.{IsCertified}
-use Rattle.verdicts.proofs.FrontVerdicts.{verdict_writable}
+use Rattle.verdicts.{specs.Certified.{IsCertified}, proofs.FrontVerdicts.{verdict_writable}}
 use Rattle.check_command.proofs.CheckOutcomes.{verdict_outcome}
 use Rattle.check_command.proofs.command.check.Goals as goal
 

@@ -1,7 +1,5 @@
 use Rattle.std.proofs.lemmas.Result.{MatchResult-weaker}
-use Rattle.command_base.specs.Fronts.{front_of_parts}
-use Rattle.command_base.specs.Inputs.{plain_inputs}
-use Rattle.command_base.proofs.InputsRead.{front_read, bytes_end, ended_unread}
+use Rattle.command_base.{specs.{Fronts.{front_of_parts}, Inputs.{plain_inputs}}, proofs.InputsRead.{front_read, bytes_end, ended_unread}}
 use Rattle.command_base.proofs.inputs.read_parts.Goals as goal
 
 pub returns-in-Ok : goal.returns-in-Ok

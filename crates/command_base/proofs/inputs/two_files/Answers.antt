@@ -1,8 +1,6 @@
-use Rattle.std.proofs.Common.{ap, Err, inl, inr, arith, ◌≡◌}
-use Rattle.std.specs.Prelude.{IsTrue}
+use Rattle.std.{proofs.Common.{ap, Err, inl, inr, arith, ◌≡◌}, specs.Prelude.{IsTrue}}
 use Rattle.pc_common.specs.declared.fault.Which.TheVariants.{Model, Test}
-use Rattle.command_base.specs.Inputs.{plain_inputs}
-use Rattle.command_base.proofs.InputsRead.{unread_ends, read_of, large_of, reads_then, rose_later}
+use Rattle.command_base.{specs.Inputs.{plain_inputs}, proofs.InputsRead.{unread_ends, read_of, large_of, reads_then, rose_later}}
 use Rattle.command_base.proofs.inputs.two_files.Goals as goal
 
 model_test : Model ≡ Test → ⊥

@@ -1,5 +1,4 @@
-use Rattle.command_base.proofs.TestForm.{test_form}
-use Rattle.command_base.proofs.OneCase.{case_or_first_fault}
+use Rattle.command_base.proofs.{TestForm.{test_form}, OneCase.{case_or_first_fault}}
 use Rattle.command_base.proofs.laws.case_or_first_fault.Goals as goal
 
 pub returns : goal.returns

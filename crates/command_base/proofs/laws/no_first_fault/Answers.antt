@@ -1,5 +1,4 @@
-use Rattle.command_base.proofs.TestForm.{test_form}
-use Rattle.command_base.proofs.OneCase.{no_fault_said}
+use Rattle.command_base.proofs.{TestForm.{test_form}, OneCase.{no_fault_said}}
 use Rattle.command_base.proofs.laws.no_first_fault.Goals as goal
 
 pub returns : goal.returns

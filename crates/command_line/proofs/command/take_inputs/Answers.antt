@@ -1,5 +1,4 @@
-use Rattle.std.proofs.Common.{◌∙◌, sym, ap, ◌∷◌, []}
-use Rattle.std.specs.String.{string_bytes}
+use Rattle.std.{proofs.Common.{◌∙◌, sym, ap, ◌∷◌, []}, specs.String.{string_bytes}}
 use Rattle.command_line.proofs.ThreeWords.{three, same_if_not_other, other_text, first_word}
 use Rattle.command_line.proofs.command.take_inputs.Goals as goal
 

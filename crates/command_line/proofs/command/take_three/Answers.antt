@@ -1,7 +1,5 @@
-use Rattle.std.proofs.Common.{◌∙◌, sym, ap, ◌∷◌, []}
-use Rattle.std.specs.String.{string_bytes}
-use Rattle.command_line.proofs.FourWords.{four}
-use Rattle.command_line.proofs.ThreeWords.{same_if_not_other, other_text, first_word}
+use Rattle.std.{proofs.Common.{◌∙◌, sym, ap, ◌∷◌, []}, specs.String.{string_bytes}}
+use Rattle.command_line.proofs.{FourWords.{four}, ThreeWords.{same_if_not_other, other_text, first_word}}
 use Rattle.command_line.proofs.command.take_three.Goals as goal
 
 pub returns-then-ne : goal.returns-then-ne

@@ -1,6 +1,5 @@
 -- The text is none of the numbers so far.
-use Rattle.std.proofs.Common.{◌≡◌, ℕ, ◌≤◌, ◌<◌}
-use Rattle.std.specs.Fmt.{decimal}
+use Rattle.std.{proofs.Common.{◌≡◌, ℕ, ◌≤◌, ◌<◌}, specs.Fmt.{decimal}}
 use Rattle.command_line.proofs.cores.cores.Given as goal
 
 abbrev pub invariant-loop-n : goal.invariant-loop-n

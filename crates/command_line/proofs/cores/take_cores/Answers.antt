@@ -1,8 +1,5 @@
-use Rattle.std.proofs.Common.{◌∙◌, sym, ap, ◌∷◌, []}
-use Rattle.std.specs.Prelude.{codes}
-use Rattle.std.specs.String.{string_bytes}
-use Rattle.command_line.proofs.ThreeWords.{two, same_if_not_other}
-use Rattle.command_line.proofs.GenWords.{gen_words}
+use Rattle.std.{proofs.Common.{◌∙◌, sym, ap, ◌∷◌, []}, specs.{Prelude.{codes}, String.{string_bytes}}}
+use Rattle.command_line.proofs.{ThreeWords.{two, same_if_not_other}, GenWords.{gen_words}}
 use Rattle.command_line.proofs.cores.take_cores.Goals as goal
 
 pub returns : goal.returns

@@ -1,7 +1,5 @@
-use Rattle.std.proofs.Common.{refl, sym, subst}
-use Rattle.std.specs.Prelude.{All}
-use Rattle.pc_common.specs.Lines.{Names}
-use Rattle.pc_common.proofs.Writes.{writes_then, writes_stop}
+use Rattle.std.{proofs.Common.{refl, sym, subst}, specs.Prelude.{All}}
+use Rattle.pc_common.{specs.Lines.{Names}, proofs.Writes.{writes_then, writes_stop}}
 use Rattle.graph_text.specs.Graphs.{IsKeyIn, IsEdgeIn}
 use Rattle.core_command.proofs.certificates.write_shown.Goals as goal
 

@@ -1,7 +1,5 @@
 use Rattle.command_base.proofs.AnsweredFiles.{ending_outcome, memory_outcome}
-use Rattle.core_command.specs.CoreAnswers.{IsCoreText}
-use Rattle.core_command.proofs.CoreOutcomes.{core_outcome}
-use Rattle.core_command.proofs.CertifiedCores.{core_writable}
+use Rattle.core_command.{specs.CoreAnswers.{IsCoreText}, proofs.{CoreOutcomes.{core_outcome}, CertifiedCores.{core_writable}}}
 use Rattle.core_command.proofs.command.find_core.Goals as goal
 
 pub returns-in-Err-clause-outcome : goal.returns-in-Err-clause-outcome

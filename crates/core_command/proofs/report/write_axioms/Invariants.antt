@@ -1,6 +1,5 @@
 -- The lines of the first numbers were written.
-use Rattle.std.proofs.Common.{take}
-use Rattle.std.specs.List.{flat_map}
+use Rattle.std.{proofs.Common.{take}, specs.List.{flat_map}}
 use Rattle.pc_common.specs.Writes.{Writes, success}
 use Rattle.core_command.specs.CoreTexts.{axiom_line}
 use Rattle.core_command.proofs.report.write_axioms.Given as goal

@@ -1,5 +1,4 @@
-use Rattle.gen_command.proofs.ReportedRings.{ring_reported}
-use Rattle.gen_command.proofs.GenOutcomes.{report_outcome, ending_outcome, memory_outcome}
+use Rattle.gen_command.proofs.{ReportedRings.{ring_reported}, GenOutcomes.{report_outcome, ending_outcome, memory_outcome}}
 use Rattle.gen_command.proofs.command.generate.Goals as goal
 
 pub returns-in-Err : goal.returns-in-Err

@@ -1,8 +1,6 @@
 use Rattle.std.proofs.Common.{◌≤◌, ◌∙◌, ℕ, List, length, sym, subst}
 use Rattle.pc_front.specs.declared.limits.TheConstants.{MAX_FILE}
-use Rattle.gen_command.specs.Ring.{ring_model, ring_test}
-use Rattle.gen_command.proofs.TextSizes.{ring_short}
-use Rattle.gen_command.proofs.ReportedRings.{front_moved}
+use Rattle.gen_command.{specs.Ring.{ring_model, ring_test}, proofs.{TextSizes.{ring_short}, ReportedRings.{front_moved}}}
 use Rattle.gen_command.proofs.command.ring_front.Goals as goal
 
 pub front_of-requires-clause-second_short : goal.front_of-requires-clause-second_short

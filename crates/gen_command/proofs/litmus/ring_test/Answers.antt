@@ -1,5 +1,4 @@
-use Rattle.std.proofs.Common.{arith, ◌≡◌}
-use Rattle.std.specs.Prelude.{codes}
+use Rattle.std.{proofs.Common.{arith, ◌≡◌}, specs.Prelude.{codes}}
 use Rattle.gen_command.proofs.Lines.{ring_more, ring_end}
 use Rattle.gen_command.proofs.litmus.ring_test.Goals as goal
 

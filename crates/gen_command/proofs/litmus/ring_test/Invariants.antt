@@ -1,7 +1,5 @@
 -- The first line and the lines of the first cores were put.
-use Rattle.std.proofs.Common.{◌≡◌, ◌++◌, flat_map}
-use Rattle.std.specs.Prelude.{codes}
-use Rattle.std.specs.List.{range_with_len}
+use Rattle.std.{proofs.Common.{◌≡◌, ◌++◌, flat_map}, specs.{Prelude.{codes}, List.{range_with_len}}}
 use Rattle.gen_command.specs.Ring.{core_lines}
 use Rattle.gen_command.proofs.litmus.ring_test.Given as goal
 

@@ -1,9 +1,6 @@
-use Rattle.std.proofs.Common.{Bool, ◌+◌, get_or, sym, subst, arith}
-use Rattle.std.proofs.lemmas.Option.{slice_get-get_or}
-use Rattle.std.specs.Global.{Vec}
+use Rattle.std.{proofs.{Common.{Bool, ◌+◌, get_or, sym, subst, arith}, lemmas.Option.{slice_get-get_or}}, specs.Global.{Vec}}
 use Rattle.pc_common.proofs.Places.{in_at}
-use Rattle.graph_check.proofs.ColumnFlags.{AreFlags, begun_passed, begun_set, column_done}
-use Rattle.graph_check.proofs.columns.column_of.Goals.{then-leads, else-leads}
+use Rattle.graph_check.proofs.{ColumnFlags.{AreFlags, begun_passed, begun_set, column_done}, columns.column_of.Goals.{then-leads, else-leads}}
 use Rattle.graph_check.proofs.columns.column_of.Goals as goal
 
 pub leads-requires-clause-a_in : goal.leads-requires-clause-a_in

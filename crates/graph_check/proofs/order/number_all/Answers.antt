@@ -1,6 +1,5 @@
 use Rattle.std.proofs.lemmas.List.{take_all}
-use Rattle.graph_check.proofs.Numbers.{seen_first}
-use Rattle.graph_check.proofs.FirstMembers.{item_at}
+use Rattle.graph_check.proofs.{Numbers.{seen_first}, FirstMembers.{item_at}}
 use Rattle.graph_check.proofs.order.number_all.Goals as goal
 
 pub loop-key-preserved : goal.loop-key-preserved

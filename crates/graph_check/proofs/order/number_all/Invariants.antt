@@ -1,6 +1,5 @@
 -- The numbered nodes are those of the first keys.
-use Rattle.std.proofs.Common.{map, take, Contains}
-use Rattle.std.specs.Prelude.{◌↔◌}
+use Rattle.std.{proofs.Common.{map, take, Contains}, specs.Prelude.{◌↔◌}}
 use Rattle.pc_common.specs.World.{Node}
 use Rattle.pc_ground.specs.Keys.{key_node}
 use Rattle.graph_check.proofs.order.number_all.Given as goal

@@ -1,8 +1,7 @@
 use Rattle.std.proofs.Common.{map, take, ◌∙◌}
 use Rattle.pc_ground.specs.Keys.{key_node}
 use Rattle.graph_text.specs.Graphs.{key_edge}
-use Rattle.graph_check.proofs.ArcChains.{no_arcs, more_arcs, next_arcs, no_ends, number_within}
-use Rattle.graph_check.proofs.FirstMembers.{item_at}
+use Rattle.graph_check.proofs.{ArcChains.{no_arcs, more_arcs, next_arcs, no_ends, number_within}, FirstMembers.{item_at}}
 use Rattle.graph_check.proofs.order.number_edges.Goals as goal
 
 pub returns-in-None : goal.returns-in-None

@@ -1,8 +1,5 @@
 use Rattle.std.proofs.Common.{List, set, sym, subst}
-use Rattle.graph_check.specs.declared.search.Mark.TheVariants.{Open}
-use Rattle.graph_check.specs.declared.search.Visit.{Visit}
-use Rattle.graph_check.specs.Searches.{progress, IsSearching}
-use Rattle.graph_check.proofs.SearchSteps.{opened}
+use Rattle.graph_check.{specs.{declared.search.{Mark.TheVariants.{Open}, Visit.{Visit}}, Searches.{progress, IsSearching}}, proofs.SearchSteps.{opened}}
 use Rattle.graph_check.proofs.search.open.Goals as goal
 
 pub returns-clause-searching : goal.returns-clause-searching

@@ -1,6 +1,5 @@
 use Rattle.std.proofs.Common.{◌<◌, List, sym, subst}
-use Rattle.graph_check.specs.declared.search.Visit.{Visit}
-use Rattle.graph_check.specs.Searches.{progress, IsSearching, steps_left}
+use Rattle.graph_check.specs.{declared.search.Visit.{Visit}, Searches.{progress, IsSearching, steps_left}}
 use Rattle.graph_check.proofs.search.run.Goals as goal
 
 pub step-requires : goal.step-requires

@@ -1,9 +1,6 @@
 use Rattle.std.proofs.Common.{◌<◌, ℕ, List, set, sym, ◌∙◌, subst, arith}
-use Rattle.pc_common.specs.Chain.{Chain}
-use Rattle.pc_common.proofs.Elements.{In}
-use Rattle.graph_check.specs.declared.search.Mark.TheVariants.{Done}
-use Rattle.graph_check.specs.declared.search.Visit.{Visit}
-use Rattle.graph_check.specs.Arcs.{Joins}
+use Rattle.pc_common.{specs.Chain.{Chain}, proofs.Elements.{In}}
+use Rattle.graph_check.specs.{declared.search.{Mark.TheVariants.{Done}, Visit.{Visit}}, Arcs.{Joins}}
 use Rattle.graph_check.specs.Searches.{progress, with_visit, nodes_of, IsSearching, steps_left}
 use Rattle.graph_check.proofs.SearchSteps.{mark_read, visit_in, visit_walk, leads_on, circular, passed_by, finished, further, fewer_passed, fewer_finished}
 use Rattle.graph_check.proofs.search.step.Goals as goal

@@ -1,7 +1,5 @@
 use Rattle.std.proofs.Common.{replicate, ◌∙◌, ap, arith}
-use Rattle.graph_check.specs.declared.search.Mark.TheVariants.{New}
-use Rattle.graph_check.specs.Searches.{progress}
-use Rattle.graph_check.proofs.SearchSteps.{begun, marked_next, in_order}
+use Rattle.graph_check.{specs.{declared.search.Mark.TheVariants.{New}, Searches.{progress}}, proofs.SearchSteps.{begun, marked_next, in_order}}
 use Rattle.graph_check.proofs.search.topological_order.Goals as goal
 
 pub loop-node-init : goal.loop-node-init

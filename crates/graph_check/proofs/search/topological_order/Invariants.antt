@@ -1,7 +1,6 @@
 -- The first nodes are not new.
 use Rattle.std.proofs.Common.{◌≡◌, ◌<◌, ℕ, []}
-use Rattle.graph_check.specs.declared.search.Mark.TheVariants.{New}
-use Rattle.graph_check.specs.Searches.{progress, mark_of, IsSearching}
+use Rattle.graph_check.specs.{declared.search.Mark.TheVariants.{New}, Searches.{progress, mark_of, IsSearching}}
 use Rattle.graph_check.proofs.search.topological_order.Given as goal
 
 abbrev pub invariant-loop-node : goal.invariant-loop-node

@@ -1,13 +1,7 @@
 use Rattle.std.proofs.Common.{◌<◌, ◌++◌, ◌∷◌, [], true, false, length, sym, ◌∙◌, arith}
-use Rattle.pc_syntax.specs.Truth.{range_of}
-use Rattle.pc_syntax.specs.Closed.{plain_closed, closed_true, meaning_of}
-use Rattle.static_preds.specs.Slots.{bound_at}
-use Rattle.static_preds.specs.Values.{meanings}
-use Rattle.static_preds.proofs.Ranges.{value, scope_inside}
-use Rattle.static_preds.proofs.SlotLaws.{slot_more}
-use Rattle.static_preds.proofs.SlotsBelow.{slots_below}
-use Rattle.graph_check.proofs.FirstMembers.{all_next, all_stop, any_next, any_stop, judged}
-use Rattle.graph_check.proofs.GraphWorlds.{generated_at}
+use Rattle.pc_syntax.specs.{Truth.{range_of}, Closed.{plain_closed, closed_true, meaning_of}}
+use Rattle.static_preds.{specs.{Slots.{bound_at}, Values.{meanings}}, proofs.{Ranges.{value, scope_inside}, SlotLaws.{slot_more}, SlotsBelow.{slots_below}}}
+use Rattle.graph_check.proofs.{FirstMembers.{all_next, all_stop, any_next, any_stop, judged}, GraphWorlds.{generated_at}}
 use Rattle.graph_check.proofs.truth.+walk.Goals as goal
 
 pub is_true-holds-requires-clause-below : goal.is_true-holds-requires-clause-below

@@ -1,13 +1,10 @@
 -- Each function's measure is of the formula that it walks; and what the loops over a range keep: the body is true, or false, at the
 -- values before the next one.
-use Rattle.std.proofs.Common.{◌≡◌, ◌+◌, ◌*◌, ◌++◌, ◌∷◌, [], length, take, drop}
-use Rattle.std.specs.List.{list_all, list_any}
-use Rattle.pc_common.specs.World.{Node, World}
-use Rattle.pc_syntax.specs.declared.closed_formula.ClosedFormula.{size-ClosedFormula}
-use Rattle.pc_syntax.specs.Truth.{range_of}
+use Rattle.std.{proofs.Common.{◌≡◌, ◌+◌, ◌*◌, ◌++◌, ◌∷◌, [], length, take, drop}, specs.List.{list_all, list_any}}
+use Rattle.pc_common.specs.{World.{Node, World}, Generated.{IsGenerated}}
+use Rattle.pc_syntax.specs.{declared.closed_formula.ClosedFormula.{size-ClosedFormula}, Truth.{range_of}}
 use Rattle.pc_syntax.specs.Closed.{plain_closed, closed_forall, closed_exists, closed_true}
 use Rattle.static_preds.specs.Values.{meanings}
-use Rattle.pc_common.specs.Generated.{IsGenerated}
 use Rattle.graph_check.proofs.truth.+walk.Given as goal
 
 abbrev pub decreases-is_true : goal.decreases-is_true

@@ -1,9 +1,7 @@
-use Rattle.std.proofs.Common.{sym, ◌∙◌, ap}
-use Rattle.std.proofs.lemmas.List.{drop_all}
+use Rattle.std.proofs.{Common.{sym, ◌∙◌, ap}, lemmas.List.{drop_all}}
 use Rattle.pc_syntax.specs.Closed.{closed_satisfies}
 use Rattle.pc_ground.specs.Stages.{plain_axioms}
-use Rattle.graph_check.proofs.FirstMembers.{item_at, axioms_next, axioms_stop}
-use Rattle.graph_check.proofs.GraphWorlds.{generated_at}
+use Rattle.graph_check.proofs.{FirstMembers.{item_at, axioms_next, axioms_stop}, GraphWorlds.{generated_at}}
 use Rattle.graph_check.proofs.truth.are_true.Goals as goal
 
 pub returns-then-not-branch-clause-truth : goal.returns-then-not-branch-clause-truth

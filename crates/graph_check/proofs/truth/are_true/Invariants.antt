@@ -1,9 +1,8 @@
 -- The axioms before the next one are true.
 use Rattle.std.proofs.Common.{◌≡◌, drop}
-use Rattle.pc_common.specs.World.{Node, World}
+use Rattle.pc_common.specs.{World.{Node, World}, Generated.{IsGenerated}}
 use Rattle.pc_syntax.specs.Closed.{closed_satisfies}
 use Rattle.pc_ground.specs.Stages.{plain_axioms}
-use Rattle.pc_common.specs.Generated.{IsGenerated}
 use Rattle.graph_check.proofs.truth.are_true.Given as goal
 
 abbrev pub invariant-loop-axiom : goal.invariant-loop-axiom

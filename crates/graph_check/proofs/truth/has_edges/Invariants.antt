@@ -1,9 +1,8 @@
 -- The edges before the next one are there.
 use Rattle.std.proofs.Common.{◌≡◌, drop}
-use Rattle.pc_common.specs.World.{Node, World}
+use Rattle.pc_common.specs.{World.{Node, World}, Generated.{IsGenerated}}
 use Rattle.pc_syntax.specs.Closed.{closed_edges, closed_true}
 use Rattle.static_preds.specs.Values.{meanings}
-use Rattle.pc_common.specs.Generated.{IsGenerated}
 use Rattle.graph_check.proofs.truth.has_edges.Given as goal
 
 abbrev pub invariant-loop-edge : goal.invariant-loop-edge

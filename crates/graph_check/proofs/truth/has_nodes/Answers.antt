@@ -1,5 +1,4 @@
-use Rattle.static_preds.specs.Values.{scope_of}
-use Rattle.static_preds.proofs.Walked.{node_fits}
+use Rattle.static_preds.{specs.Values.{scope_of}, proofs.Walked.{node_fits}}
 use Rattle.graph_check.proofs.FirstMembers.{item_at}
 use Rattle.graph_check.proofs.truth.has_nodes.Goals as goal
 

@@ -1,9 +1,8 @@
 -- The nodes before the next one are there.
 use Rattle.std.proofs.Common.{◌≡◌, drop}
-use Rattle.pc_common.specs.World.{Node, World}
+use Rattle.pc_common.specs.{World.{Node, World}, Generated.{IsGenerated}}
 use Rattle.pc_syntax.specs.Closed.{closed_nodes, closed_true}
 use Rattle.static_preds.specs.Values.{meanings}
-use Rattle.pc_common.specs.Generated.{IsGenerated}
 use Rattle.graph_check.proofs.truth.has_nodes.Given as goal
 
 abbrev pub invariant-loop-node : goal.invariant-loop-node

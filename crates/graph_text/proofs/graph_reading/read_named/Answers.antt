@@ -1,8 +1,7 @@
 use Rattle.std.proofs.Common.{refl, subst}
 use Rattle.pc_common.specs.Lines.{Names}
 use Rattle.pc_ground.specs.NodeForm.{AreReadable}
-use Rattle.graph_text.specs.GraphReading.{AreGraphLines}
-use Rattle.graph_text.proofs.WholeGraphs.{whole_read, whole_again, refused_read, refused_again}
+use Rattle.graph_text.{specs.GraphReading.{AreGraphLines}, proofs.WholeGraphs.{whole_read, whole_again, refused_read, refused_again}}
 use Rattle.graph_text.proofs.graph_reading.read_named.Goals as goal
 
 pub returns-in-Whole-clause-read : goal.returns-in-Whole-clause-read

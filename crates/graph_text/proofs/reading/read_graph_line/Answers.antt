@@ -1,6 +1,4 @@
-use Rattle.std.proofs.Common.{sym, ◌∙◌}
-use Rattle.std.proofs.lemmas.Bool.Decides.{Decides-eqb}
-use Rattle.std.proofs.lemmas.Slice.Eq.{slice_eq-Decides}
+use Rattle.std.proofs.{Common.{sym, ◌∙◌}, lemmas.{Bool.Decides.{Decides-eqb}, Slice.Eq.{slice_eq-Decides}}}
 use Rattle.pc_common.proofs.Bools.{not_both}
 use Rattle.graph_text.proofs.GraphTexts.{node_read, edge_read, no_form-other, no_again-other}
 use Rattle.graph_text.proofs.reading.read_graph_line.Goals as goal

@@ -1,5 +1,4 @@
-use Rattle.std.proofs.Common.{refl}
-use Rattle.std.specs.List.{flat_map}
+use Rattle.std.{proofs.Common.{refl}, specs.List.{flat_map}}
 use Rattle.pc_common.proofs.Rooms.{puts_then, puts_stop}
 use Rattle.graph_text.specs.Graphs.{edge_line_text}
 use Rattle.graph_text.proofs.writing.put_graph.Goals as goal

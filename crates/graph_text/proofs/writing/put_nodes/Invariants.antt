@@ -1,8 +1,6 @@
 -- The first lines were put.
-use Rattle.std.proofs.Common.{take}
-use Rattle.std.specs.List.{flat_map}
-use Rattle.pc_common.specs.Writes.{success}
-use Rattle.pc_common.specs.Room.{Puts}
+use Rattle.std.{proofs.Common.{take}, specs.List.{flat_map}}
+use Rattle.pc_common.specs.{Writes.{success}, Room.{Puts}}
 use Rattle.graph_text.specs.Graphs.{node_line_text}
 use Rattle.graph_text.proofs.writing.put_nodes.Given as goal
 

@@ -1,8 +1,6 @@
 use Rattle.std.proofs.Common.{ap, sym, ◌∙◌, arith}
-use Rattle.pc_ground.specs.Keys.{literal_node}
-use Rattle.pc_ground.specs.PlainGround.{ground_literal, ground_conjoined}
-use Rattle.static_preds.specs.Values.{scope_of}
-use Rattle.static_preds.proofs.Walked.{edge_fits}
+use Rattle.pc_ground.specs.{Keys.{literal_node}, PlainGround.{ground_literal, ground_conjoined}}
+use Rattle.static_preds.{specs.Values.{scope_of}, proofs.Walked.{edge_fits}}
 use Rattle.grounder.proofs.LastOnes.{last_ones}
 use Rattle.grounder.proofs.atoms.ground_edges.Goals as goal
 

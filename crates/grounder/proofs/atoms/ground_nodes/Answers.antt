@@ -1,9 +1,6 @@
 use Rattle.std.proofs.Common.{ap, ◌∙◌, arith}
-use Rattle.pc_ground.specs.declared.literal.Literal.TheVariants.{Node as a_node}
-use Rattle.pc_ground.specs.Keys.{key_node}
-use Rattle.pc_ground.specs.PlainGround.{ground_literal, ground_conjoined}
-use Rattle.static_preds.specs.Values.{scope_of}
-use Rattle.static_preds.proofs.Walked.{node_fits}
+use Rattle.pc_ground.specs.{declared.literal.Literal.TheVariants.{Node as a_node}, Keys.{key_node}, PlainGround.{ground_literal, ground_conjoined}}
+use Rattle.static_preds.{specs.Values.{scope_of}, proofs.Walked.{node_fits}}
 use Rattle.grounder.proofs.LastOnes.{last_ones}
 use Rattle.grounder.proofs.atoms.ground_nodes.Goals as goal
 

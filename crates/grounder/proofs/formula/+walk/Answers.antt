@@ -1,21 +1,11 @@
-use Rattle.std.proofs.Common.{◌≡◌, ◌<◌, ℕ, ◌+◌, List, [], ◌∷◌, ◌++◌, length, map, drop, refl, ap, sym, ◌∙◌, arith}
-use Rattle.std.proofs.Math.Seq.{take-length}
+use Rattle.std.proofs.{Common.{◌≡◌, ◌<◌, ℕ, ◌+◌, List, [], ◌∷◌, ◌++◌, length, map, drop, refl, ap, sym, ◌∙◌, arith}, Math.Seq.{take-length}}
 use Rattle.std.proofs.lemmas.List.{map-append}
 use Rattle.pc_common.specs.Case.{Case}
-use Rattle.pc_syntax.specs.declared.term.Sort.{Sort}
-use Rattle.pc_syntax.specs.declared.bound.Bound.{Bound}
-use Rattle.pc_syntax.specs.Truth.{range_of}
-use Rattle.pc_syntax.specs.Closed.{PlainClosed, plain_closed, meaning_of}
-use Rattle.pc_ground.specs.PlainGround.{PlainGround, plain_ground}
-use Rattle.pc_ground.specs.Unfolded.{closed_unfolded}
-use Rattle.static_preds.proofs.SlotsBelow.{slots_below}
-use Rattle.static_preds.specs.Slots.{bound_at}
-use Rattle.grounder.specs.Members.{whole_of}
+use Rattle.pc_syntax.specs.{declared.{term.Sort.{Sort}, bound.Bound.{Bound}}, Truth.{range_of}, Closed.{PlainClosed, plain_closed, meaning_of}}
+use Rattle.pc_ground.specs.{PlainGround.{PlainGround, plain_ground}, Unfolded.{closed_unfolded}}
+use Rattle.static_preds.{proofs.{SlotsBelow.{slots_below}, SlotLaws.{slot_more}, Ranges.{next_value, scope_inside}}, specs.Slots.{bound_at}}
 use Rattle.static_preds.specs.Values.{meanings}
-use Rattle.grounder.specs.GroundingOf.{grounding_of}
-use Rattle.grounder.proofs.WithMembers.{grounding_at, simplified-all}
-use Rattle.static_preds.proofs.SlotLaws.{slot_more}
-use Rattle.static_preds.proofs.Ranges.{next_value, scope_inside}
+use Rattle.grounder.{specs.{Members.{whole_of}, GroundingOf.{grounding_of}}, proofs.WithMembers.{grounding_at, simplified-all}}
 use Rattle.grounder.proofs.formula.+walk.Goals as goal
 
 -- what the values not walked yet say: the next member, and the others

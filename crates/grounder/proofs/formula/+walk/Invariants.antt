@@ -1,13 +1,9 @@
 -- Each function's measure is of the formula that it walks; and what the loop over a range keeps: the
 -- members that are kept and those that are not walked yet say what all say.
 use Rattle.std.proofs.Common.{◌≡◌, ◌+◌, ◌*◌, ◌++◌, length, map, take, drop}
-use Rattle.pc_syntax.specs.declared.closed_formula.ClosedFormula.{size-ClosedFormula}
-use Rattle.pc_syntax.specs.Truth.{range_of}
-use Rattle.pc_syntax.specs.Closed.{plain_closed}
+use Rattle.pc_syntax.specs.{declared.closed_formula.ClosedFormula.{size-ClosedFormula}, Truth.{range_of}, Closed.{plain_closed}}
 use Rattle.pc_ground.specs.PlainGround.{plain_ground}
-use Rattle.grounder.specs.Members.{whole_of}
-use Rattle.grounder.specs.GroundingOf.{grounding_over}
-use Rattle.grounder.proofs.WithMembers.{grounding_at}
+use Rattle.grounder.{specs.{Members.{whole_of}, GroundingOf.{grounding_over}}, proofs.WithMembers.{grounding_at}}
 use Rattle.grounder.proofs.formula.+walk.Given as goal
 
 abbrev pub decreases-ground_formula : goal.decreases-ground_formula

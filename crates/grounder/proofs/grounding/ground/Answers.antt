@@ -1,13 +1,8 @@
-use Rattle.std.proofs.Common.{◌≡◌, map, arith, ◌∙◌, ap}
-use Rattle.std.proofs.lemmas.Grind.{common_steps}
-use Rattle.std.proofs.lemmas.Result.{IfOk-weaker}
+use Rattle.std.proofs.{Common.{◌≡◌, map, arith, ◌∙◌, ap}, lemmas.{Grind.{common_steps}, Result.{IfOk-weaker}}}
 use Rattle.pc_syntax.specs.Closed.{plain_closed}
-use Rattle.pc_ground.specs.PlainGround.{ground_false, plain_ground, simplified, normal}
-use Rattle.pc_ground.specs.GroundTree.{axioms_unfolded, closed_ground_tree}
+use Rattle.pc_ground.specs.{PlainGround.{ground_false, plain_ground, simplified, normal}, GroundTree.{axioms_unfolded, closed_ground_tree}}
 use Rattle.pc_ground.proofs.NormalForms.{normal_simplified}
-use Rattle.grounder.specs.declared.operator.Operator.TheVariants.{And}
-use Rattle.grounder.specs.Members.{whole_of}
-use Rattle.grounder.proofs.WithMembers.{axioms_folded}
+use Rattle.grounder.{specs.{declared.operator.Operator.TheVariants.{And}, Members.{whole_of}}, proofs.WithMembers.{axioms_folded}}
 use Rattle.grounder.proofs.grounding.ground.Goals as goal
 
 pub loop-axiom-init : goal.loop-axiom-init

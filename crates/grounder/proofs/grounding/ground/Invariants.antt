@@ -1,11 +1,8 @@
 -- The axioms that are kept and those that are not walked yet say what all say.
 use Rattle.std.proofs.Common.{◌≡◌, [], ◌++◌, map, drop}
 use Rattle.pc_syntax.specs.Closed.{plain_closed}
-use Rattle.pc_ground.specs.PlainGround.{plain_ground, simplified}
-use Rattle.pc_ground.specs.GroundTree.{axioms_unfolded}
-use Rattle.grounder.specs.declared.operator.Operator.TheVariants.{And}
-use Rattle.grounder.specs.Members.{whole_of}
-use Rattle.grounder.specs.GroundingOf.{grounding_of}
+use Rattle.pc_ground.specs.{PlainGround.{plain_ground, simplified}, GroundTree.{axioms_unfolded}}
+use Rattle.grounder.specs.{declared.operator.Operator.TheVariants.{And}, Members.{whole_of}, GroundingOf.{grounding_of}}
 use Rattle.grounder.proofs.grounding.ground.Given as goal
 
 abbrev pub invariant-loop-axiom : goal.invariant-loop-axiom

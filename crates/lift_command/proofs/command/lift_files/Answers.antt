@@ -1,6 +1,5 @@
 use Rattle.command_base.proofs.ThirdFile.{third_ending}
-use Rattle.lift_command.specs.LiftAnswers.{IsLifted}
-use Rattle.lift_command.proofs.LiftOutcomes.{found_outcome}
+use Rattle.lift_command.{specs.LiftAnswers.{IsLifted}, proofs.LiftOutcomes.{found_outcome}}
 use Rattle.lift_command.proofs.command.lift_files.Goals as goal
 
 pub returns-in-Err : goal.returns-in-Err

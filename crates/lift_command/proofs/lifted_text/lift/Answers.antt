@@ -1,19 +1,11 @@
-use Rattle.std.proofs.Common.{◌≡◌, ◌++◌, [], ◌∷◌, List, ℕ, sym, ◌∙◌, ap, subst}
-use Rattle.std.specs.Prelude.{codes}
-use Rattle.std.specs.List.{flat_map}
+use Rattle.std.{proofs.Common.{◌≡◌, ◌++◌, [], ◌∷◌, List, ℕ, sym, ◌∙◌, ap, subst}, specs.{Prelude.{codes}, List.{flat_map}}}
 use Rattle.pc_common.specs.Lines.{unobservable, second_text}
 use Rattle.pc_syntax.specs.declared.closed.Closed.{Closed}
-use Rattle.pc_ground.specs.Rows.{rows_of}
-use Rattle.pc_ground.specs.GroundTree.{closed_ground_tree}
-use Rattle.pc_ground.specs.Stages.{plain_axioms}
-use Rattle.pc_ground.specs.Refutes.{IsRefutation}
+use Rattle.pc_ground.specs.{Rows.{rows_of}, GroundTree.{closed_ground_tree}, Stages.{plain_axioms}, Refutes.{IsRefutation}}
 use Rattle.pc_ground.specs.declared.version.Version.TheVariants.{One}
-use Rattle.lifted_facts.specs.PlainFacts.{root}
-use Rattle.lifted_facts.specs.Lifted.{IsLiftedRefutation}
+use Rattle.lifted_facts.specs.{PlainFacts.{root}, Lifted.{IsLiftedRefutation}}
 use Rattle.lifted_check.specs.LiftedTexts.{asked}
-use Rattle.lift_command.specs.WrittenLines.{line_text}
-use Rattle.lift_command.proofs.StepRuns.{values_fit}
-use Rattle.lift_command.proofs.WholeTexts.{whole_text}
+use Rattle.lift_command.{specs.WrittenLines.{line_text}, proofs.{StepRuns.{values_fit}, WholeTexts.{whole_text}}}
 use Rattle.lift_command.proofs.lifted_text.lift.Goals as goal
 
 pub lift_steps-requires : goal.lift_steps-requires

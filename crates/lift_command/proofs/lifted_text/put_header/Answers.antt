@@ -1,5 +1,4 @@
-use Rattle.std.proofs.Common.{◌++◌, ◌∙◌, ap}
-use Rattle.std.specs.Prelude.{codes}
+use Rattle.std.{proofs.Common.{◌++◌, ◌∙◌, ap}, specs.Prelude.{codes}}
 use Rattle.pc_common.specs.Lines.{unobservable, second_text}
 use Rattle.lift_command.proofs.PutLines.{put_header_text}
 use Rattle.lift_command.proofs.lifted_text.put_header.Goals as goal

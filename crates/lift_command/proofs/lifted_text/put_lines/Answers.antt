@@ -1,5 +1,4 @@
-use Rattle.std.proofs.Common.{sym}
-use Rattle.std.proofs.lemmas.List.{append-nil}
+use Rattle.std.proofs.{Common.{sym}, lemmas.List.{append-nil}}
 use Rattle.lifter.specs.WrittenSteps.{plain_line}
 use Rattle.lifted_check.specs.StepLines.{HasValue}
 use Rattle.lift_command.proofs.PutLines.{lines_next, all_at}

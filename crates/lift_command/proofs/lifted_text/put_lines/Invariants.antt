@@ -1,6 +1,5 @@
 -- The lines of the steps before the next one stand after the text.
-use Rattle.std.proofs.Common.{◌≡◌, ◌++◌, take}
-use Rattle.std.specs.List.{flat_map}
+use Rattle.std.{proofs.Common.{◌≡◌, ◌++◌, take}, specs.List.{flat_map}}
 use Rattle.lift_command.specs.WrittenLines.{line_text}
 use Rattle.lift_command.proofs.lifted_text.put_lines.Given as goal
 

@@ -2,8 +2,7 @@ use Rattle.std.specs.Prelude.{All}
 use Rattle.lifted_facts.specs.Lifted.{LiftedStep}
 use Rattle.lifter.specs.WrittenSteps.{plain_line}
 use Rattle.lifted_check.specs.StepLines.{numbers_of, IsSmall}
-use Rattle.lift_command.specs.WrittenLines.{HasSmallCore}
-use Rattle.lift_command.proofs.PutLines.{all_next}
+use Rattle.lift_command.{specs.WrittenLines.{HasSmallCore}, proofs.PutLines.{all_next}}
 use Rattle.lift_command.proofs.lifted_text.show_steps.Goals as goal
 
 pub loop-k-preserved : goal.loop-k-preserved

@@ -1,6 +1,5 @@
 -- What is shown of the steps before the next one.
-use Rattle.std.proofs.Common.{take}
-use Rattle.std.specs.Prelude.{All}
+use Rattle.std.{proofs.Common.{take}, specs.Prelude.{All}}
 use Rattle.lifted_check.specs.StepLines.{numbers_of, IsSmall}
 use Rattle.lift_command.specs.WrittenLines.{HasSmallCore}
 use Rattle.lift_command.proofs.lifted_text.show_steps.Given as goal

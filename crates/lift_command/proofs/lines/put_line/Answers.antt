@@ -1,7 +1,6 @@
 use Rattle.std.specs.Prelude.{codes}
 use Rattle.lifter.specs.WrittenSteps.{plain_line}
-use Rattle.lift_command.specs.WrittenLines.{line_of}
-use Rattle.lift_command.proofs.PutLines.{put_then}
+use Rattle.lift_command.{specs.WrittenLines.{line_of}, proofs.PutLines.{put_then}}
 use Rattle.lift_command.proofs.lines.put_line.Goals as goal
 
 pub returns : goal.returns

@@ -1,8 +1,5 @@
-use Rattle.std.proofs.Common.{◌++◌, map, append_assoc}
-use Rattle.std.specs.Prelude.{codes}
-use Rattle.std.specs.Fmt.{decimal}
-use Rattle.lift_command.specs.WrittenLines.{spaced_words}
-use Rattle.lift_command.proofs.PutLines.{put_then, put_as}
+use Rattle.std.{proofs.Common.{◌++◌, map, append_assoc}, specs.{Prelude.{codes}, Fmt.{decimal}}}
+use Rattle.lift_command.{specs.WrittenLines.{spaced_words}, proofs.PutLines.{put_then, put_as}}
 use Rattle.lift_command.proofs.lines.put_many.Goals as goal
 
 pub returns : goal.returns

@@ -1,6 +1,4 @@
-use Rattle.std.proofs.Common.{◌++◌}
-use Rattle.std.specs.Prelude.{codes}
-use Rattle.std.specs.Fmt.{decimal}
+use Rattle.std.{proofs.Common.{◌++◌}, specs.{Prelude.{codes}, Fmt.{decimal}}}
 use Rattle.lift_command.proofs.PutLines.{put_then}
 use Rattle.lift_command.proofs.lines.put_one.Goals as goal
 

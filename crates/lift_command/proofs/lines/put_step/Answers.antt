@@ -1,11 +1,7 @@
-use Rattle.std.proofs.Common.{◌++◌, ◌≡◌, List, ℕ, map, sym, subst}
-use Rattle.std.specs.Prelude.{OnOk, codes}
-use Rattle.std.specs.Fmt.{decimal}
+use Rattle.std.{proofs.Common.{◌++◌, ◌≡◌, List, ℕ, map, sym, subst}, specs.{Prelude.{OnOk, codes}, Fmt.{decimal}}}
 use Rattle.lifted_facts.specs.Lifted.{close, cycle, path}
-use Rattle.lifter.specs.declared.line.Line.{Line}
-use Rattle.lifter.specs.WrittenSteps.{plain_line}
-use Rattle.lift_command.specs.WrittenLines.{line_of, spaced_words}
-use Rattle.lift_command.proofs.PutLines.{put_then, put_as, cycle_line, path_line}
+use Rattle.lifter.specs.{declared.line.Line.{Line}, WrittenSteps.{plain_line}}
+use Rattle.lift_command.{specs.WrittenLines.{line_of, spaced_words}, proofs.PutLines.{put_then, put_as, cycle_line, path_line}}
 use Rattle.lift_command.proofs.lines.put_step.Goals as goal
 
 pub returns-in-Cycle : goal.returns-in-Cycle

@@ -1,5 +1,4 @@
-use Rattle.std.specs.Prelude.{codes}
-use Rattle.std.specs.Fmt.{decimal}
+use Rattle.std.specs.{Prelude.{codes}, Fmt.{decimal}}
 use Rattle.lift_command.proofs.PutLines.{put_then}
 use Rattle.lift_command.proofs.words.put_number.Goals as goal
 

@@ -1,5 +1,4 @@
-use Rattle.std.proofs.Common.{sym}
-use Rattle.std.proofs.lemmas.List.{append-nil}
+use Rattle.std.proofs.{Common.{sym}, lemmas.List.{append-nil}}
 use Rattle.lift_command.proofs.words.put_numbers.Goals as goal
 
 pub loop-number-init : goal.loop-number-init

@@ -1,6 +1,5 @@
 -- The numbers before the next one stand after the text.
-use Rattle.std.proofs.Common.{◌≡◌, ◌++◌, map, take}
-use Rattle.std.specs.Fmt.{decimal}
+use Rattle.std.{proofs.Common.{◌≡◌, ◌++◌, map, take}, specs.Fmt.{decimal}}
 use Rattle.lift_command.specs.WrittenLines.{spaced_words}
 use Rattle.lift_command.proofs.words.put_numbers.Given as goal
 

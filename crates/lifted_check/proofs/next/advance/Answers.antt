@@ -1,14 +1,10 @@
-use Rattle.std.proofs.Common.{◌≡◌, ℕ, List, true, false, refl, subst}
-use Rattle.std.proofs.lemmas.Result.{IfOk-weaker}
+use Rattle.std.proofs.{Common.{◌≡◌, ℕ, List, true, false, refl, subst}, lemmas.Result.{IfOk-weaker}}
 use Rattle.pc_common.proofs.Bools.{clash}
 use Rattle.lifted_facts.specs.Opens.{opens_at}
-use Rattle.lifted_check.specs.LiftedTexts.{asked}
-use Rattle.lifted_check.specs.Stages.{IsAsked, IsCase, StandsAt, AreStepsSoFar, HasGone, HasSteppedOn}
-use Rattle.lifted_check.specs.declared.stage.Stage.{Stage}
-use Rattle.lifted_check.specs.declared.stage.Stage.TheVariants.{Steps}
-use Rattle.lifted_check.proofs.Texts.{no_more, steps_gone}
-use Rattle.lifted_check.proofs.next.advance.Goals as goal
+use Rattle.lifted_check.specs.{LiftedTexts.{asked}, Stages.{IsAsked, IsCase, StandsAt, AreStepsSoFar, HasGone, HasSteppedOn}, declared.stage.Stage.{Stage}}
+use Rattle.lifted_check.{specs.declared.stage.Stage.TheVariants.{Steps}, proofs.Texts.{no_more, steps_gone}}
 use Rattle.lifted_check.proofs.next.advance.Goals.{in-Start, in-First, in-Second+in_ok-next-in-Second, in-Steps+else-not-is_last, in-Ended}
+use Rattle.lifted_check.proofs.next.advance.Goals as goal
 
 pub returns-then-not-is_last : goal.returns-then-not-is_last
 returns-then-not-is_last c =

@@ -1,8 +1,5 @@
-use Rattle.std.proofs.Common.{ap, sym, true, false, ◌∙◌, List, ℕ, ◌∷◌, [], ◌++◌}
-use Rattle.std.specs.Prelude.{codes}
-use Rattle.pc_common.specs.Case.{Case}
-use Rattle.pc_common.specs.Lines.{unobservable, second_text}
-use Rattle.pc_common.proofs.Bools.{clash}
+use Rattle.std.{proofs.Common.{ap, sym, true, false, ◌∙◌, List, ℕ, ◌∷◌, [], ◌++◌}, specs.Prelude.{codes}}
+use Rattle.pc_common.{specs.{Case.{Case}, Lines.{unobservable, second_text}}, proofs.Bools.{clash}}
 use Rattle.lifted_check.proofs.Texts.{first_next}
 use Rattle.lifted_check.proofs.next.after_first.Goals as goal
 

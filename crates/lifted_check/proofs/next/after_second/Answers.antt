@@ -1,8 +1,6 @@
-use Rattle.std.proofs.Common.{ap, sym, true, false, ◌∙◌, List, ℕ, ◌∷◌, [], ◌++◌}
-use Rattle.std.specs.Prelude.{codes}
+use Rattle.std.{proofs.Common.{ap, sym, true, false, ◌∙◌, List, ℕ, ◌∷◌, [], ◌++◌}, specs.Prelude.{codes}}
 use Rattle.pc_common.proofs.Bools.{clash}
-use Rattle.lifted_check.specs.LiftedTexts.{asked, second_line}
-use Rattle.lifted_check.proofs.Texts.{second_next}
+use Rattle.lifted_check.{specs.LiftedTexts.{asked, second_line}, proofs.Texts.{second_next}}
 use Rattle.lifted_check.proofs.next.after_second.Goals as goal
 
 pub returns-then-not-is_third : goal.returns-then-not-is_third

@@ -1,12 +1,7 @@
-use Rattle.std.proofs.Common.{◌≡◌, ℕ, List, ◌∷◌}
-use Rattle.std.proofs.lemmas.Result.{IfOk-weaker}
+use Rattle.std.proofs.{Common.{◌≡◌, ℕ, List, ◌∷◌}, lemmas.Result.{IfOk-weaker}}
 use Rattle.pc_ground.specs.Words.{words}
-use Rattle.lifted_facts.specs.declared.way.Way.TheVariants.{Inst as InstWay}
-use Rattle.lifted_facts.specs.Lifted.{derive, HasAdvanced}
-use Rattle.lifted_facts.specs.Opens.{opens_at}
-use Rattle.lifted_check.specs.StepLines.{keyword_text}
-use Rattle.lifted_check.specs.Stages.{IsCase, HasSteppedOn}
-use Rattle.lifted_check.specs.declared.keyword.Keyword.TheVariants.{Inst as InstWord}
+use Rattle.lifted_facts.specs.{declared.way.Way.TheVariants.{Inst as InstWay}, Lifted.{derive, HasAdvanced}, Opens.{opens_at}}
+use Rattle.lifted_check.specs.{StepLines.{keyword_text}, Stages.{IsCase, HasSteppedOn}, declared.keyword.Keyword.TheVariants.{Inst as InstWord}}
 use Rattle.lifted_check.proofs.TakenLines.{instance_taken, not_taken, no_instance}
 use Rattle.lifted_check.proofs.next.take_instance.Goals as goal
 

@@ -1,10 +1,7 @@
-use Rattle.std.proofs.Common.{◌≡◌, ℕ, List, ◌∷◌}
-use Rattle.std.proofs.lemmas.Result.{IfOk-weaker}
+use Rattle.std.proofs.{Common.{◌≡◌, ℕ, List, ◌∷◌}, lemmas.Result.{IfOk-weaker}}
 use Rattle.pc_ground.specs.Words.{words}
 use Rattle.lifted_facts.specs.Opens.{opens_at}
-use Rattle.lifted_check.specs.StepLines.{keyword_text}
-use Rattle.lifted_check.specs.Stages.{IsCase, HasSteppedOn}
-use Rattle.lifted_check.specs.declared.keyword.Keyword.TheVariants.{Inst as InstWord}
+use Rattle.lifted_check.specs.{StepLines.{keyword_text}, Stages.{IsCase, HasSteppedOn}, declared.keyword.Keyword.TheVariants.{Inst as InstWord}}
 use Rattle.lifted_check.proofs.next.take_line.Goals as goal
 
 pub returns-in-Inst-clause-stepped : goal.returns-in-Inst-clause-stepped

@@ -1,12 +1,7 @@
-use Rattle.std.proofs.Common.{◌≡◌, ℕ, List, ◌∷◌, Some, None, sym, subst}
-use Rattle.std.proofs.lemmas.Result.{IfOk-weaker}
+use Rattle.std.proofs.{Common.{◌≡◌, ℕ, List, ◌∷◌, Some, None, sym, subst}, lemmas.Result.{IfOk-weaker}}
 use Rattle.pc_ground.specs.Words.{words}
-use Rattle.lifted_facts.specs.Lifted.{HasAdvanced}
-use Rattle.lifted_facts.specs.Steps.{plain_step}
-use Rattle.lifted_facts.specs.Opens.{opens_at}
-use Rattle.lifted_check.specs.StepLines.{keyword_text}
-use Rattle.lifted_check.specs.Decoding.{decoded}
-use Rattle.lifted_check.specs.Stages.{IsCase, HasSteppedOn}
+use Rattle.lifted_facts.specs.{Lifted.{HasAdvanced}, Steps.{plain_step}, Opens.{opens_at}}
+use Rattle.lifted_check.specs.{StepLines.{keyword_text}, Decoding.{decoded}, Stages.{IsCase, HasSteppedOn}}
 use Rattle.lifted_check.proofs.TakenLines.{not_taken, no_numbers, no_decoded, numbers_taken}
 use Rattle.lifted_check.proofs.next.take_numbers.Goals as goal
 

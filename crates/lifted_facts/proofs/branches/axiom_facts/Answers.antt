@@ -1,14 +1,8 @@
-use Rattle.std.proofs.Common.{◌≡◌, List, ◌++◌, ◌∷◌, [], map, sym, ◌∙◌, ap, subst, true, rules}
-use Rattle.std.specs.Prelude.{All}
-use Rattle.std.proofs.lemmas.List.{map-append}
-use Rattle.std.proofs.lemmas.List.Elements.{All-push}
-use Rattle.std.proofs.lemmas.Option.{slice_get_read}
-use Rattle.pc_syntax.specs.declared.bound.Bound.{Bound}
-use Rattle.pc_syntax.specs.Closed.{plain_closed}
+use Rattle.std.proofs.{Common.{◌≡◌, List, ◌++◌, ◌∷◌, [], map, sym, ◌∙◌, ap, subst, true, rules}, lemmas.List.{map-append, Elements.{All-push}}}
+use Rattle.std.{proofs.lemmas.Option.{slice_get_read}, specs.Prelude.{All}}
+use Rattle.pc_syntax.specs.{declared.bound.Bound.{Bound}, Closed.{plain_closed}}
 use Rattle.static_preds.specs.Values.{meanings}
-use Rattle.lifted_facts.specs.declared.fact.Fact.{Fact}
-use Rattle.lifted_facts.specs.PlainFacts.{PlainFact, said, plain_fact, IsProper}
-use Rattle.lifted_facts.proofs.Members.{root_more, first_proper}
+use Rattle.lifted_facts.{specs.{declared.fact.Fact.{Fact}, PlainFacts.{PlainFact, said, plain_fact, IsProper}}, proofs.Members.{root_more, first_proper}}
 use Rattle.lifted_facts.proofs.branches.axiom_facts.Goals as goal
 
 pub loop-axiom-preserved : goal.loop-axiom-preserved

@@ -1,6 +1,5 @@
 -- The axioms before the next one are facts.
-use Rattle.std.proofs.Common.{◌≡◌, map, take}
-use Rattle.std.specs.Prelude.{All}
+use Rattle.std.{proofs.Common.{◌≡◌, map, take}, specs.Prelude.{All}}
 use Rattle.pc_common.specs.Case.{Case}
 use Rattle.pc_ground.specs.Stages.{plain_axioms}
 use Rattle.lifted_facts.specs.PlainFacts.{plain_fact, root, IsProper}

@@ -1,12 +1,6 @@
-use Rattle.std.proofs.Common.{◌++◌, ◌∷◌, [], List, ap, sym, ◌∙◌, subst}
-use Rattle.std.proofs.lemmas.List.{map-append}
-use Rattle.pc_syntax.specs.declared.term.Sort.{Sort}
-use Rattle.pc_syntax.specs.declared.bound.Bound.{Bound}
-use Rattle.pc_syntax.specs.Closed.{plain_closed}
-use Rattle.pc_syntax.specs.IsClosed.{IsClosed}
-use Rattle.static_preds.specs.Slots.{AreInRange}
-use Rattle.static_preds.specs.Values.{sort_bound, scope_of}
-use Rattle.static_preds.proofs.SlotLaws.{slot_more}
+use Rattle.std.proofs.{Common.{◌++◌, ◌∷◌, [], List, ap, sym, ◌∙◌, subst}, lemmas.List.{map-append}}
+use Rattle.pc_syntax.specs.{declared.{term.Sort.{Sort}, bound.Bound.{Bound}}, Closed.{plain_closed}, IsClosed.{IsClosed}}
+use Rattle.static_preds.{specs.{Slots.{AreInRange}, Values.{sort_bound, scope_of}}, proofs.SlotLaws.{slot_more}}
 use Rattle.lifted_facts.proofs.inside.at_place.Goals as goal
 
 pub returns-clause-proper : goal.returns-clause-proper

@@ -1,6 +1,5 @@
 use Rattle.std.proofs.Common.{◌<◌, Some, length, arith, sym, ◌∙◌, ap}
-use Rattle.pc_syntax.specs.Truth.{range_of}
-use Rattle.pc_syntax.specs.Closed.{meaning_of}
+use Rattle.pc_syntax.specs.{Truth.{range_of}, Closed.{meaning_of}}
 use Rattle.static_preds.proofs.Ranges.{value}
 use Rattle.lifted_facts.proofs.inside.value_at.Goals as goal
 

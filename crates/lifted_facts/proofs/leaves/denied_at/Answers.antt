@@ -1,7 +1,6 @@
 use Rattle.std.proofs.Common.{map, Some, false}
 use Rattle.pc_ground.specs.Keys.{key_node}
-use Rattle.lifted_facts.specs.PlainFacts.{plain_fact, one_node}
-use Rattle.lifted_facts.proofs.NamedFacts.{denied_named, no_fact}
+use Rattle.lifted_facts.{specs.PlainFacts.{plain_fact, one_node}, proofs.NamedFacts.{denied_named, no_fact}}
 use Rattle.lifted_facts.proofs.leaves.denied_at.Goals as goal
 
 pub returns-in-Some : goal.returns-in-Some

@@ -1,8 +1,6 @@
 use Rattle.std.proofs.Common.{map, Some}
-use Rattle.pc_ground.specs.Keys.{key_node}
-use Rattle.pc_ground.specs.declared.node_key.NodeKey.{NodeKey}
-use Rattle.lifted_facts.specs.PlainFacts.{plain_fact, one_edge}
-use Rattle.lifted_facts.proofs.NamedFacts.{edge_named, no_fact}
+use Rattle.pc_ground.specs.{Keys.{key_node}, declared.node_key.NodeKey.{NodeKey}}
+use Rattle.lifted_facts.{specs.PlainFacts.{plain_fact, one_edge}, proofs.NamedFacts.{edge_named, no_fact}}
 use Rattle.lifted_facts.proofs.leaves.edge_at.Goals as goal
 
 pub returns-in-Some : goal.returns-in-Some

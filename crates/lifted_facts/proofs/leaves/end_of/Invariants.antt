@@ -1,10 +1,8 @@
 -- The edges that are left lead from here where all of them lead from the start.
-use Rattle.std.proofs.Common.{map, drop}
-use Rattle.std.specs.Prelude.{◌↔◌}
+use Rattle.std.{proofs.Common.{map, drop}, specs.Prelude.{◌↔◌}}
 use Rattle.pc_common.specs.World.{Node}
 use Rattle.pc_ground.specs.Keys.{key_node}
-use Rattle.lifted_facts.specs.PlainFacts.{plain_fact}
-use Rattle.lifted_facts.specs.Lifted.{Follows}
+use Rattle.lifted_facts.specs.{PlainFacts.{plain_fact}, Lifted.{Follows}}
 use Rattle.lifted_facts.proofs.leaves.end_of.Given as goal
 
 abbrev pub invariant-loop-number : goal.invariant-loop-number

@@ -1,7 +1,6 @@
 use Rattle.std.proofs.Common.{map}
 use Rattle.pc_ground.specs.Keys.{key_node}
-use Rattle.lifted_facts.specs.PlainFacts.{plain_fact}
-use Rattle.lifted_facts.proofs.NamedFacts.{absent_named, no_denial, no_asserted}
+use Rattle.lifted_facts.{specs.PlainFacts.{plain_fact}, proofs.NamedFacts.{absent_named, no_denial, no_asserted}}
 use Rattle.lifted_facts.proofs.leaves.is_absent.Goals as goal
 
 pub returns-in-Some-fact_at : goal.returns-in-Some-fact_at

@@ -1,7 +1,6 @@
 use Rattle.std.proofs.Common.{map}
 use Rattle.pc_ground.specs.Keys.{key_node}
-use Rattle.lifted_facts.specs.PlainFacts.{plain_fact}
-use Rattle.lifted_facts.proofs.JoinedEdges.{cycle_closed, cycle_open}
+use Rattle.lifted_facts.{specs.PlainFacts.{plain_fact}, proofs.JoinedEdges.{cycle_closed, cycle_open}}
 use Rattle.lifted_facts.proofs.leaves.is_cycle.Goals as goal
 
 pub returns-in-Some : goal.returns-in-Some

@@ -1,6 +1,5 @@
 use Rattle.std.proofs.Common.{map}
-use Rattle.lifted_facts.specs.PlainFacts.{plain_fact}
-use Rattle.lifted_facts.proofs.NamedFacts.{false_named, no_falsity}
+use Rattle.lifted_facts.{specs.PlainFacts.{plain_fact}, proofs.NamedFacts.{false_named, no_falsity}}
 use Rattle.lifted_facts.proofs.leaves.is_falsity.Goals as goal
 
 pub is_false-requires : goal.is_false-requires

@@ -1,7 +1,6 @@
 use Rattle.std.proofs.Common.{map}
 use Rattle.pc_ground.specs.Keys.{key_node}
-use Rattle.lifted_facts.specs.PlainFacts.{plain_fact}
-use Rattle.lifted_facts.proofs.JoinedEdges.{path_closed, no_joined}
+use Rattle.lifted_facts.{specs.PlainFacts.{plain_fact}, proofs.JoinedEdges.{path_closed, no_joined}}
 use Rattle.lifted_facts.proofs.leaves.is_path.Goals as goal
 
 pub returns-then-is_same : goal.returns-then-is_same

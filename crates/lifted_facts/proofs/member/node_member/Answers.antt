@@ -1,5 +1,4 @@
-use Rattle.static_preds.specs.Values.{scope_of}
-use Rattle.static_preds.proofs.Walked.{node_fits}
+use Rattle.static_preds.{specs.Values.{scope_of}, proofs.Walked.{node_fits}}
 use Rattle.lifted_facts.proofs.member.node_member.Goals as goal
 
 pub node_key-requires-clause-fits : goal.node_key-requires-clause-fits

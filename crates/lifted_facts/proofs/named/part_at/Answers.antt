@@ -1,6 +1,5 @@
 use Rattle.std.proofs.Common.{map}
-use Rattle.lifted_facts.specs.PlainFacts.{plain_fact}
-use Rattle.lifted_facts.proofs.NamedFacts.{part_named, no_fact}
+use Rattle.lifted_facts.{specs.PlainFacts.{plain_fact}, proofs.NamedFacts.{part_named, no_fact}}
 use Rattle.lifted_facts.proofs.named.part_at.Goals as goal
 
 pub part-requires : goal.part-requires

@@ -1,6 +1,5 @@
 use Rattle.std.proofs.Common.{map}
-use Rattle.lifted_facts.specs.PlainFacts.{plain_fact}
-use Rattle.lifted_facts.proofs.NamedFacts.{sides_named, no_fact}
+use Rattle.lifted_facts.{specs.PlainFacts.{plain_fact}, proofs.NamedFacts.{sides_named, no_fact}}
 use Rattle.lifted_facts.proofs.named.sides_at.Goals as goal
 
 pub sides-requires : goal.sides-requires

@@ -1,9 +1,6 @@
-use Rattle.std.proofs.Common.{◌++◌, ◌∷◌, [], sym, ◌∙◌, arith}
-use Rattle.lifted_facts.specs.Lifted.{close, falsity}
-use Rattle.std.proofs.lemmas.Result.{on_ok_weaker}
-use Rattle.lifted_facts.specs.PlainFacts.{plain_fact}
-use Rattle.lifter.proofs.SideLaws.{sides_rank, part_rank}
-use Rattle.lifter.proofs.ClosedFacts.{closed_by_falsity, closed_by_sides, closed_by_part, sides_false, parts_false}
+use Rattle.std.proofs.{Common.{◌++◌, ◌∷◌, [], sym, ◌∙◌, arith}, lemmas.Result.{on_ok_weaker}}
+use Rattle.lifted_facts.specs.{Lifted.{close, falsity}, PlainFacts.{plain_fact}}
+use Rattle.lifter.proofs.{SideLaws.{sides_rank, part_rank}, ClosedFacts.{closed_by_falsity, closed_by_sides, closed_by_part, sides_false, parts_false}}
 use Rattle.lifter.proofs.RunsMore.{pushed}
 use Rattle.lifter.proofs.closing.+close.Goals as goal
 

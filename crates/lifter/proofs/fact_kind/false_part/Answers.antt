@@ -1,8 +1,6 @@
 use Rattle.std.proofs.Common.{◌≤◌, length, ◌∙◌, arith}
 use Rattle.lifted_facts.specs.PlainFacts.{plain_fact}
-use Rattle.lifter.specs.Trees.{fact_tree}
-use Rattle.lifter.specs.PartLists.{parts}
-use Rattle.lifter.proofs.PartWays.{false_later, end_not_false}
+use Rattle.lifter.{specs.{Trees.{fact_tree}, PartLists.{parts}}, proofs.PartWays.{false_later, end_not_false}}
 use Rattle.lifter.proofs.fact_kind.false_part.Goals as goal
 
 pub loop-k-preserved : goal.loop-k-preserved

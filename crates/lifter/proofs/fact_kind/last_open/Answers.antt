@@ -1,11 +1,7 @@
-use Rattle.std.proofs.Common.{◌≡◌, ◌≤◌, ◌+◌, ◌-◌, ℕ, length, sym, ◌∙◌, ap, subst, arith}
-use Rattle.std.proofs.lemmas.Option.{slice_get_within}
+use Rattle.std.proofs.{Common.{◌≡◌, ◌≤◌, ◌+◌, ◌-◌, ℕ, length, sym, ◌∙◌, ap, subst, arith}, lemmas.Option.{slice_get_within}}
 use Rattle.pc_ground.specs.Tree.{always}
 use Rattle.lifted_facts.specs.PlainFacts.{plain_fact}
-use Rattle.lifter.specs.Trees.{fact_tree}
-use Rattle.lifter.specs.declared.kind.Kind.TheVariants.{True, Open}
-use Rattle.lifter.specs.Kinds.{kind_of}
-use Rattle.lifter.specs.PartLists.{parts}
+use Rattle.lifter.specs.{Trees.{fact_tree}, declared.kind.Kind.TheVariants.{True, Open}, Kinds.{kind_of}, PartLists.{parts}}
 use Rattle.lifter.proofs.PartWays.{rest_of, rest_end, true_part, last_found}
 use Rattle.lifter.proofs.fact_kind.last_open.Goals as goal
 

@@ -1,10 +1,6 @@
-use Rattle.std.proofs.Common.{◌∷◌, [], List, length, refl, sym, ap, subst, arith}
-use Rattle.std.proofs.lemmas.Result.{on_ok_weaker}
-use Rattle.pc_ground.specs.Stages.{plain_axioms}
-use Rattle.pc_ground.specs.GroundTree.{closed_ground_tree}
-use Rattle.pc_ground.proofs.FlatRows.{size_pos, length_rows}
-use Rattle.lifted_facts.specs.PlainFacts.{root}
-use Rattle.lifted_facts.specs.Lifted.{LiftedStep, Runs}
+use Rattle.std.proofs.{Common.{◌∷◌, [], List, length, refl, sym, ap, subst, arith}, lemmas.Result.{on_ok_weaker}}
+use Rattle.pc_ground.{specs.{Stages.{plain_axioms}, GroundTree.{closed_ground_tree}}, proofs.FlatRows.{size_pos, length_rows}}
+use Rattle.lifted_facts.specs.{PlainFacts.{root}, Lifted.{LiftedStep, Runs}}
 use Rattle.lifter.proofs.RootTrees.{axioms_never, tree_open, axioms_open, root_tree, stands_whole, begun}
 use Rattle.lifter.proofs.following.close_all.Goals as goal
 

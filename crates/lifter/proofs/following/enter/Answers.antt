@@ -1,8 +1,6 @@
-use Rattle.std.proofs.Common.{List, [], ◌∷◌, ◌++◌, refl, ◌∙◌, ap}
-use Rattle.std.proofs.lemmas.Result.{on_ok_weaker}
+use Rattle.std.proofs.{Common.{List, [], ◌∷◌, ◌++◌, refl, ◌∙◌, ap}, lemmas.Result.{on_ok_weaker}}
 use Rattle.lifted_facts.specs.declared.fact.Fact.{Fact}
-use Rattle.lifter.specs.declared.state.State.{State}
-use Rattle.lifter.proofs.LeftBranches.{entered, entered_fact, kept_entered}
+use Rattle.lifter.{specs.declared.state.State.{State}, proofs.LeftBranches.{entered, entered_fact, kept_entered}}
 use Rattle.lifter.proofs.following.enter.Goals as goal
 
 pub unfold-requires : goal.unfold-requires

@@ -1,11 +1,8 @@
-use Rattle.std.proofs.Common.{◌+◌, List, drop, refl, subst, arith}
-use Rattle.std.proofs.lemmas.List.{drop_all}
+use Rattle.std.proofs.{Common.{◌+◌, List, drop, refl, subst, arith}, lemmas.List.{drop_all}}
 use Rattle.static_preds.proofs.Walked.{drop_at}
-use Rattle.pc_common.specs.World.{Node}
-use Rattle.pc_common.specs.Steps.{Step}
+use Rattle.pc_common.specs.{World.{Node}, Steps.{Step}}
 use Rattle.refutation.specs.Steps.{plain_step}
-use Rattle.lifter.specs.Progress.{HasStepsLeft}
-use Rattle.lifter.proofs.StepsAhead.{none_left_at, all_closed}
+use Rattle.lifter.{specs.Progress.{HasStepsLeft}, proofs.StepsAhead.{none_left_at, all_closed}}
 use Rattle.lifter.proofs.following.follow.Goals as goal
 
 pub unreachable-requires : goal.unreachable-requires

@@ -1,8 +1,7 @@
 -- The steps from the next one on are ahead.
 use Rattle.std.proofs.Common.{true, List, drop}
 use Rattle.lifted_facts.specs.PlainFacts.{Branch}
-use Rattle.lifter.specs.States.{AreKept}
-use Rattle.lifter.specs.Progress.{HasStepsLeft}
+use Rattle.lifter.specs.{States.{AreKept}, Progress.{HasStepsLeft}}
 use Rattle.lifter.proofs.following.follow.Given as goal
 
 abbrev pub invariant-loop-k : goal.invariant-loop-k

@@ -1,10 +1,6 @@
 use Rattle.std.proofs.Common.{true, List, reverse, refl, sym, ap, subst, arith}
 use Rattle.pc_ground.specs.Refutes.{Branch as TreeBranch}
-use Rattle.lifter.specs.declared.state.Task.{Task}
-use Rattle.lifter.specs.declared.state.Later.{Later}
-use Rattle.lifter.specs.declared.state.State.{State}
-use Rattle.lifter.specs.States.{branch_of, IsDue}
-use Rattle.lifter.specs.Progress.{HasClosedFirst, HasFollowed}
+use Rattle.lifter.specs.{declared.state.{Task.{Task}, Later.{Later}, State.{State}}, States.{branch_of, IsDue}, Progress.{HasClosedFirst, HasFollowed}}
 use Rattle.lifter.proofs.LeftBranches.{popped, no_items, kept_none, kept_popped, left_due, left_side, left_none}
 use Rattle.lifter.proofs.following.go_on.Goals as goal
 

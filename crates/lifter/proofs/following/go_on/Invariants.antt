@@ -2,8 +2,7 @@
 use Rattle.std.proofs.Common.{List, vec_len}
 use Rattle.pc_ground.specs.Refutes.{Branch as TreeBranch}
 use Rattle.lifted_facts.specs.PlainFacts.{Branch}
-use Rattle.lifter.specs.States.{AreKept}
-use Rattle.lifter.specs.Progress.{LeavesWaiting}
+use Rattle.lifter.specs.{States.{AreKept}, Progress.{LeavesWaiting}}
 use Rattle.lifter.proofs.following.go_on.Given as goal
 
 abbrev pub invariant-loop-next : goal.invariant-loop-next

@@ -1,16 +1,7 @@
-use Rattle.std.proofs.Common.{◌≡◌, length, refl, sym, subst, arith}
-use Rattle.std.proofs.lemmas.Result.{on_ok_weaker}
-use Rattle.lifted_facts.specs.PlainFacts.{Branch, plain_fact}
-use Rattle.lifted_facts.specs.Parts.{sides}
-use Rattle.lifted_facts.specs.Lifted.{HasFact}
-use Rattle.lifter.specs.Trees.{fact_tree}
-use Rattle.lifter.specs.declared.state.Task.TheVariants.{Side}
-use Rattle.lifter.specs.declared.state.Later.{Later}
-use Rattle.lifter.specs.declared.state.State.{State}
-use Rattle.lifter.specs.States.{branch_of}
-use Rattle.lifter.proofs.RunsMore.{last_fact}
-use Rattle.lifter.proofs.StateMoves.{put_off}
-use Rattle.lifter.proofs.SplitOrs.{or_within, or_fact, split_by, no_sides, proper_read, split_on}
+use Rattle.std.proofs.{Common.{◌≡◌, length, refl, sym, subst, arith}, lemmas.Result.{on_ok_weaker}}
+use Rattle.lifted_facts.specs.{PlainFacts.{Branch, plain_fact}, Parts.{sides}, Lifted.{HasFact}}
+use Rattle.lifter.specs.{Trees.{fact_tree}, declared.state.{Task.TheVariants.{Side}, Later.{Later}, State.{State}}, States.{branch_of}}
+use Rattle.lifter.proofs.{RunsMore.{last_fact}, StateMoves.{put_off}, SplitOrs.{or_within, or_fact, split_by, no_sides, proper_read, split_on}}
 use Rattle.lifter.proofs.following.split_or.Goals as goal
 
 pub unreachable-requires : goal.unreachable-requires

@@ -1,10 +1,8 @@
 use Rattle.std.proofs.Common.{List, map, ap, subst, sym}
 use Rattle.pc_common.specs.Steps.{cycle, path, absent}
-use Rattle.pc_ground.specs.Keys.{key_node}
-use Rattle.pc_ground.specs.declared.node_key.NodeKey.{NodeKey}
+use Rattle.pc_ground.specs.{Keys.{key_node}, declared.node_key.NodeKey.{NodeKey}}
 use Rattle.refutation.specs.Steps.{plain_step}
-use Rattle.lifter.specs.KnownFacts.{IsCycleKnown, IsPathKnown}
-use Rattle.lifter.proofs.LeftBranches.{kept_closed}
+use Rattle.lifter.{specs.KnownFacts.{IsCycleKnown, IsPathKnown}, proofs.LeftBranches.{kept_closed}}
 use Rattle.lifter.proofs.StepsAhead.{next_same, can_split, split_taken, can_cycle, can_path, can_absent, never_false, leaf_waits, leaf_taken}
 use Rattle.lifter.proofs.following.take_step.Goals as goal
 

@@ -1,17 +1,8 @@
-use Rattle.std.proofs.Common.{not, ◌≡◌, ◌<◌, ◌+◌, length, ap, sym, ◌∙◌, arith}
-use Rattle.std.proofs.Math.Seq.{take-length}
-use Rattle.pc_syntax.specs.Truth.{range_of}
-use Rattle.pc_syntax.specs.Closed.{plain_closed}
-use Rattle.static_preds.specs.Values.{meanings}
-use Rattle.static_preds.proofs.SlotsBelow.{slots_below}
-use Rattle.static_preds.proofs.SlotLaws.{slot_more}
-use Rattle.static_preds.proofs.Ranges.{scope_inside}
-use Rattle.lifter.specs.Trees.{said_tree, joined_trees, bodies}
-use Rattle.lifter.specs.Kinds.{kind_of, joined_kind, kind_over}
-use Rattle.lifter.proofs.TreeLaws.{forall_of, exists_of}
-use Rattle.lifter.proofs.KindLaws.{kind_joined, neutral_first}
-use Rattle.lifter.proofs.AtomTrees.{nodes_kind, edges_kind}
-use Rattle.lifter.proofs.RangeBodies.{kind_next, walked_decided, walked_on}
+use Rattle.std.proofs.{Common.{not, ◌≡◌, ◌<◌, ◌+◌, length, ap, sym, ◌∙◌, arith}, Math.Seq.{take-length}}
+use Rattle.pc_syntax.specs.{Truth.{range_of}, Closed.{plain_closed}}
+use Rattle.static_preds.{specs.Values.{meanings}, proofs.{SlotsBelow.{slots_below}, SlotLaws.{slot_more}, Ranges.{scope_inside}}}
+use Rattle.lifter.{specs.{Trees.{said_tree, joined_trees, bodies}, Kinds.{kind_of, joined_kind, kind_over}}, proofs.TreeLaws.{forall_of, exists_of}}
+use Rattle.lifter.proofs.{KindLaws.{kind_joined, neutral_first}, AtomTrees.{nodes_kind, edges_kind}, RangeBodies.{kind_next, walked_decided, walked_on}}
 use Rattle.lifter.proofs.formula_kind.+walk.Goals as goal
 
 pub kind_of_formula-holds-requires-clause-below : goal.kind_of_formula-holds-requires-clause-below

@@ -1,11 +1,9 @@
 -- Each function's measure is of the formulas that it walks; and what the loop over a range keeps: the members so far and those that
 -- are not walked yet make the whole.
 use Rattle.std.proofs.Common.{◌≡◌, ◌+◌, ◌*◌, max, length, take}
-use Rattle.pc_syntax.specs.declared.closed_formula.ClosedFormula.{size-ClosedFormula}
-use Rattle.pc_syntax.specs.Closed.{plain_closed}
+use Rattle.pc_syntax.specs.{declared.closed_formula.ClosedFormula.{size-ClosedFormula}, Closed.{plain_closed}}
 use Rattle.static_preds.specs.Values.{meanings}
-use Rattle.lifter.specs.Trees.{joined_trees, bodies}
-use Rattle.lifter.specs.Kinds.{kind_of, joined_kind}
+use Rattle.lifter.specs.{Trees.{joined_trees, bodies}, Kinds.{kind_of, joined_kind}}
 use Rattle.lifter.proofs.formula_kind.+walk.Given as goal
 
 abbrev pub decreases-kind_of_formula : goal.decreases-kind_of_formula

@@ -1,9 +1,7 @@
 use Rattle.std.proofs.Common.{refl}
 use Rattle.pc_ground.specs.Keys.{key_node}
 use Rattle.lifted_facts.specs.Lifted.{absent}
-use Rattle.lifter.specs.declared.state.State.{State}
-use Rattle.lifter.specs.States.{branch_of}
-use Rattle.lifter.proofs.NumberedEdges.{absent_closes, added_leaf}
+use Rattle.lifter.{specs.{declared.state.State.{State}, States.{branch_of}}, proofs.NumberedEdges.{absent_closes, added_leaf}}
 use Rattle.lifter.proofs.leaves.add_absent.Goals as goal
 
 pub returns : goal.returns

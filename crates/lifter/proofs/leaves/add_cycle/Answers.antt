@@ -1,9 +1,7 @@
 use Rattle.std.proofs.Common.{◌≤◌, ◌-◌, length, map, take, drop, refl, arith}
 use Rattle.pc_ground.specs.Keys.{key_node}
 use Rattle.lifted_facts.specs.Lifted.{cycle}
-use Rattle.lifter.specs.declared.state.State.{State}
-use Rattle.lifter.specs.States.{branch_of}
-use Rattle.lifter.proofs.KeyedEdges.{first_rest, cycle_edges, no_cycle}
+use Rattle.lifter.{specs.{declared.state.State.{State}, States.{branch_of}}, proofs.KeyedEdges.{first_rest, cycle_edges, no_cycle}}
 use Rattle.lifter.proofs.NumberedEdges.{cycle_closes, added_leaf}
 use Rattle.lifter.proofs.leaves.add_cycle.Goals as goal
 

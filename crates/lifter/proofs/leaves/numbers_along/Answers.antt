@@ -1,5 +1,4 @@
-use Rattle.std.proofs.Common.{◌≤◌, length, arith, rules}
-use Rattle.std.proofs.lemmas.Option.{slice_get_read}
+use Rattle.std.proofs.{Common.{◌≤◌, length, arith, rules}, lemmas.Option.{slice_get_read}}
 use Rattle.lifter.proofs.KeyedEdges.{next_edges, last_edge, next_numbers, all_numbers}
 use Rattle.lifter.proofs.leaves.numbers_along.Goals as goal
 

@@ -1,7 +1,6 @@
 use Rattle.std.proofs.Common.{◌≡◌, length, refl, arith}
 use Rattle.lifted_facts.specs.PlainFacts.{plain_fact}
-use Rattle.lifter.specs.declared.state.State.{State}
-use Rattle.lifter.proofs.StateMoves.{derived}
+use Rattle.lifter.{specs.declared.state.State.{State}, proofs.StateMoves.{derived}}
 use Rattle.lifter.proofs.moving.derive.Goals as goal
 
 pub returns : goal.returns

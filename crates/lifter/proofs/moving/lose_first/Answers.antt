@@ -1,7 +1,6 @@
 use Rattle.std.proofs.Common.{◌≡◌, length, refl, arith}
 use Rattle.lifted_facts.specs.PlainFacts.{plain_fact}
-use Rattle.lifter.specs.declared.state.State.{State}
-use Rattle.lifter.proofs.StateMoves.{lost_first}
+use Rattle.lifter.{specs.declared.state.State.{State}, proofs.StateMoves.{lost_first}}
 use Rattle.lifter.proofs.moving.lose_first.Goals as goal
 
 pub returns : goal.returns

@@ -1,12 +1,6 @@
 use Rattle.std.proofs.Common.{◌≡◌, length, refl, sym, subst, ◌∙◌, ap, arith}
-use Rattle.lifted_facts.specs.PlainFacts.{PlainFact, plain_fact}
-use Rattle.lifted_facts.specs.Lifted.{HasSides}
-use Rattle.lifter.specs.Trees.{fact_tree}
-use Rattle.lifter.specs.Kinds.{kind_of}
-use Rattle.lifter.specs.declared.state.State.{State}
-use Rattle.lifter.specs.declared.state.Later.{Later}
-use Rattle.lifter.specs.declared.state.Task.TheVariants.{Close}
-use Rattle.lifter.specs.States.{branch_of}
+use Rattle.lifted_facts.specs.{PlainFacts.{PlainFact, plain_fact}, Lifted.{HasSides}}
+use Rattle.lifter.specs.{Trees.{fact_tree}, Kinds.{kind_of}, declared.state.{State.{State}, Later.{Later}, Task.TheVariants.{Close}}, States.{branch_of}}
 use Rattle.lifter.proofs.StateMoves.{lost_second}
 use Rattle.lifter.proofs.moving.lose_second.Goals as goal
 

@@ -1,8 +1,5 @@
-use Rattle.std.proofs.Common.{refl}
-use Rattle.std.proofs.lemmas.Result.{on_ok_weaker}
-use Rattle.lifter.specs.declared.state.State.{State}
-use Rattle.lifter.specs.KnownFacts.{plain_key}
-use Rattle.lifter.proofs.StateMoves.{marked}
+use Rattle.std.proofs.{Common.{refl}, lemmas.Result.{on_ok_weaker}}
+use Rattle.lifter.{specs.{declared.state.State.{State}, KnownFacts.{plain_key}}, proofs.StateMoves.{marked}}
 use Rattle.lifter.proofs.moving.mark.Goals as goal
 
 pub returns-clause-moves : goal.returns-clause-moves

@@ -1,10 +1,6 @@
 use Rattle.std.proofs.Common.{List, sym, ap, subst, true}
-use Rattle.pc_syntax.specs.declared.bound.Bound.{Bound}
-use Rattle.pc_syntax.specs.Closed.{plain_closed}
-use Rattle.pc_syntax.specs.IsClosed.{IsClosed}
-use Rattle.static_preds.specs.Slots.{AreInRange}
-use Rattle.static_preds.specs.Values.{meanings, scope_of}
-use Rattle.static_preds.proofs.SlotLaws.{no_slots}
+use Rattle.pc_syntax.specs.{declared.bound.Bound.{Bound}, Closed.{plain_closed}, IsClosed.{IsClosed}}
+use Rattle.static_preds.{specs.{Slots.{AreInRange}, Values.{meanings, scope_of}}, proofs.SlotLaws.{no_slots}}
 use Rattle.lifted_facts.specs.PlainFacts.{said}
 use Rattle.lifter.proofs.roots.axiom_fact.Goals as goal
 

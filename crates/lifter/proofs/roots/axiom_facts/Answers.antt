@@ -1,11 +1,6 @@
-use Rattle.std.proofs.Common.{List, ◌++◌, ◌∷◌, [], map, sym, ◌∙◌, ap, subst, rules}
+use Rattle.std.proofs.{Common.{List, ◌++◌, ◌∷◌, [], map, sym, ◌∙◌, ap, subst, rules}, lemmas.{List.{map-append, Elements.{All-push}}, Option.{slice_get_read}}}
 use Rattle.std.specs.Prelude.{All}
-use Rattle.std.proofs.lemmas.List.{map-append}
-use Rattle.std.proofs.lemmas.List.Elements.{All-push}
-use Rattle.std.proofs.lemmas.Option.{slice_get_read}
-use Rattle.lifted_facts.specs.declared.fact.Fact.{Fact}
-use Rattle.lifted_facts.specs.PlainFacts.{PlainFact, plain_fact, IsProper}
-use Rattle.lifted_facts.proofs.Members.{root_more}
+use Rattle.lifted_facts.{specs.{declared.fact.Fact.{Fact}, PlainFacts.{PlainFact, plain_fact, IsProper}}, proofs.Members.{root_more}}
 use Rattle.lifter.proofs.roots.axiom_facts.Goals as goal
 
 pub loop-axiom-preserved : goal.loop-axiom-preserved

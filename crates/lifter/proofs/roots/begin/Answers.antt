@@ -1,9 +1,6 @@
-use Rattle.std.proofs.Common.{List, sym, subst}
-use Rattle.std.specs.Prelude.{All}
-use Rattle.std.proofs.lemmas.List.Elements.{All-nil}
+use Rattle.std.{proofs.{Common.{List, sym, subst}, lemmas.List.Elements.{All-nil}}, specs.Prelude.{All}}
 use Rattle.lifted_facts.specs.PlainFacts.{IsProper}
-use Rattle.lifter.specs.declared.state.Later.{Later}
-use Rattle.lifter.specs.States.{IsDue}
+use Rattle.lifter.specs.{declared.state.Later.{Later}, States.{IsDue}}
 use Rattle.lifter.proofs.roots.begin.Goals as goal
 
 pub returns-clause-kept : goal.returns-clause-kept

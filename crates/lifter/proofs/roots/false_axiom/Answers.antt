@@ -1,9 +1,7 @@
 use Rattle.std.proofs.Common.{◌≤◌, length, sym, ◌∙◌, arith}
 use Rattle.pc_ground.specs.Stages.{plain_axioms}
 use Rattle.lifted_facts.specs.PlainFacts.{plain_fact, root}
-use Rattle.lifter.specs.Trees.{fact_tree}
-use Rattle.lifter.proofs.PartWays.{false_later, end_not_false}
-use Rattle.lifter.proofs.LiftedRoots.{as_many, axiom_said}
+use Rattle.lifter.{specs.Trees.{fact_tree}, proofs.{PartWays.{false_later, end_not_false}, LiftedRoots.{as_many, axiom_said}}}
 use Rattle.lifter.proofs.roots.false_axiom.Goals as goal
 
 pub returns-in-False : goal.returns-in-False

@@ -1,9 +1,7 @@
 use Rattle.std.proofs.Common.{◌≡◌, ◌<◌, ◌+◌, ◌-◌, length, sym, ◌∙◌, arith}
 use Rattle.pc_ground.specs.Stages.{plain_axioms}
 use Rattle.lifted_facts.specs.PlainFacts.{plain_fact, root}
-use Rattle.lifter.specs.Trees.{fact_tree}
-use Rattle.lifter.proofs.PartWays.{true_part, last_found}
-use Rattle.lifter.proofs.LiftedRoots.{none_behind, axiom_said}
+use Rattle.lifter.{specs.Trees.{fact_tree}, proofs.{PartWays.{true_part, last_found}, LiftedRoots.{none_behind, axiom_said}}}
 use Rattle.lifter.proofs.roots.last_axiom.Goals as goal
 
 pub loop-k-init : goal.loop-k-init

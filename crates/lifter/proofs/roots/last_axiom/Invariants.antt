@@ -1,7 +1,6 @@
 -- The last k axioms are True.
 use Rattle.std.proofs.Common.{◌≡◌, ◌-◌, length}
-use Rattle.pc_ground.specs.Tree.{always}
-use Rattle.pc_ground.specs.Stages.{plain_axioms}
+use Rattle.pc_ground.specs.{Tree.{always}, Stages.{plain_axioms}}
 use Rattle.lifted_facts.specs.PlainFacts.{root}
 use Rattle.lifter.specs.PartLists.{facts_from}
 use Rattle.lifter.proofs.roots.last_axiom.Given as goal

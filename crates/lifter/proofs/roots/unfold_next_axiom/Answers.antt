@@ -1,9 +1,7 @@
 use Rattle.std.proofs.Common.{sym, ◌∙◌, arith}
 use Rattle.pc_ground.specs.Stages.{plain_axioms}
 use Rattle.lifted_facts.specs.PlainFacts.{plain_fact, root}
-use Rattle.lifter.specs.Trees.{fact_tree}
-use Rattle.lifter.proofs.LiftedRoots.{axiom_said}
-use Rattle.lifter.proofs.TakenParts.{stands_here, taken_open, passed_over, true_here}
+use Rattle.lifter.{specs.Trees.{fact_tree}, proofs.{LiftedRoots.{axiom_said}, TakenParts.{stands_here, taken_open, passed_over, true_here}}}
 use Rattle.lifter.proofs.roots.unfold_next_axiom.Goals as goal
 
 pub right_of-right-requires : goal.right_of-right-requires

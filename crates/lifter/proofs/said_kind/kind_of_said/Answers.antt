@@ -1,7 +1,6 @@
 use Rattle.std.proofs.Common.{◌-◌, true, false, sym, ◌∙◌, ap}
 use Rattle.pc_syntax.specs.Closed.{plain_closed}
-use Rattle.lifter.specs.Kinds.{kind_over}
-use Rattle.lifter.proofs.AtomTrees.{nodes_held, nodes_denied, edges_held, edges_denied}
+use Rattle.lifter.{specs.Kinds.{kind_over}, proofs.AtomTrees.{nodes_held, nodes_denied, edges_held, edges_denied}}
 use Rattle.lifter.proofs.said_kind.kind_of_said.Goals as goal
 
 pub returns-then-said-3 : goal.returns-then-said-3

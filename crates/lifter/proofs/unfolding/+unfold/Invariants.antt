@@ -1,9 +1,7 @@
 -- Each part and each side has a lower rank; and what the loop over the parts keeps: those before the next one are unfolded.
 use Rattle.std.proofs.Common.{◌+◌, ◌*◌}
 use Rattle.lifted_facts.specs.PlainFacts.{plain_fact}
-use Rattle.lifter.specs.PartLists.{parts}
-use Rattle.lifter.proofs.TakenParts.{IsTakenTo}
-use Rattle.lifter.proofs.Ranks.{rank}
+use Rattle.lifter.{specs.PartLists.{parts}, proofs.{TakenParts.{IsTakenTo}, Ranks.{rank}}}
 use Rattle.lifter.proofs.unfolding.+unfold.Given as goal
 
 abbrev pub decreases-unfold : goal.decreases-unfold

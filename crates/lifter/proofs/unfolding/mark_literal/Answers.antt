@@ -1,16 +1,8 @@
-use Rattle.std.proofs.Common.{true, Some, inl, inr, refl, sym, subst}
-use Rattle.std.specs.Prelude.{OnOk}
-use Rattle.std.proofs.lemmas.Result.{on_ok_weaker}
-use Rattle.pc_ground.specs.Keys.{key_node, literal_node}
-use Rattle.pc_ground.specs.Tree.{leaf}
-use Rattle.pc_ground.specs.declared.literal.Literal.{Literal}
-use Rattle.pc_ground.specs.declared.literal.Literal.TheVariants.{Edge as an_edge}
+use Rattle.std.{proofs.{Common.{true, Some, inl, inr, refl, sym, subst}, lemmas.Result.{on_ok_weaker}}, specs.Prelude.{OnOk}}
+use Rattle.pc_ground.specs.{Keys.{key_node, literal_node}, Tree.{leaf}, declared.literal.Literal.{Literal, TheVariants.{Edge as an_edge}}}
 use Rattle.pc_ground.specs.declared.node_key.NodeKey.{NodeKey}
 use Rattle.lifted_facts.specs.PlainFacts.{one_node, one_edge}
-use Rattle.lifter.specs.KnownFacts.{IsPart, edge, present}
-use Rattle.lifter.specs.States.{branch_of}
-use Rattle.lifter.specs.Unfoldings.{HasUnfolded}
-use Rattle.lifter.proofs.StateMoves.{moves_then, moved_fact}
+use Rattle.lifter.{specs.{KnownFacts.{IsPart, edge, present}, States.{branch_of}, Unfoldings.{HasUnfolded}}, proofs.StateMoves.{moves_then, moved_fact}}
 use Rattle.lifter.proofs.UnfoldedFacts.{both_ok, literal_unfolded, literal_marked, fact_as}
 use Rattle.lifter.proofs.unfolding.mark_literal.Goals as goal
 

@@ -1,5 +1,4 @@
-use Rattle.std.proofs.Common.{refl}
-use Rattle.std.proofs.lemmas.Result.{err_from_is_err_and}
+use Rattle.std.proofs.{Common.{refl}, lemmas.Result.{err_from_is_err_and}}
 use Rattle.x86_litmus.proofs.CaseOps.{case_ops}
 use Rattle.pc_front.proofs.PartsOf.{axioms_within, are_stages, parts_are, front_is}
 use Rattle.command_base.specs.Fronts.{front_of_parts}

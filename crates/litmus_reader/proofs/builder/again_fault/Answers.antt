@@ -1,8 +1,6 @@
 use Rattle.std.proofs.Common.{List, Some, None, subst}
 use Rattle.pc_case.specs.declared.stated.Stated.{Stated}
-use Rattle.litmus_reader.specs.Builder.{word_of}
-use Rattle.litmus_reader.specs.Values.{IsValueAt}
-use Rattle.litmus_reader.proofs.ValueFacts.{again-stated, again-some}
+use Rattle.litmus_reader.{specs.{Builder.{word_of}, Values.{IsValueAt}}, proofs.ValueFacts.{again-stated, again-some}}
 use Rattle.litmus_reader.proofs.builder.again_fault.Goals as goal
 
 pub returns-in-None : goal.returns-in-None

@@ -1,9 +1,7 @@
 use Rattle.std.proofs.Common.{Option, refl, sym, subst, arith}
 use Rattle.pc_common.specs.declared.fault.FaultKind.TheVariants.{AgainExpectation}
 use Rattle.pc_case.specs.Plain.{expectation}
-use Rattle.litmus_reader.specs.Content.{AgainExpected}
-use Rattle.litmus_reader.specs.Builder.{stated_expectations}
-use Rattle.litmus_reader.specs.declared.builder.StatedExpectation.{StatedExpectation}
+use Rattle.litmus_reader.specs.{Content.{AgainExpected}, Builder.{stated_expectations}, declared.builder.StatedExpectation.{StatedExpectation}}
 use Rattle.litmus_reader.proofs.builder.expectation_fault.Goals as goal
 
 pub returns-in-Some : goal.returns-in-Some

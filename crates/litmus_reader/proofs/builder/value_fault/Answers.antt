@@ -1,6 +1,4 @@
-use Rattle.litmus_reader.specs.Builder.{word_of}
-use Rattle.litmus_reader.specs.Content.{AgainStated, MarkFault}
-use Rattle.litmus_reader.proofs.RowFacts.{first-none, never-of}
+use Rattle.litmus_reader.{specs.{Builder.{word_of}, Content.{AgainStated, MarkFault}}, proofs.RowFacts.{first-none, never-of}}
 use Rattle.litmus_reader.proofs.builder.value_fault.Goals as goal
 
 pub returns : goal.returns

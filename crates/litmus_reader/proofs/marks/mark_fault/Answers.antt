@@ -1,7 +1,5 @@
 use Rattle.std.proofs.Common.{subst, sym}
-use Rattle.litmus_reader.specs.Content.{MarkFault}
-use Rattle.litmus_reader.specs.Rows.{Answers}
-use Rattle.litmus_reader.specs.declared.item.ValueText.{ValueText}
+use Rattle.litmus_reader.specs.{Content.{MarkFault}, Rows.{Answers}, declared.item.ValueText.{ValueText}}
 use Rattle.litmus_reader.proofs.marks.mark_fault.Goals as goal
 
 pub returns-in-Entry : goal.returns-in-Entry

@@ -1,15 +1,9 @@
-use Rattle.std.proofs.Common.{ℕ, List, subst}
-use Rattle.std.proofs.lemmas.Result.{IfOk-weaker, IfErr-weaker}
+use Rattle.std.proofs.{Common.{ℕ, List, subst}, lemmas.Result.{IfOk-weaker, IfErr-weaker}}
 use Rattle.pc_common.specs.Case.{Case}
-use Rattle.uspec_lexer.specs.Token.{Token}
-use Rattle.uspec_lexer.specs.Spells.{Spells}
-use Rattle.litmus_reader.specs.Syntax.{IsTest}
-use Rattle.litmus_reader.specs.Answer.{CaseOf, IsCaseFault, CaseIn, IsContentFaultIn}
+use Rattle.uspec_lexer.specs.{Token.{Token}, Spells.{Spells}}
+use Rattle.litmus_reader.specs.{Syntax.{IsTest}, Answer.{CaseOf, IsCaseFault, CaseIn, IsContentFaultIn}, Lists.{case_by}, declared.lists.CaseLists.{CaseLists}}
+use Rattle.litmus_reader.specs.declared.fault.CaseFault.{CaseFault, TheVariants.{Lexical, Syntax, Content, Memory}}
 use Rattle.ll_grammar.specs.FirstFault.{IsSyntaxAnswer}
-use Rattle.litmus_reader.specs.Lists.{case_by}
-use Rattle.litmus_reader.specs.declared.lists.CaseLists.{CaseLists}
-use Rattle.litmus_reader.specs.declared.fault.CaseFault.{CaseFault}
-use Rattle.litmus_reader.specs.declared.fault.CaseFault.TheVariants.{Lexical, Syntax, Content, Memory}
 use Rattle.litmus_reader.proofs.read.lists_of_tokens.Goals as goal
 
 -- what the tokens say, the bytes say

@@ -1,8 +1,5 @@
-use Rattle.std.proofs.Common.{Result, IfErr, subst, sym, arith}
-use Rattle.std.proofs.lemmas.Result.{err_from_is_err_and}
-use Rattle.litmus_reader.specs.Answer.{IsContentFaultIn}
-use Rattle.litmus_reader.specs.Builder.{IsLineFault}
-use Rattle.litmus_reader.specs.declared.fault.CaseFault.{CaseFault}
+use Rattle.std.proofs.{Common.{Result, IfErr, subst, sym, arith}, lemmas.Result.{err_from_is_err_and}}
+use Rattle.litmus_reader.specs.{Answer.{IsContentFaultIn}, Builder.{IsLineFault}, declared.fault.CaseFault.{CaseFault}}
 use Rattle.litmus_reader.proofs.Walk.{reached-first, reached-item, read_line, reached-next, content_fault-of, reached-end}
 use Rattle.litmus_reader.proofs.read.read_lines.Goals as goal
 

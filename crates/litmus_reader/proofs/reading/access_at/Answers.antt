@@ -1,6 +1,5 @@
 use Rattle.std.proofs.Common.{◌∙◌, ℕ, subst, sym, arith}
-use Rattle.litmus_reader.specs.Syntax.{spelled_action}
-use Rattle.litmus_reader.specs.Reading.{BeginsAt}
+use Rattle.litmus_reader.specs.{Syntax.{spelled_action}, Reading.{BeginsAt}}
 use Rattle.litmus_reader.proofs.Lines.{access-first, access-terminal, access-names, access-action, access-length}
 use Rattle.litmus_reader.proofs.reading.access_at.Goals as goal
 

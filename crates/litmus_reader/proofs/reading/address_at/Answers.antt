@@ -1,9 +1,6 @@
 use Rattle.std.proofs.Common.{length, sym, ap, ◌∙◌, arith}
-use Rattle.pc_case.specs.declared.address.Page.{Page as PagePair}
-use Rattle.pc_case.specs.declared.address.Address.{Address}
-use Rattle.pc_case.specs.declared.address.Address.TheVariants.{Page, Entry}
-use Rattle.litmus_reader.specs.Syntax.{spelled_address}
-use Rattle.litmus_reader.proofs.Lines.{address-seen, address-within, address-room, address_page, address_entry, address_known}
+use Rattle.pc_case.specs.declared.address.{Page.{Page as PagePair}, Address.{Address, TheVariants.{Page, Entry}}}
+use Rattle.litmus_reader.{specs.Syntax.{spelled_address}, proofs.Lines.{address-seen, address-within, address-room, address_page, address_entry, address_known}}
 use Rattle.litmus_reader.proofs.reading.address_at.Goals as goal
 
 pub terminal_at-requires : goal.terminal_at-requires

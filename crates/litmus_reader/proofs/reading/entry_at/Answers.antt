@@ -1,8 +1,6 @@
 use Rattle.std.proofs.Common.{refl}
 use Rattle.uspec_lexer.specs.Expected.{a_number}
-use Rattle.litmus_reader.specs.Expected.{number_at}
-use Rattle.litmus_reader.specs.Syntax.{spelled_entry}
-use Rattle.litmus_reader.specs.declared.item.ValueText.TheVariants.{Entry}
+use Rattle.litmus_reader.specs.{Expected.{number_at}, Syntax.{spelled_entry}, declared.item.ValueText.TheVariants.{Entry}}
 use Rattle.litmus_reader.proofs.Places.{stands, number-stands}
 use Rattle.litmus_reader.proofs.reading.entry_at.Goals as goal
 

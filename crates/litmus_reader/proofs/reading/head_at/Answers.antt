@@ -1,9 +1,6 @@
 use Rattle.std.proofs.Common.{refl, codes, [], ◌∷◌}
-use Rattle.uspec_lexer.specs.View.{plain}
-use Rattle.uspec_lexer.specs.Expected.{a_number}
-use Rattle.litmus_reader.specs.Expected.{word_at, number_at}
-use Rattle.litmus_reader.specs.Syntax.{spelled_head}
-use Rattle.litmus_reader.proofs.Places.{stands, stands-first, number-stands, place-stands}
+use Rattle.uspec_lexer.specs.{View.{plain}, Expected.{a_number}}
+use Rattle.litmus_reader.{specs.{Expected.{word_at, number_at}, Syntax.{spelled_head}}, proofs.Places.{stands, stands-first, number-stands, place-stands}}
 use Rattle.litmus_reader.proofs.reading.head_at.Goals as goal
 
 pub numeral_at-requires : goal.numeral_at-requires

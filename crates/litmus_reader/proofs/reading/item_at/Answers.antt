@@ -2,8 +2,8 @@ use Rattle.std.proofs.Common.{◌≡◌, ℕ, ap, sym, ◌∙◌, refl, slice_ge
 use Rattle.uspec_lexer.specs.View.{plain}
 use Rattle.litmus_reader.specs.declared.item.Item.{Item}
 use Rattle.litmus_reader.proofs.Lines.{item_word, item-terminal, IsLine, microop-begins, relationship-begins, initial-begins, final-begins, one_of_six, relationship-within, microop-is, relationship-is, initial-is, final-is, permitted-is, forbidden-is}
-use Rattle.litmus_reader.proofs.reading.item_at.Goals as goal
 use Rattle.litmus_reader.proofs.reading.item_at.Goals.{in-Microop+in_ok-microop-in-Microop, in-Relationship+in_ok-relationship_at-in-Relationship, in-Init, in-Final, in-Permitted, in-Forbidden}
+use Rattle.litmus_reader.proofs.reading.item_at.Goals as goal
 
 pub microop_at-requires-clause-begins : goal.microop_at-requires-clause-begins
 microop_at-requires-clause-begins c =

@@ -1,6 +1,5 @@
 use Rattle.std.proofs.Common.{arith}
-use Rattle.litmus_reader.specs.declared.item.Item.TheVariants.{Microop as microop}
-use Rattle.litmus_reader.proofs.Lines.{microop-head, microop-access, microop-length, item-within}
+use Rattle.litmus_reader.{specs.declared.item.Item.TheVariants.{Microop as microop}, proofs.Lines.{microop-head, microop-access, microop-length, item-within}}
 use Rattle.litmus_reader.proofs.reading.microop_at.Goals as goal
 
 pub head_at-head-requires-clause-within : goal.head_at-head-requires-clause-within

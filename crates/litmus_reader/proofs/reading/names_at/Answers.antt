@@ -1,12 +1,9 @@
-use Rattle.std.proofs.Common.{◌≡◌, ℕ, ◌+◌, List, [], ◌∷◌, ◌++◌, Some, length, arith, sym, ap, ◌∙◌, append_assoc}
-use Rattle.std.proofs.lemmas.List.{append-nil, length-append}
+use Rattle.std.proofs.{Common.{◌≡◌, ℕ, ◌+◌, List, [], ◌∷◌, ◌++◌, Some, length, arith, sym, ap, ◌∙◌, append_assoc}, lemmas.List.{append-nil, length-append}}
 use Rattle.std.proofs.lemmas.Option.{slice_get_within}
-use Rattle.uspec_lexer.specs.View.{plain}
-use Rattle.uspec_lexer.specs.Token.{Token as PlainToken}
-use Rattle.litmus_reader.specs.Reading.{IsNameAt}
-use Rattle.litmus_reader.proofs.Places.{names-more, names-none}
-use Rattle.litmus_reader.proofs.reading.names_at.Goals as goal
+use Rattle.uspec_lexer.specs.{View.{plain}, Token.{Token as PlainToken}}
+use Rattle.litmus_reader.{specs.Reading.{IsNameAt}, proofs.Places.{names-more, names-none}}
 use Rattle.litmus_reader.proofs.reading.names_at.Goals.{then-loop-next-test+else-is_name_at, else-loop-next-test}
+use Rattle.litmus_reader.proofs.reading.names_at.Goals as goal
 
 pub loop-next-preserved : goal.loop-next-preserved
 loop-next-preserved c =

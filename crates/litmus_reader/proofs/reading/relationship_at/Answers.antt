@@ -1,12 +1,7 @@
 use Rattle.std.proofs.Common.{◌≡◌, ◌+◌, ℕ, List, refl, subst, arith}
-use Rattle.uspec_lexer.specs.Token.{Token}
-use Rattle.uspec_lexer.specs.Expected.{a_word, a_number}
-use Rattle.litmus_reader.specs.Expected.{number_at}
-use Rattle.litmus_reader.specs.Syntax.{spelled_item}
-use Rattle.litmus_reader.specs.Reading.{StandsAt, BeginsAt, IsEndAt}
-use Rattle.litmus_reader.specs.declared.item.Relationship.{Relationship}
-use Rattle.litmus_reader.specs.declared.item.Item.TheVariants.{Relationship as relationship}
-use Rattle.litmus_reader.proofs.Places.{stands}
+use Rattle.uspec_lexer.specs.{Token.{Token}, Expected.{a_word, a_number}}
+use Rattle.litmus_reader.specs.{Expected.{number_at}, Syntax.{spelled_item}, Reading.{StandsAt, BeginsAt, IsEndAt}, declared.item.Relationship.{Relationship}}
+use Rattle.litmus_reader.{specs.declared.item.Item.TheVariants.{Relationship as relationship}, proofs.Places.{stands}}
 use Rattle.litmus_reader.proofs.reading.relationship_at.Goals as goal
 
 source_at : {ts : List Token} {k : ℕ} (r : Relationship) → BeginsAt ts k (spelled_item (relationship r)) → IsEndAt ts (k + 2) r.source

@@ -1,7 +1,5 @@
 use Rattle.std.proofs.Common.{length, sym, ap, ◌∙◌, arith}
-use Rattle.litmus_reader.specs.Syntax.{spelled_stated}
-use Rattle.litmus_reader.specs.declared.item.ValueText.{ValueText}
-use Rattle.litmus_reader.specs.declared.item.ValueText.TheVariants.{Number}
+use Rattle.litmus_reader.specs.{Syntax.{spelled_stated}, declared.item.ValueText.{ValueText, TheVariants.{Number}}}
 use Rattle.litmus_reader.proofs.Lines.{stated-seen, stated-within, stated_number, stated_entry, stated_known}
 use Rattle.litmus_reader.proofs.reading.stated_at.Goals as goal
 

@@ -1,7 +1,5 @@
 use Rattle.std.proofs.Common.{ℕ, subst, sym, arith}
-use Rattle.litmus_reader.specs.Syntax.{spelled_value}
-use Rattle.litmus_reader.specs.Reading.{BeginsAt}
-use Rattle.litmus_reader.proofs.Lines.{touch-va, touch-pa, touch-value, touch-within, touch-length}
+use Rattle.litmus_reader.{specs.{Syntax.{spelled_value}, Reading.{BeginsAt}}, proofs.Lines.{touch-va, touch-pa, touch-value, touch-within, touch-length}}
 use Rattle.litmus_reader.proofs.reading.touch_at.Goals as goal
 
 pub page_at-va-requires-clause-page : goal.page_at-va-requires-clause-page

@@ -1,7 +1,5 @@
 use Rattle.std.proofs.Common.{length, sym, ap, ◌∙◌, arith}
-use Rattle.litmus_reader.specs.Syntax.{spelled_value}
-use Rattle.litmus_reader.specs.declared.item.ValueText.{ValueText}
-use Rattle.litmus_reader.specs.declared.item.ValueText.TheVariants.{Number}
+use Rattle.litmus_reader.specs.{Syntax.{spelled_value}, declared.item.ValueText.{ValueText, TheVariants.{Number}}}
 use Rattle.litmus_reader.proofs.Lines.{value-seen, value-within, value-room, value_number, value_entry, value_known}
 use Rattle.litmus_reader.proofs.reading.value_at.Goals as goal
 

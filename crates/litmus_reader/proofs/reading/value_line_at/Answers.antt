@@ -1,7 +1,5 @@
 use Rattle.std.proofs.Common.{ℕ, subst, sym, arith}
-use Rattle.litmus_reader.specs.Syntax.{spelled_stated}
-use Rattle.litmus_reader.specs.Reading.{BeginsAt}
-use Rattle.litmus_reader.proofs.Lines.{statement-pa, statement-value, statement-within, statement-length}
+use Rattle.litmus_reader.{specs.{Syntax.{spelled_stated}, Reading.{BeginsAt}}, proofs.Lines.{statement-pa, statement-value, statement-within, statement-length}}
 use Rattle.litmus_reader.proofs.reading.value_line_at.Goals as goal
 
 pub address_at-pa-requires-clause-begins : goal.address_at-pa-requires-clause-begins

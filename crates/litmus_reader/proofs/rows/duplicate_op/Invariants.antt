@@ -1,6 +1,5 @@
 use Rattle.std.proofs.Common.{◌≡◌, ℕ, ◌<◌, get_or}
-use Rattle.litmus_reader.specs.Content.{Never, DuplicateOf}
-use Rattle.litmus_reader.specs.declared.item.Head.{Head}
+use Rattle.litmus_reader.specs.{Content.{Never, DuplicateOf}, declared.item.Head.{Head}}
 use Rattle.litmus_reader.proofs.rows.duplicate_op.Given as goal
 
 abbrev pub invariant-loop-earlier : goal.invariant-loop-earlier

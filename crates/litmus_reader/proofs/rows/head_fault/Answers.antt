@@ -1,5 +1,4 @@
-use Rattle.litmus_reader.specs.Content.{First, OverCore, OverMany, SplitFrom, DuplicateOf, SomeEarlier}
-use Rattle.litmus_reader.proofs.RowFacts.{first-none, never-of}
+use Rattle.litmus_reader.{specs.Content.{First, OverCore, OverMany, SplitFrom, DuplicateOf, SomeEarlier}, proofs.RowFacts.{first-none, never-of}}
 use Rattle.litmus_reader.proofs.rows.head_fault.Goals as goal
 
 pub returns : goal.returns

@@ -1,5 +1,4 @@
-use Rattle.litmus_reader.specs.Content.{HeadFault, ActionFault}
-use Rattle.litmus_reader.proofs.RowFacts.{first-none, never-of}
+use Rattle.litmus_reader.{specs.Content.{HeadFault, ActionFault}, proofs.RowFacts.{first-none, never-of}}
 use Rattle.litmus_reader.proofs.rows.microop_fault.Goals as goal
 
 pub returns : goal.returns

@@ -1,6 +1,5 @@
 use Rattle.std.proofs.Common.{◌≡◌, ℕ, ◌<◌, false, get_or}
-use Rattle.litmus_reader.specs.Items.{is_named}
-use Rattle.litmus_reader.specs.declared.item.Head.{Head}
+use Rattle.litmus_reader.specs.{Items.{is_named}, declared.item.Head.{Head}}
 use Rattle.litmus_reader.proofs.rows.place_of.Given as goal
 
 abbrev pub invariant-loop-k : goal.invariant-loop-k

@@ -1,6 +1,5 @@
 use Rattle.std.proofs.Common.{get_or, arith}
-use Rattle.litmus_reader.specs.Content.{SplitFrom}
-use Rattle.litmus_reader.proofs.RowFacts.{never-more, never-all, never-of, nobody}
+use Rattle.litmus_reader.{specs.Content.{SplitFrom}, proofs.RowFacts.{never-more, never-all, never-of, nobody}}
 use Rattle.litmus_reader.proofs.rows.split_instruction.Goals as goal
 
 pub loop-earlier-preserved : goal.loop-earlier-preserved

@@ -1,6 +1,5 @@
 use Rattle.std.proofs.Common.{◌≡◌, ℕ, ◌<◌, get_or}
-use Rattle.litmus_reader.specs.Content.{Never, SplitFrom}
-use Rattle.litmus_reader.specs.declared.item.Head.{Head}
+use Rattle.litmus_reader.specs.{Content.{Never, SplitFrom}, declared.item.Head.{Head}}
 use Rattle.litmus_reader.proofs.rows.split_instruction.Given as goal
 
 abbrev pub invariant-loop-earlier : goal.invariant-loop-earlier

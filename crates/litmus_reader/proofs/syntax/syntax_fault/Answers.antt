@@ -1,11 +1,7 @@
 use Rattle.std.proofs.Common.{◌≡◌, map, List, subst, ◌∙◌}
-use Rattle.ll_grammar.specs.Rules.{Derives}
-use Rattle.ll_grammar.specs.FirstFault.{IsAnswer}
-use Rattle.litmus_reader.specs.Terminals.{terminal_of as terminal_spec}
-use Rattle.litmus_reader.specs.Phrases.{rules}
-use Rattle.litmus_reader.specs.declared.terminal.Terminal.{Terminal}
-use Rattle.litmus_reader.specs.declared.phrase.Phrase.TheVariants.{Test}
-use Rattle.litmus_reader.proofs.SyntaxFaults.{answer}
+use Rattle.ll_grammar.specs.{Rules.{Derives}, FirstFault.{IsAnswer}}
+use Rattle.litmus_reader.specs.{Terminals.{terminal_of as terminal_spec}, Phrases.{rules}, declared.terminal.Terminal.{Terminal}}
+use Rattle.litmus_reader.{specs.declared.phrase.Phrase.TheVariants.{Test}, proofs.SyntaxFaults.{answer}}
 use Rattle.litmus_reader.proofs.syntax.syntax_fault.Goals as goal
 
 pub returns : goal.returns

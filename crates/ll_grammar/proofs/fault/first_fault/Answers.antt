@@ -1,9 +1,7 @@
-use Rattle.std.proofs.Common.{◌≡◌, ◌∙◌, reverse, sym, arith}
-use Rattle.std.specs.List.{list_all}
-use Rattle.ll_grammar.specs.Rules.{is_nullable_symbol}
-use Rattle.ll_grammar.proofs.Progress.{passed, refused, deepened, ended, unended, list_all-reverse}
-use Rattle.ll_grammar.proofs.fault.first_fault.Goals as goal
+use Rattle.std.{proofs.Common.{◌≡◌, ◌∙◌, reverse, sym, arith}, specs.List.{list_all}}
+use Rattle.ll_grammar.{specs.Rules.{is_nullable_symbol}, proofs.Progress.{passed, refused, deepened, ended, unended, list_all-reverse}}
 use Rattle.ll_grammar.proofs.fault.first_fault.Goals.{then-is_over, else-is_over}
+use Rattle.ll_grammar.proofs.fault.first_fault.Goals as goal
 
 pub returns-in-Absent : goal.returns-in-Absent
 returns-in-Absent g c =

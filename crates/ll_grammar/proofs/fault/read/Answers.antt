@@ -1,7 +1,5 @@
-use Rattle.std.proofs.Common.{reverse, rules}
-use Rattle.std.proofs.lemmas.List.{nil_from_length}
-use Rattle.ll_grammar.specs.declared.grammar.Step.TheVariants.{Absent, Pushed}
-use Rattle.ll_grammar.specs.declared.grammar.Symbol.TheVariants.{Terminal as a_terminal, Nonterminal as a_nonterminal}
+use Rattle.std.proofs.{Common.{reverse, rules}, lemmas.List.{nil_from_length}}
+use Rattle.ll_grammar.specs.declared.grammar.{Step.TheVariants.{Absent, Pushed}, Symbol.TheVariants.{Terminal as a_terminal, Nonterminal as a_nonterminal}}
 use Rattle.ll_grammar.proofs.Stack.{IsTop, at_bottom, at_class, at_other_class, at_no_part, ready_below, at_end, at_part}
 use Rattle.ll_grammar.proofs.fault.read.Goals as goal
 

@@ -1,7 +1,5 @@
 use Rattle.std.proofs.Common.{reverse, length}
-use Rattle.ll_grammar.specs.Predictable.{IsReady}
-use Rattle.ll_grammar.specs.Steps.{IsRead}
-use Rattle.ll_grammar.specs.declared.grammar.Step.{Step}
+use Rattle.ll_grammar.specs.{Predictable.{IsReady}, Steps.{IsRead}, declared.grammar.Step.{Step}}
 use Rattle.ll_grammar.proofs.fault.read.Given as goal
 
 -- the step of the symbols that are left is the step of all

@@ -1,5 +1,4 @@
-use Rattle.ll_grammar.specs.Rules.{Derives}
-use Rattle.ll_grammar.proofs.Faults.{one_answer}
+use Rattle.ll_grammar.{specs.Rules.{Derives}, proofs.Faults.{one_answer}}
 use Rattle.ll_grammar.proofs.laws.one_answer.Goals as goal
 
 pub returns : goal.returns

@@ -1,6 +1,5 @@
 use Rattle.std.proofs.Common.{ap, sym, ◌∙◌}
-use Rattle.macro_expand.specs.Tables.{callee_of, before, plain_macros, macro_at}
-use Rattle.macro_expand.proofs.FaultLaws.{call_found, call_unknown}
+use Rattle.macro_expand.{specs.Tables.{callee_of, before, plain_macros, macro_at}, proofs.FaultLaws.{call_found, call_unknown}}
 use Rattle.macro_expand.proofs.calls.check_call.Goals as goal
 
 pub returns-in-Some : goal.returns-in-Some

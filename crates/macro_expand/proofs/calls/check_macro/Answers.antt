@@ -1,10 +1,6 @@
-use Rattle.std.proofs.Common.{◌≡◌, None, [], ap, sym, subst, ◌∙◌}
-use Rattle.std.specs.Option.{option_or}
-use Rattle.std.proofs.lemmas.Result.{err_from_is_err_and}
-use Rattle.pc_syntax.specs.Written.{written}
-use Rattle.pc_syntax.specs.MacroFaults.{macro_again, parameters_fault, body_fault, macro_fault}
-use Rattle.macro_expand.specs.Faults.{IsFault}
-use Rattle.macro_expand.specs.Tables.{callee_of, before, plain_macros, macro_at}
+use Rattle.std.{proofs.{Common.{◌≡◌, None, [], ap, sym, subst, ◌∙◌}, lemmas.Result.{err_from_is_err_and}}, specs.Option.{option_or}}
+use Rattle.pc_syntax.specs.{Written.{written}, MacroFaults.{macro_again, parameters_fault, body_fault, macro_fault}}
+use Rattle.macro_expand.specs.{Faults.{IsFault}, Tables.{callee_of, before, plain_macros, macro_at}}
 use Rattle.macro_expand.proofs.FaultLaws.{first_kept, second_kept, second_judged, named_again, named_newly}
 use Rattle.macro_expand.proofs.calls.check_macro.Goals as goal
 

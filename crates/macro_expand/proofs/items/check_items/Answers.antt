@@ -1,10 +1,6 @@
-use Rattle.std.proofs.Common.{◌≡◌, ◌+◌, [], None, map, take, drop, reverse, sym, subst, arith}
-use Rattle.std.proofs.lemmas.Result.{err_from_is_err_and}
-use Rattle.pc_syntax.specs.Written.{written_item}
-use Rattle.pc_syntax.specs.MacroFaults.{items_fault}
-use Rattle.macro_expand.specs.Faults.{IsFault}
-use Rattle.macro_expand.specs.Tables.{item_fault, first_of_names}
-use Rattle.macro_expand.proofs.FaultLaws.{first_kept}
+use Rattle.std.proofs.{Common.{◌≡◌, ◌+◌, [], None, map, take, drop, reverse, sym, subst, arith}, lemmas.Result.{err_from_is_err_and}}
+use Rattle.pc_syntax.specs.{Written.{written_item}, MacroFaults.{items_fault}}
+use Rattle.macro_expand.{specs.{Faults.{IsFault}, Tables.{item_fault, first_of_names}}, proofs.FaultLaws.{first_kept}}
 use Rattle.macro_expand.proofs.ItemWalk.{macros_of_items, next_judged, walked_on}
 use Rattle.macro_expand.proofs.items.check_items.Goals as goal
 

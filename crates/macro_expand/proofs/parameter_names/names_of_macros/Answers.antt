@@ -1,5 +1,4 @@
-use Rattle.std.proofs.Common.{◌++◌, ◌∷◌, [], map, take, ap, sym, ◌∙◌, option_map}
-use Rattle.std.proofs.lemmas.List.{map_more}
+use Rattle.std.proofs.{Common.{◌++◌, ◌∷◌, [], map, take, ap, sym, ◌∙◌, option_map}, lemmas.List.{map_more}}
 use Rattle.std.proofs.lemmas.Option.{get_or_from_slice_get, slice_get-map, slice_get_within}
 use Rattle.pc_syntax.specs.Expansion.{parameter_names}
 use Rattle.macro_expand.specs.Tables.{plain_macros, macro_at}

@@ -1,6 +1,5 @@
 use Rattle.std.proofs.Common.{◌≡◌, ◌≤◌, length, map, drop}
-use Rattle.pc_syntax.specs.Written.{written_item}
-use Rattle.pc_syntax.specs.Sizes.{sizes_fault}
+use Rattle.pc_syntax.specs.{Written.{written_item}, Sizes.{sizes_fault}}
 use Rattle.macro_expand.specs.Tables.{before, plain_macros}
 use Rattle.macro_expand.proofs.sizes.check_measured.Given as goal
 

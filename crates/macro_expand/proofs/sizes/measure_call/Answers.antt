@@ -1,7 +1,5 @@
-use Rattle.std.proofs.Common.{length, get_or, ap, sym, ◌∙◌}
-use Rattle.std.proofs.lemmas.Option.{get_or_from_slice_get}
-use Rattle.macro_expand.specs.Tables.{callee_of, before, plain_macros, macro_at}
-use Rattle.macro_expand.specs.Measures.{measure_of}
+use Rattle.std.proofs.{Common.{length, get_or, ap, sym, ◌∙◌}, lemmas.Option.{get_or_from_slice_get}}
+use Rattle.macro_expand.specs.{Tables.{callee_of, before, plain_macros, macro_at}, Measures.{measure_of}}
 use Rattle.macro_expand.proofs.MeasureLaws.{measure_found, measure_not_found}
 use Rattle.macro_expand.proofs.sizes.measure_call.Goals as goal
 

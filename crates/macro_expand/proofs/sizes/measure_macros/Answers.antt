@@ -1,10 +1,6 @@
-use Rattle.std.proofs.Common.{◌+◌, length, slice_get, ap, sym, subst, ◌∙◌, option_map}
-use Rattle.std.proofs.lemmas.List.{length_push}
-use Rattle.std.proofs.lemmas.Option.{slice_get-map}
+use Rattle.std.proofs.{Common.{◌+◌, length, slice_get, ap, sym, subst, ◌∙◌, option_map}, lemmas.{List.{length_push}, Option.{slice_get-map}}}
 use Rattle.pc_syntax.specs.Written.{written}
-use Rattle.macro_expand.specs.Tables.{before, plain_macros, macro_at}
-use Rattle.macro_expand.specs.Measures.{measure_of, AreMeasures}
-use Rattle.macro_expand.proofs.MeasureLaws.{measures_more}
+use Rattle.macro_expand.{specs.{Tables.{before, plain_macros, macro_at}, Measures.{measure_of, AreMeasures}}, proofs.MeasureLaws.{measures_more}}
 use Rattle.macro_expand.proofs.sizes.measure_macros.Goals as goal
 
 pub loop-number-preserved : goal.loop-number-preserved

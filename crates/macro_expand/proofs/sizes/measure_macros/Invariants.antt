@@ -1,6 +1,5 @@
 use Rattle.std.proofs.Common.{◌≡◌, length}
-use Rattle.macro_expand.specs.Tables.{plain_macros}
-use Rattle.macro_expand.specs.Measures.{AreMeasures}
+use Rattle.macro_expand.specs.{Tables.{plain_macros}, Measures.{AreMeasures}}
 use Rattle.macro_expand.proofs.sizes.measure_macros.Given as goal
 
 abbrev pub invariant-loop-number : goal.invariant-loop-number

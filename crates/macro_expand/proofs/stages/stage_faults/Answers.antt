@@ -1,8 +1,6 @@
 use Rattle.std.proofs.Common.{◌≡◌, ℕ, ◌+◌, ◌<◌, true, false, List, [], Option, Some, None, length, take, drop, get_or, refl, sym, ap, ◌∙◌, arith}
-use Rattle.std.specs.Option.{option_or, is_some}
-use Rattle.std.proofs.lemmas.List.{drop_more, take_more}
-use Rattle.pc_syntax.specs.declared.model.StageItem.{StageItem}
-use Rattle.pc_syntax.specs.StageFaults.{stage_fault, stages_fault}
+use Rattle.std.{proofs.lemmas.List.{drop_more, take_more}, specs.Option.{option_or, is_some}}
+use Rattle.pc_syntax.specs.{declared.model.StageItem.{StageItem}, StageFaults.{stage_fault, stages_fault}}
 use Rattle.macro_expand.proofs.stages.stage_faults.Goals as goal
 
 one_more : (stages : List StageItem) (k : ℕ) (s : StageItem) → k < length stages → s ≡ get_or stages k s

@@ -1,16 +1,9 @@
-use Rattle.std.proofs.Common.{◌≡◌, List, [], ◌∷◌, ◌++◌, map, refl, sym, ap, subst, ◌∙◌}
+use Rattle.std.proofs.{Common.{◌≡◌, List, [], ◌∷◌, ◌++◌, map, refl, sym, ap, subst, ◌∙◌}, lemmas.{List.{map-append, reverse-reverse}, Grind.{reverse_onto}}}
 use Rattle.std.specs.Prelude.{reverse}
-use Rattle.std.proofs.lemmas.List.{map-append, reverse-reverse}
-use Rattle.std.proofs.lemmas.Grind.{reverse_onto}
 use Rattle.pc_common.specs.World.{Node}
-use Rattle.pc_ground.specs.declared.node_key.NodeKey.{NodeKey}
-use Rattle.pc_ground.specs.declared.row.Row.{Row}
-use Rattle.pc_ground.specs.Tree.{Tree}
-use Rattle.pc_ground.specs.Rows.{rows_of}
-use Rattle.pc_ground.specs.Keys.{row_node}
+use Rattle.pc_ground.specs.{declared.{node_key.NodeKey.{NodeKey}, row.Row.{Row}}, Tree.{Tree}, Rows.{rows_of}, Keys.{row_node}}
 use Rattle.pc_ground.specs.PlainGround.{plain_ground, normal}
-use Rattle.normal_form.specs.declared.part.Part.{Part}
-use Rattle.normal_form.specs.Parts.{IsWritten}
+use Rattle.normal_form.specs.{declared.part.Part.{Part}, Parts.{IsWritten}}
 use Rattle.normal_form.proofs.normal.normalise.Goals as goal
 
 map-reverse : {X Y : Type 0} (f : X → Y) (xs : List X) → map f (reverse xs) ≡ reverse (map f xs)

@@ -1,11 +1,7 @@
-use Rattle.std.proofs.Common.{◌≤◌, List, [], length, ap, sym, ◌∙◌, arith}
-use Rattle.std.specs.List.{flat_map}
-use Rattle.std.proofs.lemmas.List.{drop_all}
+use Rattle.std.{proofs.{Common.{◌≤◌, List, [], length, ap, sym, ◌∙◌, arith}, lemmas.List.{drop_all}}, specs.List.{flat_map}}
 use Rattle.pc_common.specs.World.{Node}
-use Rattle.pc_ground.specs.declared.row.Row.{Row}
-use Rattle.pc_ground.specs.Keys.{row_node}
-use Rattle.normal_form.specs.RowNodes.{numbering_after, nodes_of_row}
-use Rattle.normal_form.proofs.NumberingAfter.{see_more, numbering_after-numbered}
+use Rattle.pc_ground.specs.{declared.row.Row.{Row}, Keys.{row_node}}
+use Rattle.normal_form.{specs.RowNodes.{numbering_after, nodes_of_row}, proofs.NumberingAfter.{see_more, numbering_after-numbered}}
 use Rattle.normal_form.proofs.numbers.number.Goals as goal
 
 pub loop-k-preserved : goal.loop-k-preserved

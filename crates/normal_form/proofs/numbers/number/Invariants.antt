@@ -1,5 +1,4 @@
-use Rattle.std.proofs.Common.{◌≡◌, [], drop}
-use Rattle.std.specs.List.{flat_map}
+use Rattle.std.{proofs.Common.{◌≡◌, [], drop}, specs.List.{flat_map}}
 use Rattle.normal_form.specs.RowNodes.{numbering_after, nodes_of_row}
 use Rattle.normal_form.proofs.numbers.number.Given as goal
 

@@ -1,14 +1,8 @@
-use Rattle.std.proofs.Common.{◌≡◌, ◌≤◌, ◌<◌, ℕ, List, ◌++◌, length, map, sym, ap, ◌∙◌, subst, Some, vec_len, length-append, arith}
-use Rattle.std.proofs.lemmas.List.{length-map}
+use Rattle.std.proofs.{Common.{◌≡◌, ◌≤◌, ◌<◌, ℕ, List, ◌++◌, length, map, sym, ap, ◌∙◌, subst, Some, vec_len, length-append, arith}, lemmas.List.{length-map}}
 use Rattle.std.proofs.lemmas.List.Elements.{All-pop}
 use Rattle.pc_common.specs.World.{Node}
-use Rattle.pc_ground.specs.Keys.{row_node}
-use Rattle.pc_ground.specs.declared.row.Row.{Row}
-use Rattle.pc_ground.specs.declared.ground.Ground.{size-Ground}
-use Rattle.normal_form.specs.declared.joint.Joint.{Joint}
-use Rattle.normal_form.specs.Parts.{backward, IsWritten}
-use Rattle.normal_form.specs.Spine.{before, left_tree, junction_of}
-use Rattle.normal_form.proofs.Joints.{before-push}
+use Rattle.pc_ground.specs.{Keys.{row_node}, declared.{row.Row.{Row}, ground.Ground.{size-Ground}}}
+use Rattle.normal_form.{specs.{declared.joint.Joint.{Joint}, Parts.{backward, IsWritten}, Spine.{before, left_tree, junction_of}}, proofs.Joints.{before-push}}
 use Rattle.normal_form.proofs.rows.+write.Goals as goal
 
 behind : (len n : ℕ) (first new rest : List (Row Node)) → new ≡ first ++ rest → length first ≡ n → length new ≡ len → n ≤ len

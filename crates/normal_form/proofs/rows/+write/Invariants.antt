@@ -1,12 +1,7 @@
-use Rattle.std.proofs.Common.{◌≡◌, ◌≤◌, ◌<◌, length, map, vec_len}
-use Rattle.std.specs.Prelude.{All}
+use Rattle.std.{proofs.Common.{◌≡◌, ◌≤◌, ◌<◌, length, map, vec_len}, specs.Prelude.{All}}
 use Rattle.pc_common.specs.World.{Node as PlainNode}
-use Rattle.pc_ground.specs.Tree.{Tree}
-use Rattle.pc_ground.specs.Keys.{row_node}
-use Rattle.pc_ground.specs.PlainGround.{plain_ground, pushed, folded}
-use Rattle.pc_ground.specs.declared.ground.Ground.{size-Ground}
-use Rattle.normal_form.specs.Parts.{IsWritten}
-use Rattle.normal_form.specs.Spine.{before}
+use Rattle.pc_ground.specs.{Tree.{Tree}, Keys.{row_node}, PlainGround.{plain_ground, pushed, folded}, declared.ground.Ground.{size-Ground}}
+use Rattle.normal_form.specs.{Parts.{IsWritten}, Spine.{before}}
 use Rattle.normal_form.proofs.rows.+write.Given as goal
 
 abbrev pub decreases-write : goal.decreases-write

@@ -1,8 +1,6 @@
-use Rattle.std.proofs.Common.{◌≢◌, ap, sym, ◌∙◌, map, rules}
-use Rattle.std.proofs.lemmas.List.{take-map}
+use Rattle.std.proofs.{Common.{◌≢◌, ap, sym, ◌∙◌, map, rules}, lemmas.List.{take-map}}
 use Rattle.pc_ground.specs.Keys.{row_node}
-use Rattle.normal_form.specs.Spine.{constant_tree, junction_of, neutral}
-use Rattle.normal_form.proofs.JunctionOf.{cut_decided, decided_left, decided_right}
+use Rattle.normal_form.{specs.Spine.{constant_tree, junction_of, neutral}, proofs.JunctionOf.{cut_decided, decided_left, decided_right}}
 use Rattle.normal_form.proofs.rows.fold_constant.Goals as goal
 
 pub returns-clause-left : goal.returns-clause-left

@@ -1,16 +1,8 @@
-use Rattle.std.proofs.Common.{◌≡◌, ◌+◌, ◌-◌, ℕ, List, ◌++◌, length, map, refl, sym, ap, ◌∙◌, length-append, arith}
-use Rattle.std.proofs.lemmas.List.{map_push, length-map}
+use Rattle.std.proofs.{Common.{◌≡◌, ◌+◌, ◌-◌, ℕ, List, ◌++◌, length, map, refl, sym, ap, ◌∙◌, length-append, arith}, lemmas.List.{map_push, length-map}}
 use Rattle.pc_common.specs.World.{Node}
-use Rattle.pc_ground.specs.Tree.{Tree, size_of}
-use Rattle.pc_ground.specs.Keys.{row_node, key_node, renamed_kind}
-use Rattle.pc_ground.specs.declared.row.Row.{Row}
-use Rattle.pc_ground.specs.declared.row.RowKind.{RowKind}
-use Rattle.normal_form.specs.declared.joint.Junction.{Junction}
-use Rattle.normal_form.specs.declared.joint.Junction.TheVariants.{And, Or}
-use Rattle.normal_form.specs.declared.part.Part.TheVariants.{Rows}
-use Rattle.normal_form.specs.Parts.{backward, part_of}
-use Rattle.normal_form.specs.Spine.{row_kind}
-use Rattle.normal_form.proofs.JunctionOf.{part_of-junction, push_root, length-backward}
+use Rattle.pc_ground.specs.{Tree.{Tree, size_of}, Keys.{row_node, key_node, renamed_kind}, declared.row.{Row.{Row}, RowKind.{RowKind}}}
+use Rattle.normal_form.specs.{declared.{joint.Junction.{Junction, TheVariants.{And, Or}}, part.Part.TheVariants.{Rows}}, Parts.{backward, part_of}}
+use Rattle.normal_form.{specs.Spine.{row_kind}, proofs.JunctionOf.{part_of-junction, push_root, length-backward}}
 use Rattle.normal_form.proofs.rows.join.Goals as goal
 
 same_row : {N : Type 0} (k l : RowKind N) (m n : ℕ) → k ≡ l → m ≡ n

@@ -1,9 +1,6 @@
 use Rattle.std.proofs.Common.{List, ap, ◌∙◌}
 use Rattle.pc_ground.specs.PlainGround.{plain_ground, pushed, folded}
-use Rattle.normal_form.specs.declared.joint.Junction.{Junction}
-use Rattle.normal_form.specs.declared.joint.Joint.{Joint}
-use Rattle.normal_form.specs.Spine.{before, junction_of}
-use Rattle.normal_form.proofs.Joints.{before-push}
+use Rattle.normal_form.{specs.{declared.joint.{Junction.{Junction}, Joint.{Joint}}, Spine.{before, junction_of}}, proofs.Joints.{before-push}}
 use Rattle.normal_form.proofs.spine.push.Goals as goal
 
 pub returns-clause-tree : goal.returns-clause-tree

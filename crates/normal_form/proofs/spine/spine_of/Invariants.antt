@@ -1,7 +1,5 @@
-use Rattle.std.proofs.Common.{◌≡◌, ◌≤◌, ◌<◌}
-use Rattle.std.specs.Prelude.{All}
-use Rattle.pc_ground.specs.PlainGround.{plain_ground, pushed, folded}
-use Rattle.pc_ground.specs.declared.ground.Ground.{size-Ground}
+use Rattle.std.{proofs.Common.{◌≡◌, ◌≤◌, ◌<◌}, specs.Prelude.{All}}
+use Rattle.pc_ground.specs.{PlainGround.{plain_ground, pushed, folded}, declared.ground.Ground.{size-Ground}}
 use Rattle.normal_form.specs.Spine.{before}
 use Rattle.normal_form.proofs.spine.spine_of.Given as goal
 

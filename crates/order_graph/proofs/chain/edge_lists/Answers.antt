@@ -1,5 +1,4 @@
-use Rattle.std.proofs.Common.{◌≡◌, ◌∙◌, List, ℕ, length}
-use Rattle.std.proofs.lemmas.List.{with_items_is}
+use Rattle.std.proofs.{Common.{◌≡◌, ◌∙◌, List, ℕ, length}, lemmas.List.{with_items_is}}
 use Rattle.order_graph.proofs.OnList.{lists_more, same_read}
 use Rattle.order_graph.proofs.chain.edge_lists.Goals as goal
 

@@ -1,9 +1,6 @@
 use Rattle.std.proofs.Common.{◌≡◌, ℕ, List, length, subst, arith}
 use Rattle.pc_ground.specs.Literals.{Joins}
-use Rattle.order_graph.specs.Levels.{IsSearched}
-use Rattle.order_graph.proofs.Chains.{reach_follows}
-use Rattle.order_graph.proofs.EdgeWays.{reaches_near}
-use Rattle.order_graph.proofs.IsSearched.{searched_all}
+use Rattle.order_graph.{specs.Levels.{IsSearched}, proofs.{Chains.{reach_follows}, EdgeWays.{reaches_near}, IsSearched.{searched_all}}}
 use Rattle.order_graph.proofs.chain.spread.Goals as goal
 
 pub returns-clause-near : goal.returns-clause-near

@@ -1,6 +1,5 @@
 use Rattle.std.proofs.Common.{◌≡◌, ◌+◌, ◌-◌, ℕ, length, subst, arith}
-use Rattle.order_graph.proofs.OnList.{same_read}
-use Rattle.order_graph.proofs.IsSearched.{IsVisiting, visiting_more, visiting_done}
+use Rattle.order_graph.proofs.{OnList.{same_read}, IsSearched.{IsVisiting, visiting_more, visiting_done}}
 use Rattle.order_graph.proofs.chain.visit.Goals as goal
 
 pub loop-at-preserved : goal.loop-at-preserved

@@ -1,6 +1,5 @@
 use Rattle.std.proofs.Common.{get_or, refl, arith}
-use Rattle.order_graph.specs.Levels.{IsNext}
-use Rattle.order_graph.proofs.EdgeWays.{way_more, next_step}
+use Rattle.order_graph.{specs.Levels.{IsNext}, proofs.EdgeWays.{way_more, next_step}}
 use Rattle.order_graph.proofs.chain.walk.Goals as goal
 
 pub loop-at-preserved : goal.loop-at-preserved

@@ -1,6 +1,5 @@
 use Rattle.std.proofs.Common.{◌≢◌, ◌<◌, length, get_or}
-use Rattle.order_graph.specs.Ways.{IsWay}
-use Rattle.order_graph.specs.Levels.{IsNext, far}
+use Rattle.order_graph.specs.{Ways.{IsWay}, Levels.{IsNext, far}}
 use Rattle.order_graph.proofs.chain.walk.Given as goal
 
 abbrev pub invariant-loop-at : goal.invariant-loop-at

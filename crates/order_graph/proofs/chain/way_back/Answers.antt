@@ -1,11 +1,6 @@
-use Rattle.std.proofs.Common.{ℕ, List, length, set, ap}
-use Rattle.std.proofs.lemmas.List.{length-set}
+use Rattle.std.proofs.{Common.{ℕ, List, length, set, ap}, lemmas.List.{length-set}}
 use Rattle.pc_ground.specs.Literals.{Joins}
-use Rattle.order_graph.specs.Ways.{IsWay}
-use Rattle.order_graph.specs.Levels.{IsNext}
-use Rattle.order_graph.proofs.Chains.{way_map}
-use Rattle.order_graph.proofs.IsSearched.{searched_first}
-use Rattle.order_graph.proofs.Results.{if_ok}
+use Rattle.order_graph.{specs.{Ways.{IsWay}, Levels.{IsNext}}, proofs.{Chains.{way_map}, IsSearched.{searched_first}, Results.{if_ok}}}
 use Rattle.order_graph.proofs.chain.way_back.Goals as goal
 
 pub spread-requires-clause-searched : goal.spread-requires-clause-searched

@@ -1,9 +1,6 @@
 use Rattle.std.specs.Prelude.{Contains}
-use Rattle.pc_ground.specs.Literals.{IsPresent, IsConsistent}
-use Rattle.pc_ground.specs.declared.literal.Literal.TheVariants.{Node, NoNode}
-use Rattle.order_graph.proofs.IsClash.{node_clash, no_node_clash}
-use Rattle.order_graph.proofs.OneMore.{more}
-use Rattle.order_graph.proofs.ClashOf.{node_told, no_node_told, absence_told}
+use Rattle.pc_ground.specs.{Literals.{IsPresent, IsConsistent}, declared.literal.Literal.TheVariants.{Node, NoNode}}
+use Rattle.order_graph.proofs.{IsClash.{node_clash, no_node_clash}, OneMore.{more}, ClashOf.{node_told, no_node_told, absence_told}}
 use Rattle.order_graph.proofs.clashes.clash_of.Goals as goal
 
 pub returns-in-Node : goal.returns-in-Node

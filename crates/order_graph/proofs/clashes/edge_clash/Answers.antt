@@ -1,15 +1,7 @@
-use Rattle.std.proofs.Common.{sym, ◌∙◌, arith}
-use Rattle.std.specs.Prelude.{MatchOption}
-use Rattle.std.proofs.lemmas.Bool.{MatchBool-at_false}
-use Rattle.pc_ground.specs.declared.literal.Literal.TheVariants.{Edge}
-use Rattle.pc_ground.specs.Literals.{IsConsistent}
-use Rattle.order_graph.specs.Clashes.{JoinsNone, IsClash}
-use Rattle.order_graph.proofs.IsClash.{start_clash, end_clash, cycle_clash}
-use Rattle.order_graph.proofs.OneMore.{more}
-use Rattle.order_graph.proofs.Results.{if_ok}
-use Rattle.order_graph.proofs.Represents.{leads_reach}
-use Rattle.order_graph.proofs.TakesEdge.{known_consistent}
-use Rattle.order_graph.proofs.ClashOf.{edge_free, pairs_told, none_to}
+use Rattle.std.{proofs.{Common.{sym, ◌∙◌, arith}, lemmas.Bool.{MatchBool-at_false}}, specs.Prelude.{MatchOption}}
+use Rattle.pc_ground.specs.{declared.literal.Literal.TheVariants.{Edge}, Literals.{IsConsistent}}
+use Rattle.order_graph.{specs.Clashes.{JoinsNone, IsClash}, proofs.{IsClash.{start_clash, end_clash, cycle_clash}, OneMore.{more}, Results.{if_ok}}}
+use Rattle.order_graph.proofs.{Represents.{leads_reach}, TakesEdge.{known_consistent}, ClashOf.{edge_free, pairs_told, none_to}}
 use Rattle.order_graph.proofs.clashes.edge_clash.Goals as goal
 
 pub returns-then-reaches : goal.returns-then-reaches

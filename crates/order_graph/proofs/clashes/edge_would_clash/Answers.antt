@@ -1,13 +1,9 @@
 use Rattle.std.proofs.Common.{sym, ◌∙◌, arith}
 use Rattle.pc_ground.specs.declared.literal.Literal.TheVariants.{Edge}
-use Rattle.order_graph.specs.declared.clash.Clash.TheVariants.{Absent}
-use Rattle.order_graph.proofs.IsClash.{start_clash, end_clash, clashes_refute}
-use Rattle.order_graph.proofs.OneMore.{more}
-use Rattle.order_graph.proofs.Represents.{leads_reach}
-use Rattle.order_graph.proofs.TakesEdge.{known_consistent}
-use Rattle.order_graph.proofs.ClashOf.{back_refutes, pairs_told}
-use Rattle.order_graph.proofs.clashes.edge_would_clash.Goals as goal
+use Rattle.order_graph.{specs.declared.clash.Clash.TheVariants.{Absent}, proofs.{IsClash.{start_clash, end_clash, clashes_refute}, OneMore.{more}}}
+use Rattle.order_graph.proofs.{Represents.{leads_reach}, TakesEdge.{known_consistent}, ClashOf.{back_refutes, pairs_told}}
 use Rattle.order_graph.proofs.clashes.edge_would_clash.Goals.{then-is_missing-via-then-is_missing, then-is_missing-via-else-is_missing+then-is_missing-2, then-is_missing-via-else-is_missing+else-is_missing-2+then-leads_to}
+use Rattle.order_graph.proofs.clashes.edge_would_clash.Goals as goal
 
 pub returns-then-reaches : goal.returns-then-reaches
 returns-then-reaches c = λ ls s.

@@ -1,5 +1,4 @@
-use Rattle.std.proofs.Common.{◌*◌, inl, inr, arith}
-use Rattle.std.proofs.lemmas.Bool.{cases_lt}
+use Rattle.std.proofs.{Common.{◌*◌, inl, inr, arith}, lemmas.Bool.{cases_lt}}
 use Rattle.order_graph.proofs.clashes.joins_denied.Goals as goal
 
 pub loop-word-preserved : goal.loop-word-preserved

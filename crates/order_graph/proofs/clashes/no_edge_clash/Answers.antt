@@ -1,11 +1,7 @@
-use Rattle.std.proofs.Common.{inr, sym, ◌∙◌, arith}
-use Rattle.std.proofs.lemmas.Bool.{MatchBool-at_true, MatchBool-at_false}
+use Rattle.std.proofs.{Common.{inr, sym, ◌∙◌, arith}, lemmas.Bool.{MatchBool-at_true, MatchBool-at_false}}
 use Rattle.pc_common.specs.Chain.{Chain}
-use Rattle.pc_ground.specs.declared.literal.Literal.TheVariants.{NoEdge}
-use Rattle.pc_ground.specs.Literals.{Joins, IsConsistent}
-use Rattle.order_graph.proofs.IsClash.{no_edge_clash}
-use Rattle.order_graph.proofs.OneMore.{more}
-use Rattle.order_graph.proofs.ClashOf.{no_edge_told}
+use Rattle.pc_ground.specs.{declared.literal.Literal.TheVariants.{NoEdge}, Literals.{Joins, IsConsistent}}
+use Rattle.order_graph.proofs.{IsClash.{no_edge_clash}, OneMore.{more}, ClashOf.{no_edge_told}}
 use Rattle.order_graph.proofs.clashes.no_edge_clash.Goals as goal
 
 pub returns-then-not-reaches : goal.returns-then-not-reaches

@@ -1,6 +1,5 @@
 use Rattle.std.proofs.Common.{◌≡◌, ◌∙◌, ◌<◌, ◌*◌, ◌++◌, ap, arith}
-use Rattle.order_graph.proofs.IsClash.{path_clash}
-use Rattle.order_graph.proofs.ClashOf.{none_listed, over_told, pair_below}
+use Rattle.order_graph.proofs.{IsClash.{path_clash}, ClashOf.{none_listed, over_told, pair_below}}
 use Rattle.order_graph.proofs.clashes.path_clash.Goals as goal
 
 pub returns-in_default : goal.returns-in_default

@@ -1,7 +1,5 @@
-use Rattle.std.proofs.Common.{◌≡◌, ◌∙◌, ◌/◌, get_or, sym, ap, arith}
-use Rattle.std.proofs.lemmas.Bool.{both_ways}
-use Rattle.undo_trail.specs.BitTable.{bit_now}
-use Rattle.undo_trail.proofs.BitWords.{column-clear}
+use Rattle.std.proofs.{Common.{◌≡◌, ◌∙◌, ◌/◌, get_or, sym, ap, arith}, lemmas.Bool.{both_ways}}
+use Rattle.undo_trail.{specs.BitTable.{bit_now}, proofs.BitWords.{column-clear}}
 use Rattle.order_graph.specs.Rows.{denier_row}
 use Rattle.order_graph.proofs.clashes.word_joins_denied.Goals as goal
 

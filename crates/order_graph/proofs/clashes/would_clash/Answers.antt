@@ -1,12 +1,8 @@
-use Rattle.std.proofs.Common.{arith}
-use Rattle.std.specs.Prelude.{Contains}
+use Rattle.std.{proofs.Common.{arith}, specs.Prelude.{Contains}}
 use Rattle.pc_common.specs.Chain.{Chain}
-use Rattle.pc_ground.specs.Literals.{Joins, IsPresent, IsConsistent}
-use Rattle.pc_ground.specs.declared.literal.Literal.TheVariants.{Node, NoNode, NoEdge}
-use Rattle.order_graph.specs.declared.clash.Clash.TheVariants.{Absent}
-use Rattle.order_graph.proofs.IsClash.{node_clash, no_node_clash, clashes_refute}
-use Rattle.order_graph.proofs.OneMore.{more, newest, chain_older}
-use Rattle.order_graph.proofs.ClashOf.{node_told, no_node_told, no_edge_told, refuted}
+use Rattle.pc_ground.specs.{Literals.{Joins, IsPresent, IsConsistent}, declared.literal.Literal.TheVariants.{Node, NoNode, NoEdge}}
+use Rattle.order_graph.{specs.declared.clash.Clash.TheVariants.{Absent}, proofs.IsClash.{node_clash, no_node_clash, clashes_refute}}
+use Rattle.order_graph.proofs.{OneMore.{more, newest, chain_older}, ClashOf.{node_told, no_node_told, no_edge_told, refuted}}
 use Rattle.order_graph.proofs.clashes.would_clash.Goals as goal
 
 pub returns-in-Node : goal.returns-in-Node

@@ -1,9 +1,8 @@
 use Rattle.std.proofs.Common.{◌≡◌, ◌∙◌, ◌+◌, ◌-◌, ◌≤◌, ℕ, Bool, true, false, if◌then◌else◌, sym, ap, arith}
 use Rattle.undo_trail.specs.BitTable.{BitTable}
-use Rattle.order_graph.specs.Rows.{row_words, words_gained}
-use Rattle.order_graph.proofs.CloseOver.{closing_passed, closing_joined, words_passed, words_joined, words_rise}
-use Rattle.order_graph.proofs.rows.close_over.Goals as goal
+use Rattle.order_graph.{specs.Rows.{row_words, words_gained}, proofs.CloseOver.{closing_passed, closing_joined, words_passed, words_joined, words_rise}}
 use Rattle.order_graph.proofs.rows.close_over.Goals.{then-gains, else-gains}
+use Rattle.order_graph.proofs.rows.close_over.Goals as goal
 
 low_words : (v : BitTable) (is_sink : Bool) → row_words v is_sink ≤ v.words + 1
 low_words v true = omega arith

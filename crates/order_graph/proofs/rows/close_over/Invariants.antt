@@ -1,6 +1,5 @@
 use Rattle.std.proofs.Common.{◌+◌, ◌≤◌}
-use Rattle.order_graph.specs.Rows.{row_words, words_gained}
-use Rattle.order_graph.proofs.CloseOver.{AreClosedBelow}
+use Rattle.order_graph.{specs.Rows.{row_words, words_gained}, proofs.CloseOver.{AreClosedBelow}}
 use Rattle.order_graph.proofs.rows.close_over.Given as goal
 
 abbrev pub invariant-loop-x : goal.invariant-loop-x

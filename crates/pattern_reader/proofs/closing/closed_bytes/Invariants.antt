@@ -1,6 +1,5 @@
 use Rattle.std.proofs.Common.{◌≡◌, take, map}
-use Rattle.pattern_reader.specs.Opens.{plain_open}
-use Rattle.pattern_reader.specs.Closing.{closed_bytes}
+use Rattle.pattern_reader.specs.{Opens.{plain_open}, Closing.{closed_bytes}}
 use Rattle.pattern_reader.proofs.closing.closed_bytes.Given as goal
 
 abbrev pub invariant-loop-any : goal.invariant-loop-any

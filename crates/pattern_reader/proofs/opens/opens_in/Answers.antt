@@ -1,6 +1,5 @@
 use Rattle.std.proofs.Common.{◌∙◌, ap, ◌++◌, arith}
-use Rattle.pattern_reader.specs.Opens.{open_at}
-use Rattle.pattern_reader.proofs.Scanning.{opens_more}
+use Rattle.pattern_reader.{specs.Opens.{open_at}, proofs.Scanning.{opens_more}}
 use Rattle.pattern_reader.proofs.opens.opens_in.Goals as goal
 
 pub loop-k-preserved : goal.loop-k-preserved

@@ -1,5 +1,4 @@
-use Rattle.std.proofs.Common.{rules, arith}
-use Rattle.std.proofs.lemmas.Result.{err_from_is_err_and}
+use Rattle.std.proofs.{Common.{rules, arith}, lemmas.Result.{err_from_is_err_and}}
 use Rattle.litmus_reader.specs.Lists.{case_by}
 use Rattle.pattern_reader.proofs.Building.{read_none, next_read, too_many_here, all_read, pattern_made, pattern_is}
 use Rattle.pattern_reader.proofs.read.pattern_of_lists.Goals as goal

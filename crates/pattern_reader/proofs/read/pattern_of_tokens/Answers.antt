@@ -1,8 +1,6 @@
-use Rattle.std.proofs.Common.{◌∙◌, ap, arith, length, map, List, subst}
-use Rattle.std.proofs.lemmas.Result.{IfErr-weaker}
+use Rattle.std.proofs.{Common.{◌∙◌, ap, arith, length, map, List, subst}, lemmas.Result.{IfErr-weaker}}
 use Rattle.uspec_lexer.proofs.Order.{spells-length}
-use Rattle.pattern_reader.specs.Opens.{Open, plain_open}
-use Rattle.pattern_reader.specs.Answer.{IsClosedFault, closed}
+use Rattle.pattern_reader.specs.{Opens.{Open, plain_open}, Answer.{IsClosedFault, closed}}
 use Rattle.pattern_reader.proofs.read.pattern_of_tokens.Goals as goal
 
 pub pattern_with_opens-requires-clause-few_opens : goal.pattern_with_opens-requires-clause-few_opens

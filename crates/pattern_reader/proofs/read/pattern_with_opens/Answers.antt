@@ -1,10 +1,6 @@
-use Rattle.std.proofs.Common.{◌∙◌, map, subst}
-use Rattle.std.proofs.lemmas.Result.{IfErr-weaker}
-use Rattle.litmus_reader.specs.Answer.{CaseOf}
-use Rattle.litmus_reader.specs.Lists.{case_by}
-use Rattle.pattern_reader.specs.Opens.{plain_open}
-use Rattle.pattern_reader.specs.Answer.{too_many}
-use Rattle.pattern_reader.proofs.RowCases.{closed_short}
+use Rattle.std.proofs.{Common.{◌∙◌, map, subst}, lemmas.Result.{IfErr-weaker}}
+use Rattle.litmus_reader.specs.{Answer.{CaseOf}, Lists.{case_by}}
+use Rattle.pattern_reader.{specs.{Opens.{plain_open}, Answer.{too_many}}, proofs.RowCases.{closed_short}}
 use Rattle.pattern_reader.proofs.read.pattern_with_opens.Goals as goal
 
 pub read_lists-requires : goal.read_lists-requires

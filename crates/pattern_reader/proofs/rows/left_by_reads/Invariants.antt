@@ -1,6 +1,5 @@
 use Rattle.std.proofs.Common.{◌≡◌, ◌≤◌, drop, map, length}
-use Rattle.pattern_reader.specs.Rows.{left_by}
-use Rattle.pattern_reader.specs.Reads.{values_in}
+use Rattle.pattern_reader.specs.{Rows.{left_by}, Reads.{values_in}}
 use Rattle.pattern_reader.proofs.rows.left_by_reads.Given as goal
 
 abbrev pub invariant-loop-at : goal.invariant-loop-at

@@ -1,7 +1,5 @@
-use Rattle.std.proofs.Common.{refl, length}
-use Rattle.std.proofs.lemmas.Option.{slice_get_read}
-use Rattle.pattern_reader.proofs.Digits.{value_among}
-use Rattle.pattern_reader.proofs.RowCases.{rows_more}
+use Rattle.std.proofs.{Common.{refl, length}, lemmas.Option.{slice_get_read}}
+use Rattle.pattern_reader.proofs.{Digits.{value_among}, RowCases.{rows_more}}
 use Rattle.pattern_reader.proofs.rows.row_ops.Goals as goal
 
 pub loop-place-preserved : goal.loop-place-preserved

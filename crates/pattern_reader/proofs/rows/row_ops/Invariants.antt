@@ -1,7 +1,6 @@
 use Rattle.std.proofs.Common.{◌≡◌, take, map}
 use Rattle.pc_case.specs.Plain.{micro_op}
-use Rattle.pattern_reader.specs.Rows.{filled}
-use Rattle.pattern_reader.proofs.Digits.{value_among}
+use Rattle.pattern_reader.{specs.Rows.{filled}, proofs.Digits.{value_among}}
 use Rattle.pattern_reader.proofs.rows.row_ops.Given as goal
 
 abbrev pub invariant-loop-place : goal.invariant-loop-place

@@ -1,5 +1,4 @@
-use Rattle.std.proofs.Common.{sym, ◌∙◌, ap}
-use Rattle.std.specs.Option.{option_map}
+use Rattle.std.{proofs.Common.{sym, ◌∙◌, ap}, specs.Option.{option_map}}
 use Rattle.pc_case.specs.Plain.{plain_value}
 use Rattle.pattern_reader.proofs.Digits.{found_at, passed_at}
 use Rattle.pattern_reader.proofs.rows.value_for.Goals as goal

@@ -1,5 +1,4 @@
-use Rattle.std.proofs.Common.{◌≡◌, drop, map}
-use Rattle.std.specs.List.{list_any}
+use Rattle.std.{proofs.Common.{◌≡◌, drop, map}, specs.List.{list_any}}
 use Rattle.pc_common.specs.Addresses.{same_value}
 use Rattle.pc_case.specs.Plain.{plain_value}
 use Rattle.pattern_reader.proofs.values.has_value.Given as goal

@@ -1,7 +1,6 @@
 use Rattle.std.proofs.Common.{arith, ◌-◌}
-use Rattle.pc_case.proofs.Cores.{cores_step}
+use Rattle.pc_case.proofs.{Cores.{cores_step}, case.core_count.Goals.{then-cores-core, else-cores-core}}
 use Rattle.pc_case.proofs.case.core_count.Goals as goal
-use Rattle.pc_case.proofs.case.core_count.Goals.{then-cores-core, else-cores-core}
 
 pub loop-k-preserved : goal.loop-k-preserved
 loop-k-preserved c =

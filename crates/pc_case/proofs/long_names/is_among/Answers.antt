@@ -1,5 +1,4 @@
-use Rattle.std.proofs.Common.{◌∙◌}
-use Rattle.std.proofs.lemmas.Map.Made.{is_some-lookup}
+use Rattle.std.proofs.{Common.{◌∙◌}, lemmas.Map.Made.{is_some-lookup}}
 use Rattle.pc_common.specs.Names.{same_name}
 use Rattle.pc_case.proofs.long_names.is_among.Goals as goal
 

@@ -1,7 +1,5 @@
-use Rattle.std.proofs.Common.{◌∙◌, ◌++◌, ap, sym, length, drop, replicate, set, Some, None, if◌then◌else◌}
-use Rattle.std.proofs.lemmas.Bool.{le-leb}
-use Rattle.pc_case.specs.NameSets.{padded}
-use Rattle.pc_case.proofs.ShortNames.{is_padded}
+use Rattle.std.proofs.{Common.{◌∙◌, ◌++◌, ap, sym, length, drop, replicate, set, Some, None, if◌then◌else◌}, lemmas.Bool.{le-leb}}
+use Rattle.pc_case.{specs.NameSets.{padded}, proofs.ShortNames.{is_padded}}
 use Rattle.pc_case.proofs.name_set.short_name.Goals as goal
 
 pub returns : goal.returns

@@ -1,9 +1,6 @@
-use Rattle.std.proofs.Common.{arith, ◌≡◌, ◌<◌, ◌-◌, sym, not, false, get_or}
-use Rattle.std.specs.Prelude.{◌==◌}
-use Rattle.std.proofs.lemmas.Grind.{common_steps}
-use Rattle.std.proofs.lemmas.List.Sums.{suffix_len_is}
-use Rattle.pc_common.proofs.line_column.tail_len.Goals as goal
+use Rattle.std.{proofs.{Common.{arith, ◌≡◌, ◌<◌, ◌-◌, sym, not, false, get_or}, lemmas.{Grind.{common_steps}, List.Sums.{suffix_len_is}}}, specs.Prelude.{◌==◌}}
 use Rattle.pc_common.proofs.line_column.tail_len.Goals.{then-loop-start-test+else-before-start-ne10, else-loop-start-test}
+use Rattle.pc_common.proofs.line_column.tail_len.Goals as goal
 
 pub returns-clause-value : goal.returns-clause-value
 returns-clause-value c =

@@ -1,6 +1,5 @@
 -- From `start` on no byte is LF.
-use Rattle.std.proofs.Common.{◌≡◌, ◌≤◌, ◌<◌, ℕ, length, get_or, not, true}
-use Rattle.std.specs.Prelude.{◌==◌}
+use Rattle.std.{proofs.Common.{◌≡◌, ◌≤◌, ◌<◌, ℕ, length, get_or, not, true}, specs.Prelude.{◌==◌}}
 use Rattle.pc_common.proofs.line_column.tail_len.Given as goal
 
 abbrev pub invariant-loop-start : goal.invariant-loop-start

@@ -1,5 +1,4 @@
-use Rattle.std.proofs.Common.{rules, arith, ◌≡◌, ◌++◌, ◌∙◌, sym, ap, append_assoc, length-append, length, take, ℕ}
-use Rattle.std.proofs.lemmas.List.{length-take, length-take-le}
+use Rattle.std.proofs.{Common.{rules, arith, ◌≡◌, ◌++◌, ◌∙◌, sym, ap, append_assoc, length-append, length, take, ℕ}, lemmas.List.{length-take, length-take-le}}
 use Rattle.pc_common.proofs.reading.read_rest.Goals as goal
 
 -- what was read before, and the first bytes of the buffer

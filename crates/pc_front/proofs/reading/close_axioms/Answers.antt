@@ -1,6 +1,4 @@
-use Rattle.std.proofs.Common.{refl, arith}
-use Rattle.std.proofs.lemmas.List.{map-append}
-use Rattle.std.proofs.lemmas.Result.{err_from_is_err_and}
+use Rattle.std.proofs.{Common.{refl, arith}, lemmas.{List.{map-append}, Result.{err_from_is_err_and}}}
 use Rattle.pc_syntax.specs.Closed.{plain_closed}
 use Rattle.scope_check.proofs.Walks.{drop_item, closed_more, closed_fault, closed_all}
 use Rattle.pc_ground.specs.Stages.{plain_axioms}

@@ -1,14 +1,8 @@
-use Rattle.std.proofs.Common.{◌≡◌, None, refl, sym, ◌∙◌, map, subst}
-use Rattle.std.proofs.lemmas.Result.{IfOk-weaker, IfErr-weaker, err_from_is_err_and}
-use Rattle.pc_syntax.specs.Written.{written_model}
-use Rattle.pc_syntax.specs.Observable.{axioms_of}
-use Rattle.pc_syntax.specs.ModelFault.{first_model_fault}
-use Rattle.pc_syntax.specs.NameFaults.{first_name_fault}
+use Rattle.std.proofs.{Common.{◌≡◌, None, refl, sym, ◌∙◌, map, subst}, lemmas.Result.{IfOk-weaker, IfErr-weaker, err_from_is_err_and}}
+use Rattle.pc_syntax.specs.{Written.{written_model}, Observable.{axioms_of}, ModelFault.{first_model_fault}, NameFaults.{first_name_fault}}
 use Rattle.pc_ground.specs.Stages.{plain_axioms}
 use Rattle.scope_check.specs.FirstFault.{IsNoneOr}
-use Rattle.pc_front.specs.ModelFront.{closed_axiom}
-use Rattle.pc_front.specs.ModelSteps.{IsFirstEnd}
-use Rattle.pc_front.proofs.ShortNames.{stage_fault_same, name_fault_same, fault_same, axioms_same}
+use Rattle.pc_front.{specs.{ModelFront.{closed_axiom}, ModelSteps.{IsFirstEnd}}, proofs.ShortNames.{stage_fault_same, name_fault_same, fault_same, axioms_same}}
 use Rattle.pc_front.proofs.reading.closed_axioms.Goals as goal
 
 pub returns-in_err-short-clause-err : goal.returns-in_err-short-clause-err

@@ -1,5 +1,4 @@
-use Rattle.std.proofs.Common.{refl, sym, ◌∙◌}
-use Rattle.std.proofs.lemmas.Result.{err_from_is_err_and}
+use Rattle.std.proofs.{Common.{refl, sym, ◌∙◌}, lemmas.Result.{err_from_is_err_and}}
 use Rattle.pc_syntax.specs.Written.{written_model}
 use Rattle.macro_expand.specs.Faults.{macro_fault_of}
 use Rattle.scope_check.specs.FirstFault.{name_fault_of}

@@ -1,5 +1,4 @@
-use Rattle.std.proofs.Common.{rules}
-use Rattle.std.proofs.lemmas.Result.{err_from_is_err_and}
+use Rattle.std.proofs.{Common.{rules}, lemmas.Result.{err_from_is_err_and}}
 use Rattle.pc_front.proofs.PartsOf.{axioms_within, are_stages, model_end, test_end, parts_are}
 use Rattle.pc_front.proofs.two_files.read_parts.Goals as goal
 

@@ -1,8 +1,6 @@
 -- The first parts were put.
-use Rattle.std.proofs.Common.{take}
-use Rattle.std.specs.List.{flat_map}
-use Rattle.pc_common.specs.Writes.{success}
-use Rattle.pc_common.specs.Room.{Puts}
+use Rattle.std.{proofs.Common.{take}, specs.List.{flat_map}}
+use Rattle.pc_common.specs.{Writes.{success}, Room.{Puts}}
 use Rattle.pc_ground.specs.LineParts.{line_part_text}
 use Rattle.pc_ground.proofs.line_part.put_line_parts.Given as goal
 

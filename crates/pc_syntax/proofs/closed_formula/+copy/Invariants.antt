@@ -1,6 +1,5 @@
 -- Each function's measure is of what it copies.
-use Rattle.std.proofs.Common.{◌+◌, ◌*◌}
-use Rattle.std.specs.Prelude.{max}
+use Rattle.std.{proofs.Common.{◌+◌, ◌*◌}, specs.Prelude.{max}}
 use Rattle.pc_syntax.specs.declared.closed_formula.ClosedFormula.{size-ClosedFormula}
 use Rattle.pc_syntax.proofs.closed_formula.+copy.Given as goal
 

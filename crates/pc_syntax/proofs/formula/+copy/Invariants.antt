@@ -1,6 +1,5 @@
 -- Each function's measure is of what it copies.
-use Rattle.std.proofs.Common.{◌+◌, ◌*◌}
-use Rattle.std.specs.Prelude.{max}
+use Rattle.std.{proofs.Common.{◌+◌, ◌*◌}, specs.Prelude.{max}}
 use Rattle.pc_syntax.specs.declared.formula.Formula.{size-Formula}
 use Rattle.pc_syntax.proofs.formula.+copy.Given as goal
 

@@ -1,5 +1,4 @@
-use Rattle.std.proofs.Common.{[], ◌∙◌, ap, subst, List, ℕ}
-use Rattle.std.specs.Option.{option_map_or}
+use Rattle.std.{proofs.Common.{[], ◌∙◌, ap, subst, List, ℕ}, specs.Option.{option_map_or}}
 use Rattle.pc_ground.specs.Words.{words}
 use Rattle.refutation.proofs.NodeWalk.{SoFar, walk_next, walk_went, walk_still, walk_foreign, walk_done, none_left}
 use Rattle.refutation.proofs.nodes.read_nodes.Goals as goal

@@ -1,6 +1,5 @@
 -- All words but those that are left were read.
-use Rattle.std.proofs.Common.{◌≡◌, ◌+◌, [], length}
-use Rattle.std.specs.Option.{option_map_or}
+use Rattle.std.{proofs.Common.{◌≡◌, ◌+◌, [], length}, specs.Option.{option_map_or}}
 use Rattle.pc_ground.specs.Words.{words}
 use Rattle.refutation.proofs.NodeWalk.{SoFar}
 use Rattle.refutation.proofs.nodes.read_nodes.Given as goal

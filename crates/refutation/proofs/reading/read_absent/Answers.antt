@@ -1,9 +1,6 @@
-use Rattle.std.proofs.Common.{◌∷◌, sym}
-use Rattle.std.specs.Prelude.{Result, codes}
-use Rattle.pc_ground.specs.declared.line_fault.LineFault.{LineFault}
-use Rattle.pc_ground.specs.Words.{words}
-use Rattle.refutation.specs.StepWords.{ReadsWords}
-use Rattle.refutation.specs.declared.step_head.StepHead.{StepHead}
+use Rattle.std.{proofs.Common.{◌∷◌, sym}, specs.Prelude.{Result, codes}}
+use Rattle.pc_ground.specs.{declared.line_fault.LineFault.{LineFault}, Words.{words}}
+use Rattle.refutation.specs.{StepWords.{ReadsWords}, declared.step_head.StepHead.{StepHead}}
 use Rattle.refutation.proofs.StepWalk.{handed_on, two_at, one_at, absent_alone, absent_fault, absent_read}
 use Rattle.refutation.proofs.reading.read_absent.Goals as goal
 

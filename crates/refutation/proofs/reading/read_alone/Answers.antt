@@ -1,5 +1,4 @@
-use Rattle.std.proofs.Common.{◌∙◌, ◌∷◌, [], ap, refl}
-use Rattle.std.specs.Cmp.Lexicographic.{same_text}
+use Rattle.std.{proofs.Common.{◌∙◌, ◌∷◌, [], ap, refl}, specs.Cmp.Lexicographic.{same_text}}
 use Rattle.pc_common.specs.Steps.{false_step, close}
 use Rattle.refutation.proofs.reading.read_alone.Goals as goal
 

@@ -1,10 +1,6 @@
-use Rattle.std.proofs.Common.{◌∷◌}
-use Rattle.std.specs.Prelude.{Result, codes}
-use Rattle.pc_ground.specs.declared.line_fault.LineFault.{LineFault}
-use Rattle.pc_ground.specs.Words.{words}
-use Rattle.refutation.specs.StepWords.{ReadsWords}
-use Rattle.refutation.specs.declared.step_head.StepHead.{StepHead}
-use Rattle.refutation.proofs.StepWalk.{handed_on, two_at, path_fault, path_read}
+use Rattle.std.{proofs.Common.{◌∷◌}, specs.Prelude.{Result, codes}}
+use Rattle.pc_ground.specs.{declared.line_fault.LineFault.{LineFault}, Words.{words}}
+use Rattle.refutation.{specs.{StepWords.{ReadsWords}, declared.step_head.StepHead.{StepHead}}, proofs.StepWalk.{handed_on, two_at, path_fault, path_read}}
 use Rattle.refutation.proofs.reading.read_path.Goals as goal
 
 pub returns-in_err-read_nodes-clause-read : goal.returns-in_err-read_nodes-clause-read

@@ -1,8 +1,6 @@
-use Rattle.std.proofs.Common.{sym, ◌∙◌, List, ℕ, ◌∷◌, [], subst}
-use Rattle.std.specs.Cmp.Lexicographic.{same_text, other_text}
+use Rattle.std.{proofs.Common.{sym, ◌∙◌, List, ℕ, ◌∷◌, [], subst}, specs.Cmp.Lexicographic.{same_text, other_text}}
 use Rattle.pc_ground.specs.Words.{words}
-use Rattle.refutation.specs.StepWords.{ReadsWords}
-use Rattle.refutation.proofs.StepWalk.{some_words, no_word}
+use Rattle.refutation.{specs.StepWords.{ReadsWords}, proofs.StepWalk.{some_words, no_word}}
 use Rattle.refutation.proofs.reading.read_rest.Goals as goal
 
 pub returns-then-eq-clause-read : goal.returns-then-eq-clause-read

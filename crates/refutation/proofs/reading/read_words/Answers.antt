@@ -1,8 +1,6 @@
-use Rattle.std.proofs.Common.{[], ◌∷◌, sym, ◌∙◌, ap, List, ℕ, subst}
-use Rattle.std.specs.Option.{option_map_or}
+use Rattle.std.{proofs.Common.{[], ◌∷◌, sym, ◌∙◌, ap, List, ℕ, subst}, specs.Option.{option_map_or}}
 use Rattle.pc_ground.specs.Words.{words}
-use Rattle.refutation.specs.StepWords.{ReadsWords}
-use Rattle.refutation.proofs.StepWalk.{room_behind}
+use Rattle.refutation.{specs.StepWords.{ReadsWords}, proofs.StepWalk.{room_behind}}
 use Rattle.refutation.proofs.reading.read_words.Goals as goal
 
 pub read_rest-requires-clause-room : goal.read_rest-requires-clause-room

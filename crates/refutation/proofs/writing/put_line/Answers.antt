@@ -1,7 +1,5 @@
-use Rattle.std.proofs.Common.{refl, map}
-use Rattle.std.specs.Prelude.{codes}
-use Rattle.pc_common.specs.Lines.{nodes_text}
-use Rattle.pc_common.proofs.Rooms.{puts_then, puts_stop}
+use Rattle.std.{proofs.Common.{refl, map}, specs.Prelude.{codes}}
+use Rattle.pc_common.{specs.Lines.{nodes_text}, proofs.Rooms.{puts_then, puts_stop}}
 use Rattle.pc_ground.specs.Keys.{key_node}
 use Rattle.refutation.proofs.writing.put_line.Goals as goal
 

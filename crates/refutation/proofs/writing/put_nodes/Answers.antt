@@ -1,13 +1,6 @@
-use Rattle.std.proofs.Common.{refl, ◌++◌, map, List, ℕ, length}
-use Rattle.std.specs.Prelude.{codes}
-use Rattle.std.proofs.lemmas.Option.{slice_get_within, slice_get_read}
-use Rattle.pc_common.specs.Lines.{node_text}
-use Rattle.pc_common.specs.World.{Node}
-use Rattle.pc_common.proofs.Rooms.{puts_text}
-use Rattle.pc_common.proofs.RoomPieces.{puts_next, puts_failed}
-use Rattle.pc_common.proofs.Places.{at_map, all_at}
-use Rattle.pc_ground.specs.Keys.{key_node}
-use Rattle.pc_ground.specs.NodeForm.{IsNodeIn}
+use Rattle.std.{proofs.{Common.{refl, ◌++◌, map, List, ℕ, length}, lemmas.Option.{slice_get_within, slice_get_read}}, specs.Prelude.{codes}}
+use Rattle.pc_common.{specs.{Lines.{node_text}, World.{Node}}, proofs.{Rooms.{puts_text}, RoomPieces.{puts_next, puts_failed}, Places.{at_map, all_at}}}
+use Rattle.pc_ground.specs.{Keys.{key_node}, NodeForm.{IsNodeIn}}
 use Rattle.refutation.proofs.Items.{one_text}
 use Rattle.refutation.proofs.writing.put_nodes.Goals as goal
 

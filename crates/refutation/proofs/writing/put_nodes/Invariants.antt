@@ -1,8 +1,6 @@
 -- The first nodes were put.
 use Rattle.std.proofs.Common.{take, map}
-use Rattle.pc_common.specs.Lines.{nodes_text}
-use Rattle.pc_common.specs.Writes.{success}
-use Rattle.pc_common.specs.Room.{Puts}
+use Rattle.pc_common.specs.{Lines.{nodes_text}, Writes.{success}, Room.{Puts}}
 use Rattle.pc_ground.specs.Keys.{key_node}
 use Rattle.refutation.proofs.writing.put_nodes.Given as goal
 

@@ -1,9 +1,6 @@
-use Rattle.std.proofs.Common.{refl}
-use Rattle.std.proofs.lemmas.Option.{slice_get_within}
-use Rattle.pc_common.proofs.Rooms.{puts_text}
-use Rattle.pc_common.proofs.RoomPieces.{puts_next, puts_failed}
-use Rattle.refutation.specs.Steps.{plain_step, step_text}
-use Rattle.refutation.proofs.Items.{text_at}
+use Rattle.std.proofs.{Common.{refl}, lemmas.Option.{slice_get_within}}
+use Rattle.pc_common.proofs.{Rooms.{puts_text}, RoomPieces.{puts_next, puts_failed}}
+use Rattle.refutation.{specs.Steps.{plain_step, step_text}, proofs.Items.{text_at}}
 use Rattle.refutation.proofs.writing.put_steps.Goals as goal
 
 pub returns-in_err-put_step : goal.returns-in_err-put_step

@@ -1,5 +1,4 @@
-use Rattle.std.proofs.Common.{refl, arith}
-use Rattle.std.proofs.lemmas.Result.{err_from_is_err_and}
+use Rattle.std.proofs.{Common.{refl, arith}, lemmas.Result.{err_from_is_err_and}}
 use Rattle.pc_syntax.specs.Predicates.{takes_of}
 use Rattle.scope_check.proofs.Walks.{drop_at, arguments_more, arguments_stop, arguments_all}
 use Rattle.scope_check.proofs.arguments.close_arguments.Goals as goal

@@ -1,5 +1,4 @@
-use Rattle.std.proofs.Common.{refl, arith}
-use Rattle.std.proofs.lemmas.Result.{err_from_is_err_and}
+use Rattle.std.proofs.{Common.{refl, arith}, lemmas.Result.{err_from_is_err_and}}
 use Rattle.scope_check.proofs.Walks.{drop_at, bound_more, bound_past, bound_stop, bound_all}
 use Rattle.scope_check.proofs.arguments.close_values.Goals.{then-k-len+in_ok-push, else-k-len+in-Plain-1, else-k-len+in-Slot-1}
 use Rattle.scope_check.proofs.arguments.close_values.Goals as goal

@@ -1,11 +1,7 @@
 use Rattle.std.proofs.Common.{[], sym, subst}
 use Rattle.pc_common.specs.declared.fault.Which.TheVariants.{Model}
-use Rattle.pc_syntax.specs.Written.{written}
-use Rattle.pc_syntax.specs.IsClosed.{IsClosed}
-use Rattle.pc_syntax.specs.Closed.{plain_closed}
-use Rattle.pc_syntax.proofs.ClosingShape.{closed_axiom_closed}
-use Rattle.scope_check.proofs.ClosingOf.{closing_stages}
-use Rattle.scope_check.proofs.FiledFaults.{closing_within, answer_within}
+use Rattle.pc_syntax.{specs.{Written.{written}, IsClosed.{IsClosed}, Closed.{plain_closed}}, proofs.ClosingShape.{closed_axiom_closed}}
+use Rattle.scope_check.proofs.{ClosingOf.{closing_stages}, FiledFaults.{closing_within, answer_within}}
 use Rattle.scope_check.proofs.closing.close.Goals as goal
 
 -- the closed formula keeps that it is closed

@@ -1,5 +1,4 @@
-use Rattle.std.proofs.Common.{◌<◌, length, ap, refl, arith}
-use Rattle.std.proofs.lemmas.Result.{err_from_is_err_and}
+use Rattle.std.proofs.{Common.{◌<◌, length, ap, refl, arith}, lemmas.Result.{err_from_is_err_and}}
 use Rattle.scope_check.proofs.Walks.{drop_item, closed_more, closed_fault, closed_all}
 use Rattle.scope_check.proofs.nodes.close_list.Goals as goal
 

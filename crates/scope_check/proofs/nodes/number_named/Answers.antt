@@ -1,6 +1,5 @@
 use Rattle.std.proofs.Common.{◌<◌, length, sym, ◌∙◌, arith}
-use Rattle.scope_check.proofs.Walks.{drop_item}
-use Rattle.scope_check.proofs.StageWalk.{stage_here, stage_later, no_stage}
+use Rattle.scope_check.proofs.{Walks.{drop_item}, StageWalk.{stage_here, stage_later, no_stage}}
 use Rattle.scope_check.proofs.nodes.number_named.Goals as goal
 
 pub returns-then-eq : goal.returns-then-eq

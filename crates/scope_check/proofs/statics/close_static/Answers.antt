@@ -1,9 +1,5 @@
-use Rattle.std.proofs.Common.{◌≡◌, length, sym, ap, ◌∙◌, unwrap_or}
-use Rattle.std.proofs.lemmas.Result.{err_from_is_err_and}
-use Rattle.pc_syntax.specs.Predicates.{takes_of}
-use Rattle.pc_syntax.specs.declared.pred.Pred.TheVariants.{True}
-use Rattle.pc_syntax.specs.Closed.{closed_static}
-use Rattle.pc_syntax.specs.Closing.{closing_of_static}
+use Rattle.std.proofs.{Common.{◌≡◌, length, sym, ap, ◌∙◌, unwrap_or}, lemmas.Result.{err_from_is_err_and}}
+use Rattle.pc_syntax.specs.{Predicates.{takes_of}, declared.pred.Pred.TheVariants.{True}, Closed.{closed_static}, Closing.{closing_of_static}}
 use Rattle.scope_check.proofs.StaticLaws.{static_arity, static_arguments}
 use Rattle.scope_check.proofs.statics.close_static.Goals as goal
 

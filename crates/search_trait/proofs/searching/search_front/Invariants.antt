@@ -1,5 +1,5 @@
 -- The ledger is the one that the blank is of.
 use Rattle.search_trait.proofs.searching.search_front.Given as goal
 
-abbrev pub ghosts-searched : goal.ghosts-searched
-ghosts-searched a = record { name = a.blank.name; parts = a.blank.parts }
+abbrev pub ghosts-run_search : goal.ghosts-run_search
+ghosts-run_search a = record { name = a.blank.name; parts = a.blank.parts }

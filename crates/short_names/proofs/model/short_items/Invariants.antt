@@ -1,6 +1,5 @@
 use Rattle.std.proofs.Common.{◌≡◌, take, map}
-use Rattle.pc_syntax.specs.Written.{written_item}
-use Rattle.pc_syntax.specs.Renaming.{renamed_item}
+use Rattle.pc_syntax.specs.{Written.{written_item}, Renaming.{renamed_item}}
 use Rattle.short_names.specs.Numbers.{short_name}
 use Rattle.short_names.proofs.model.short_items.Given as goal
 

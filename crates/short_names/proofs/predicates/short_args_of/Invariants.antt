@@ -1,6 +1,5 @@
 use Rattle.std.proofs.Common.{◌≡◌, take}
-use Rattle.pc_syntax.specs.Predicates.{takes_of}
-use Rattle.pc_syntax.specs.Renaming.{renamed_args}
+use Rattle.pc_syntax.specs.{Predicates.{takes_of}, Renaming.{renamed_args}}
 use Rattle.short_names.specs.Numbers.{short_name}
 use Rattle.short_names.proofs.predicates.short_args_of.Given as goal
 

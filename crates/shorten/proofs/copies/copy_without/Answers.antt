@@ -1,6 +1,5 @@
 use Rattle.std.proofs.Common.{arith}
-use Rattle.shorten.specs.Subsequences.{none}
-use Rattle.shorten.proofs.Kept.{next_left_out, next_copied, all_passed}
+use Rattle.shorten.{specs.Subsequences.{none}, proofs.Kept.{next_left_out, next_copied, all_passed}}
 use Rattle.shorten.proofs.copies.copy_without.Goals.{then-k-next+in_ok-branches, else-k-next}
 use Rattle.shorten.proofs.copies.copy_without.Goals as goal
 

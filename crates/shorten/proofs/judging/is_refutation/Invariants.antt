@@ -1,8 +1,7 @@
 -- The steps up to the loop's are followed.
 use Rattle.std.proofs.Common.{◌≡◌, take}
 use Rattle.pc_common.specs.World.{Node}
-use Rattle.pc_ground.specs.Tree.{Tree}
-use Rattle.pc_ground.specs.Rows.{rows_of}
+use Rattle.pc_ground.specs.{Tree.{Tree}, Rows.{rows_of}}
 use Rattle.shorten.proofs.Followed.{AreFollowed}
 use Rattle.shorten.proofs.judging.is_refutation.Given as goal
 

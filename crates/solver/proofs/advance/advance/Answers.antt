@@ -1,15 +1,9 @@
 use Rattle.std.proofs.Common.{◌≤◌, ◌<◌, ◌+◌, ◌∙◌, ◌++◌, ◌∷◌, ℕ, [], length, ap, refl, arith}
 use Rattle.pc_common.specs.Steps.{split}
-use Rattle.solver.specs.Spelled.{spelled}
-use Rattle.order_graph.proofs.Results.{if_ok}
-use Rattle.solver.specs.Places.{place_signed, side_positions}
-use Rattle.solver.specs.Opens.{positions, opens}
-use Rattle.solver.specs.Weights.{weight}
-use Rattle.solver.specs.Descents.{IsLonger, HasMore}
-use Rattle.solver.specs.Statuses.{status_weight}
-use Rattle.solver.specs.declared.find.SearchStatus.{SearchStatus}
-use Rattle.solver.specs.declared.later.Later.{Later}
+use Rattle.solver.specs.{Spelled.{spelled}, Places.{place_signed, side_positions}, Opens.{positions, opens}, Weights.{weight}, Descents.{IsLonger, HasMore}}
+use Rattle.solver.specs.{Statuses.{status_weight}, declared.{find.SearchStatus.{SearchStatus}, later.Later.{Later}}}
 use Rattle.solver.proofs.HasDescended.{one_open, more_longer, advanced}
+use Rattle.order_graph.proofs.Results.{if_ok}
 use Rattle.solver.proofs.advance.advance.Goals as goal
 
 pub push_split-requires : goal.push_split-requires

@@ -1,5 +1,4 @@
-use Rattle.std.proofs.Common.{ℕ, take}
-use Rattle.std.specs.Prelude.{Contains, ◌↔◌}
+use Rattle.std.{proofs.Common.{ℕ, take}, specs.Prelude.{Contains, ◌↔◌}}
 use Rattle.pc_ground.specs.declared.literal.Literal.TheVariants.{Edge}
 use Rattle.solver.proofs.answer.edge_pairs.Given as goal
 

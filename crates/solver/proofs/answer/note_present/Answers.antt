@@ -1,5 +1,4 @@
-use Rattle.std.proofs.Common.{inl, inr, map, ap, ◌∙◌, refl, [], ◌∷◌, ◌++◌}
-use Rattle.std.proofs.lemmas.List.{map_push}
+use Rattle.std.proofs.{Common.{inl, inr, map, ap, ◌∙◌, refl, [], ◌∷◌, ◌++◌}, lemmas.List.{map_push}}
 use Rattle.pc_common.proofs.Bools.{not_both}
 use Rattle.pc_ground.specs.Keys.{key_node}
 use Rattle.solver.proofs.answer.note_present.Goals as goal

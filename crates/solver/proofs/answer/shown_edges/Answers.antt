@@ -1,8 +1,6 @@
-use Rattle.std.proofs.Common.{◌≡◌, map, ap, ◌∙◌, length}
-use Rattle.std.proofs.lemmas.Result.{IfOk-weaker}
-use Rattle.solver.specs.Shown.{edge_over, AreEdges}
+use Rattle.std.proofs.{Common.{◌≡◌, map, ap, ◌∙◌, length}, lemmas.Result.{IfOk-weaker}}
+use Rattle.solver.{specs.Shown.{edge_over, AreEdges}, proofs.Shown.{edges_shown, pairs_from}}
 use Rattle.graph_text.specs.Graphs.{key_edge}
-use Rattle.solver.proofs.Shown.{edges_shown, pairs_from}
 use Rattle.solver.proofs.answer.shown_edges.Goals as goal
 
 pub named_edges-requires-clause-from : goal.named_edges-requires-clause-from

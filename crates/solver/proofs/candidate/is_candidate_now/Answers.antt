@@ -1,11 +1,6 @@
-use Rattle.std.proofs.Common.{◌≡◌, ℕ, List, Some, subst}
-use Rattle.std.specs.Prelude.{IsTrue, ◌↔◌}
-use Rattle.pc_ground.specs.declared.row.Row.{Row}
-use Rattle.pc_ground.specs.Tree.{Tree}
-use Rattle.pc_ground.specs.Refutes.{subtree_at}
-use Rattle.solver.specs.Spelled.{spelled}
-use Rattle.solver.specs.Met.{IsMet}
-use Rattle.solver.proofs.IsPending.{pending_candidate}
+use Rattle.std.{proofs.Common.{◌≡◌, ℕ, List, Some, subst}, specs.Prelude.{IsTrue, ◌↔◌}}
+use Rattle.pc_ground.specs.{declared.row.Row.{Row}, Tree.{Tree}, Refutes.{subtree_at}}
+use Rattle.solver.{specs.{Spelled.{spelled}, Met.{IsMet}}, proofs.IsPending.{pending_candidate}}
 use Rattle.solver.proofs.candidate.is_candidate_now.Goals as goal
 
 pub returns-clause-candidate : goal.returns-clause-candidate

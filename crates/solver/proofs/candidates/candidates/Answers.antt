@@ -1,9 +1,6 @@
-use Rattle.std.proofs.Common.{◌≡◌, ℕ, List, [], subst}
-use Rattle.std.specs.Prelude.{IfOk}
+use Rattle.std.{proofs.Common.{◌≡◌, ℕ, List, [], subst}, specs.Prelude.{IfOk}}
 use Rattle.pc_ground.specs.declared.row.Row.{Row}
-use Rattle.solver.specs.Spelled.{spelled}
-use Rattle.solver.specs.Places.{AreChosen}
-use Rattle.solver.specs.Opens.{positions}
+use Rattle.solver.specs.{Spelled.{spelled}, Places.{AreChosen}, Opens.{positions}}
 use Rattle.solver.proofs.candidates.candidates.Goals as goal
 
 pub returns-in-One-clause-none : goal.returns-in-One-clause-none

@@ -1,7 +1,5 @@
 use Rattle.std.proofs.Common.{false, arith}
-use Rattle.solver.specs.Spelled.{spelled}
-use Rattle.solver.specs.Opens.{positions}
-use Rattle.solver.proofs.IsChosen.{noted_all, noted_none, chosen_more, chosen_all, chosen_plain}
+use Rattle.solver.{specs.{Spelled.{spelled}, Opens.{positions}}, proofs.IsChosen.{noted_all, noted_none, chosen_more, chosen_all, chosen_plain}}
 use Rattle.solver.proofs.candidates.plain_candidates.Goals as goal
 
 pub loop-position-preserved : goal.loop-position-preserved

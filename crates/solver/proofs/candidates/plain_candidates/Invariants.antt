@@ -1,9 +1,5 @@
-use Rattle.std.proofs.Common.{◌≡◌, false, []}
-use Rattle.std.specs.Prelude.{All}
-use Rattle.solver.specs.Spelled.{spelled}
-use Rattle.solver.specs.Places.{place_signed, IsCandidate}
-use Rattle.solver.specs.Opens.{positions}
-use Rattle.solver.proofs.IsChosen.{ChosenBelow}
+use Rattle.std.{proofs.Common.{◌≡◌, false, []}, specs.Prelude.{All}}
+use Rattle.solver.{specs.{Spelled.{spelled}, Places.{place_signed, IsCandidate}, Opens.{positions}}, proofs.IsChosen.{ChosenBelow}}
 use Rattle.solver.proofs.candidates.plain_candidates.Given as goal
 
 abbrev pub invariant-loop-position : goal.invariant-loop-position

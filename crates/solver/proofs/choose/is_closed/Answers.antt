@@ -1,5 +1,4 @@
-use Rattle.std.proofs.Common.{ℕ, List, sym, subst}
-use Rattle.std.specs.Prelude.{All}
+use Rattle.std.{proofs.Common.{ℕ, List, sym, subst}, specs.Prelude.{All}}
 use Rattle.pc_ground.specs.declared.row.Row.{Row}
 use Rattle.solver.specs.Below.{IsRowBelow}
 use Rattle.solver.proofs.choose.is_closed.Goals as goal

@@ -1,7 +1,6 @@
 use Rattle.std.proofs.Common.{ℕ, subst}
 use Rattle.pc_ground.specs.declared.row.RowKind.{RowKind}
-use Rattle.solver.specs.Below.{IsKindBelow}
-use Rattle.solver.proofs.HasAsserted.{added_further}
+use Rattle.solver.{specs.Below.{IsKindBelow}, proofs.HasAsserted.{added_further}}
 use Rattle.solver.proofs.choose.row_clashes.Goals as goal
 
 pub would_clash-requires : goal.would_clash-requires

@@ -1,8 +1,5 @@
-use Rattle.std.proofs.Common.{ℕ, length, ap, subst, arith}
-use Rattle.std.specs.Prelude.{Option}
-use Rattle.solver.specs.Spelled.{spelled}
-use Rattle.solver.specs.Places.{IsDeniedIn}
-use Rattle.solver.proofs.HasAsserted.{length_spelled}
+use Rattle.std.{proofs.Common.{ℕ, length, ap, subst, arith}, specs.Prelude.{Option}}
+use Rattle.solver.{specs.{Spelled.{spelled}, Places.{IsDeniedIn}}, proofs.HasAsserted.{length_spelled}}
 use Rattle.solver.proofs.choose.side_clashes.Goals as goal
 
 pub part_clashes-requires-clause-root : goal.part_clashes-requires-clause-root

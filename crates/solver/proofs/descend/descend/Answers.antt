@@ -1,21 +1,10 @@
-use Rattle.std.proofs.Common.{◌≡◌, ◌≤◌, ◌++◌, ◌∷◌, List, [], length, ap, sym, ◌∙◌, subst, arith}
-use Rattle.std.specs.Prelude.{Option}
-use Rattle.pc_common.specs.World.{Node}
-use Rattle.pc_common.specs.Steps.{Step}
+use Rattle.std.{proofs.Common.{◌≡◌, ◌≤◌, ◌++◌, ◌∷◌, List, [], length, ap, sym, ◌∙◌, subst, arith}, specs.Prelude.{Option}}
+use Rattle.pc_common.specs.{World.{Node}, Steps.{Step}}
 use Rattle.pc_ground.specs.Refutes.{literals_of}
-use Rattle.order_graph.specs.Clashes.{leaf_of}
-use Rattle.order_graph.specs.declared.clash.Clash.{Clash}
-use Rattle.solver.specs.Renamed.{node_at, renamed_leaf}
-use Rattle.solver.specs.Spelled.{spelled}
-use Rattle.solver.specs.Places.{side_positions, IsSideIn}
-use Rattle.solver.specs.Leaves.{clash_step}
-use Rattle.solver.specs.Opens.{positions, opens, KeepsState, state_of, HasAsserted}
-use Rattle.solver.specs.Branches.{branches_with}
-use Rattle.solver.specs.Weights.{weight}
-use Rattle.solver.specs.declared.side.Side.{Side}
-use Rattle.solver.specs.declared.later.Later.{Later}
-use Rattle.solver.proofs.ClashLeaf.{clash_leaf, clash_closes}
-use Rattle.solver.proofs.KeepsState.{closed_kept, closed_all, entered_kept}
+use Rattle.order_graph.specs.{Clashes.{leaf_of}, declared.clash.Clash.{Clash}}
+use Rattle.solver.specs.{Renamed.{node_at, renamed_leaf}, Spelled.{spelled}, Places.{side_positions, IsSideIn}, Leaves.{clash_step}}
+use Rattle.solver.specs.{Opens.{positions, opens, KeepsState, state_of, HasAsserted}, Branches.{branches_with}, Weights.{weight}, declared.side.Side.{Side}}
+use Rattle.solver.{specs.declared.later.Later.{Later}, proofs.{ClashLeaf.{clash_leaf, clash_closes}, KeepsState.{closed_kept, closed_all, entered_kept}}}
 use Rattle.solver.proofs.HasDescended.{clash_in, one_open, longer_push, lighter_closed, next_inside}
 use Rattle.solver.proofs.descend.descend.Goals as goal
 

@@ -1,9 +1,5 @@
 use Rattle.std.proofs.Common.{◌≤◌, length}
-use Rattle.solver.specs.Spelled.{spelled}
-use Rattle.solver.specs.Places.{side_positions, IsSideIn}
-use Rattle.solver.specs.Branches.{branches_with, HasOpenBranch}
-use Rattle.solver.specs.Weights.{weight}
-use Rattle.solver.specs.Descents.{IsLonger}
+use Rattle.solver.specs.{Spelled.{spelled}, Places.{side_positions, IsSideIn}, Branches.{branches_with, HasOpenBranch}, Weights.{weight}, Descents.{IsLonger}}
 use Rattle.solver.proofs.descend.descend.Given as goal
 
 abbrev pub invariant-loop-branch : goal.invariant-loop-branch

@@ -1,7 +1,6 @@
 use Rattle.std.proofs.lemmas.Result.{IfOk-weaker}
 use Rattle.order_graph.specs.Adding.{IsAdded}
-use Rattle.solver.specs.Opens.{HasAddedRow}
-use Rattle.solver.proofs.HasAsserted.{row_added}
+use Rattle.solver.{specs.Opens.{HasAddedRow}, proofs.HasAsserted.{row_added}}
 use Rattle.solver.proofs.enter.add_row.Goals as goal
 
 pub returns-in-Lit : goal.returns-in-Lit

@@ -1,15 +1,8 @@
-use Rattle.std.proofs.Common.{◌+◌, ℕ, ◌++◌, refl, sym, ap, ◌∙◌, subst, arith}
-use Rattle.std.specs.Prelude.{Option, All}
-use Rattle.pc_ground.specs.Tree.{turned}
-use Rattle.pc_ground.specs.Rows.{turned_row, turned_rows}
-use Rattle.pc_ground.specs.Refutes.{all_signed, signed, subtree_at}
-use Rattle.pc_ground.specs.Walks.{Walk}
+use Rattle.std.{proofs.Common.{◌+◌, ℕ, ◌++◌, refl, sym, ap, ◌∙◌, subst, arith}, specs.Prelude.{Option, All}}
+use Rattle.pc_ground.specs.{Tree.{turned}, Rows.{turned_row, turned_rows}, Refutes.{all_signed, signed, subtree_at}, Walks.{Walk}}
 use Rattle.pc_ground.proofs.Turned.{size_turned}
 use Rattle.order_graph.specs.declared.clash.Clash.{Clash}
-use Rattle.solver.specs.Below.{IsRowBelow}
-use Rattle.solver.specs.Spelled.{spelled}
-use Rattle.solver.specs.Places.{asserted_in, asserted_at}
-use Rattle.solver.specs.Opens.{positions, HasAssertedRow}
+use Rattle.solver.specs.{Below.{IsRowBelow}, Spelled.{spelled}, Places.{asserted_in, asserted_at}, Opens.{positions, HasAssertedRow}}
 use Rattle.solver.proofs.IsSpelled.{turned_flat, turned_at}
 use Rattle.solver.proofs.HasAsserted.{length_spelled, walk_start, walk_step, positions_push, literals_push, further_same, further_more, kept_push, part_clash, whole_push, kept_same, stride_pos, turned_below, row_below}
 use Rattle.solver.proofs.enter.enter_part.Goals as goal
@@ -49,8 +42,9 @@ enter_row-requires g c =
     let here = c.loop-at.invariant in
     let B : ℕ → Type 0 = λ n. All (IsRowBelow n) c.args.tree.now.rows in
     let below = subst B (sym (here.further.same_nodes ∙ c.requires.nodes)) c.row.ensures.numbered.below in record {
-      below = turned_below c.loop-at.graph.nodes c.args.negated c.row-in-loop-at.result c.turned-row.result
-          (row_below c.loop-at.graph.nodes c.args.tree.now.rows c.loop-at.at c.row-in-loop-at.result below c.row-in-loop-at.ensures.row) c.turned-row.ensures;
+      below = turned_below c.loop-at.graph.nodes c.args.negated c.row-in-loop-at.result c.negate_if-row.result
+          (row_below c.loop-at.graph.nodes c.args.tree.now.rows c.loop-at.at c.row-in-loop-at.result below c.row-in-loop-at.ensures.row)
+          c.negate_if-row.ensures;
       small = omega (arith, c.loop-at-test.true, here.end, c.row-in-loop-at.ensures.bound);
     }
 
@@ -61,9 +55,9 @@ pub returns-in-Some-clause-entered : goal.returns-in-Some-clause-entered
 returns-in-Some-clause-entered g c =
     let rows = c.args.tree.now.rows in
     let n = c.args.negated in
-    let row = c.turned-row.result in
+    let row = c.negate_if-row.result in
     let here = c.loop-at.invariant in
-    let at = turned_at n rows c.loop-at.at c.row-in-loop-at.result row c.row-in-loop-at.ensures.row c.turned-row.ensures in
+    let at = turned_at n rows c.loop-at.at c.row-in-loop-at.result row c.row-in-loop-at.ensures.row c.negate_if-row.ensures in
     let step = walk_step (turned_rows n rows) _ c.loop-at.at here.walk.0 row here.walk.1 c.loop-at-test.true at in
     let old = positions c.loop-at.asserted in
     let P : Option Clash → Type 0 = HasAssertedRow row _ c.loop-at.graph c.loop-at.asserted c.enter_row.new.graph c.enter_row.new.asserted in
@@ -78,17 +72,17 @@ overflow_add-at g c =
     let rows = c.args.tree.now.rows in
     let n = c.args.negated in
     let here = c.loop-at.invariant in
-    let at = turned_at n rows c.loop-at.at c.row-in-loop-at.result c.turned-row.result c.row-in-loop-at.ensures.row c.turned-row.ensures in
-    let step = walk_step (turned_rows n rows) _ c.loop-at.at here.walk.0 c.turned-row.result here.walk.1 c.loop-at-test.true at in
+    let at = turned_at n rows c.loop-at.at c.row-in-loop-at.result c.negate_if-row.result c.row-in-loop-at.ensures.row c.negate_if-row.ensures in
+    let step = walk_step (turned_rows n rows) _ c.loop-at.at here.walk.0 c.negate_if-row.result here.walk.1 c.loop-at-test.true at in
     omega (arith, step.3, c.stride-at.ensures, here.end, c.row-in-loop-at.ensures.bound)
 
 pub loop-at-preserved : goal.loop-at-preserved
 loop-at-preserved g c =
     let rows = c.args.tree.now.rows in
     let n = c.args.negated in
-    let row = c.turned-row.result in
+    let row = c.negate_if-row.result in
     let here = c.loop-at.invariant in
-    let at = turned_at n rows c.loop-at.at c.row-in-loop-at.result row c.row-in-loop-at.ensures.row c.turned-row.ensures in
+    let at = turned_at n rows c.loop-at.at c.row-in-loop-at.result row c.row-in-loop-at.ensures.row c.negate_if-row.ensures in
     let step = walk_step (turned_rows n rows) _ c.loop-at.at here.walk.0 row here.walk.1 c.loop-at-test.true at in
     let old = c.loop-at.asserted in
     let new = c.enter_row.new.asserted in
@@ -113,8 +107,8 @@ loop-at-smaller g c =
     let rows = c.args.tree.now.rows in
     let n = c.args.negated in
     let here = c.loop-at.invariant in
-    let row = c.turned-row.result in
-    let at = turned_at n rows c.loop-at.at c.row-in-loop-at.result row c.row-in-loop-at.ensures.row c.turned-row.ensures in
+    let row = c.negate_if-row.result in
+    let at = turned_at n rows c.loop-at.at c.row-in-loop-at.result row c.row-in-loop-at.ensures.row c.negate_if-row.ensures in
     let step = walk_step (turned_rows n rows) _ c.loop-at.at here.walk.0 row here.walk.1 c.loop-at-test.true at in
     let pos = stride_pos (turned_rows n rows) (turned n (spelled rows)) c.loop-at.at row (turned_flat n rows c.row.ensures.numbered.tree) at in
     omega (arith, step.3, pos, c.stride-at.ensures, c.loop-at-test.true)

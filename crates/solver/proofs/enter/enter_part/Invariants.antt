@@ -1,10 +1,6 @@
 use Rattle.std.proofs.Common.{◌≡◌, ◌≤◌, ◌-◌, ℕ, List, ◌++◌, length, take}
-use Rattle.pc_ground.specs.Rows.{turned_rows}
-use Rattle.pc_ground.specs.Refutes.{all_signed, literals_of}
-use Rattle.pc_ground.specs.Walks.{Walk}
-use Rattle.solver.specs.Spelled.{spelled}
-use Rattle.solver.specs.Places.{asserted_at}
-use Rattle.solver.specs.Opens.{positions, IsFurther}
+use Rattle.pc_ground.specs.{Rows.{turned_rows}, Refutes.{all_signed, literals_of}, Walks.{Walk}}
+use Rattle.solver.specs.{Spelled.{spelled}, Places.{asserted_at}, Opens.{positions, IsFurther}}
 use Rattle.solver.proofs.enter.enter_part.Given as goal
 
 -- the positions so far and those that the walk still comes to are those of the whole part

@@ -1,10 +1,6 @@
-use Rattle.std.proofs.Common.{◌≡◌, length, take, subst, ◌∙◌}
-use Rattle.std.specs.Prelude.{Option}
-use Rattle.order_graph.specs.declared.clash.Clash.{Clash}
-use Rattle.order_graph.proofs.Results.{if_ok}
-use Rattle.solver.specs.Spelled.{spelled}
-use Rattle.solver.specs.Places.{denied_positions, asserted_at, side_positions}
-use Rattle.solver.specs.Opens.{IsFurther, HasAsserted}
+use Rattle.std.{proofs.Common.{◌≡◌, length, take, subst, ◌∙◌}, specs.Prelude.{Option}}
+use Rattle.order_graph.{specs.declared.clash.Clash.{Clash}, proofs.Results.{if_ok}}
+use Rattle.solver.specs.{Spelled.{spelled}, Places.{denied_positions, asserted_at, side_positions}, Opens.{IsFurther, HasAsserted}}
 use Rattle.solver.proofs.HasAsserted.{asserted_clash, asserted_then, further_more, take_through}
 use Rattle.solver.proofs.enter.enter_side.Goals as goal
 

@@ -1,15 +1,9 @@
-use Rattle.std.proofs.Common.{◌≡◌, sym, ◌∙◌, subst, ap, arith, List, [], ℕ, Bool, eqb-true}
+use Rattle.std.proofs.{Common.{◌≡◌, sym, ◌∙◌, subst, ap, arith, List, [], ℕ, Bool, eqb-true}, lemmas.List.{nil_from_length, append-nil}}
 use Rattle.std.specs.Prelude.{All, Option, IfSome}
-use Rattle.std.proofs.lemmas.List.{nil_from_length, append-nil}
 use Rattle.pc_ground.proofs.FlatRows.{size_pos}
 use Rattle.order_graph.specs.Ways.{IsBelow}
-use Rattle.solver.specs.declared.place.Place.{Place}
-use Rattle.solver.specs.Spelled.{spelled}
-use Rattle.solver.specs.Places.{place_signed, IsCandidate, AreChosen}
-use Rattle.solver.specs.Opens.{positions, opens}
-use Rattle.solver.specs.Weights.{weight}
-use Rattle.solver.specs.Descents.{HasDescended}
-use Rattle.solver.proofs.IsTurn.{positions_inside, kept_signs, witness, candidate_small, not_zero}
+use Rattle.solver.specs.{declared.place.Place.{Place}, Spelled.{spelled}, Places.{place_signed, IsCandidate, AreChosen}, Opens.{positions, opens}}
+use Rattle.solver.{specs.{Weights.{weight}, Descents.{HasDescended}}, proofs.IsTurn.{positions_inside, kept_signs, witness, candidate_small, not_zero}}
 use Rattle.solver.proofs.find.find.Goals as goal
 
 pub row-root-requires : goal.row-root-requires

@@ -1,11 +1,6 @@
-use Rattle.std.proofs.Common.{◌≡◌, ◌+◌, ◌&&◌, ◌||◌, ◌++◌, ◌∷◌, [], false, length, take, get_or, sym, ap, ◌∙◌}
+use Rattle.std.proofs.{Common.{◌≡◌, ◌+◌, ◌&&◌, ◌||◌, ◌++◌, ◌∷◌, [], false, length, take, get_or, sym, ap, ◌∙◌}, lemmas.List.{take_more, with_items_is}}
 use Rattle.std.specs.Prelude.{◌==◌}
-use Rattle.std.proofs.lemmas.List.{take_more, with_items_is}
-use Rattle.solver.specs.Opens.{positions}
-use Rattle.solver.specs.Weights.{is_sign, under, is_on}
-use Rattle.solver.specs.Flags.{flag}
-use Rattle.solver.specs.declared.place.Place.{Place}
-use Rattle.solver.proofs.Weight.{on_push}
+use Rattle.solver.{specs.{Opens.{positions}, Weights.{is_sign, under, is_on}, Flags.{flag}, declared.place.Place.{Place}}, proofs.Weight.{on_push}}
 use Rattle.solver.proofs.flags.branch_flags.Goals as goal
 
 pub loop-place-preserved : goal.loop-place-preserved

@@ -1,7 +1,5 @@
 use Rattle.std.proofs.Common.{◌≡◌, ℕ, length, take}
-use Rattle.solver.specs.Flags.{flag}
-use Rattle.solver.specs.Weights.{under, is_on}
-use Rattle.solver.specs.Opens.{positions}
+use Rattle.solver.specs.{Flags.{flag}, Weights.{under, is_on}, Opens.{positions}}
 use Rattle.solver.proofs.flags.branch_flags.Given as goal
 
 abbrev pub invariant-loop-place : goal.invariant-loop-place

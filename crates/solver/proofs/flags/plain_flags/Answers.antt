@@ -1,8 +1,5 @@
-use Rattle.std.proofs.Common.{map, sym, ap, ◌∙◌, arith}
-use Rattle.std.proofs.lemmas.List.{take_all}
-use Rattle.solver.specs.Weights.{is_on}
-use Rattle.solver.specs.declared.place.Place.{Place}
-use Rattle.solver.proofs.Weight.{plain_under}
+use Rattle.std.proofs.{Common.{map, sym, ap, ◌∙◌, arith}, lemmas.List.{take_all}}
+use Rattle.solver.{specs.{Weights.{is_on}, declared.place.Place.{Place}}, proofs.Weight.{plain_under}}
 use Rattle.solver.proofs.flags.plain_flags.Goals as goal
 
 pub returns-clause-flags : goal.returns-clause-flags

@@ -1,7 +1,5 @@
 use Rattle.std.proofs.Common.{◌≡◌, ℕ, length, map, take}
-use Rattle.solver.specs.Flags.{flag}
-use Rattle.solver.specs.Weights.{is_on}
-use Rattle.solver.specs.declared.place.Place.{Place}
+use Rattle.solver.specs.{Flags.{flag}, Weights.{is_on}, declared.place.Place.{Place}}
 use Rattle.solver.proofs.flags.plain_flags.Given as goal
 
 abbrev pub invariant-loop-place : goal.invariant-loop-place

@@ -1,11 +1,6 @@
-use Rattle.std.proofs.Common.{ap, sym, ◌∙◌, length, List, subst, ℕ}
-use Rattle.std.specs.Prelude.{All, Some}
-use Rattle.std.proofs.lemmas.List.Elements.{All-push}
-use Rattle.pc_ground.specs.declared.row.Row.{Row}
-use Rattle.pc_ground.specs.Keys.{renamed_row}
-use Rattle.solver.specs.Renamed.{node_at}
-use Rattle.solver.specs.Below.{IsRowBelow}
-use Rattle.solver.proofs.IsKnown.{map_one_more}
+use Rattle.std.{proofs.{Common.{ap, sym, ◌∙◌, length, List, subst, ℕ}, lemmas.List.Elements.{All-push}}, specs.Prelude.{All, Some}}
+use Rattle.pc_ground.specs.{declared.row.Row.{Row}, Keys.{renamed_row}}
+use Rattle.solver.{specs.{Renamed.{node_at}, Below.{IsRowBelow}}, proofs.IsKnown.{map_one_more}}
 use Rattle.solver.proofs.numbers.number_rows.Goals as goal
 
 pub loop-k-preserved : goal.loop-k-preserved

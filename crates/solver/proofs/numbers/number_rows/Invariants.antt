@@ -1,7 +1,5 @@
-use Rattle.std.proofs.Common.{◌≡◌, take, length}
-use Rattle.std.specs.Prelude.{All}
-use Rattle.solver.specs.Renamed.{rows_over}
-use Rattle.solver.specs.Below.{IsRowBelow}
+use Rattle.std.{proofs.Common.{◌≡◌, take, length}, specs.Prelude.{All}}
+use Rattle.solver.specs.{Renamed.{rows_over}, Below.{IsRowBelow}}
 use Rattle.solver.proofs.numbers.number_rows.Given as goal
 
 abbrev pub invariant-loop-k : goal.invariant-loop-k

@@ -1,10 +1,6 @@
-use Rattle.std.proofs.Common.{◌+◌, ℕ, refl, sym, ap, subst, arith}
-use Rattle.std.specs.Prelude.{Option}
-use Rattle.solver.specs.Spelled.{spelled}
-use Rattle.solver.specs.Places.{place_signed, IsDeniedIn}
-use Rattle.solver.specs.declared.side.Side.{Side}
-use Rattle.solver.proofs.AreTruths.{or_sides, or_left_inside, or_right_inside, denied_in}
-use Rattle.solver.proofs.HasAsserted.{length_spelled}
+use Rattle.std.{proofs.Common.{◌+◌, ℕ, refl, sym, ap, subst, arith}, specs.Prelude.{Option}}
+use Rattle.solver.specs.{Spelled.{spelled}, Places.{place_signed, IsDeniedIn}, declared.side.Side.{Side}}
+use Rattle.solver.proofs.{AreTruths.{or_sides, or_left_inside, or_right_inside, denied_in}, HasAsserted.{length_spelled}}
 use Rattle.solver.proofs.ors.sides.Goals as goal
 
 pub row-requires : goal.row-requires

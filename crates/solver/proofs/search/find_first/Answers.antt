@@ -1,8 +1,7 @@
 use Rattle.std.proofs.Common.{ap, ◌∙◌, [], ◌∷◌, ◌++◌}
 use Rattle.pc_common.specs.Steps.{close, false_step}
 use Rattle.pc_ground.proofs.FlatRows.{size_pos}
-use Rattle.solver.specs.Spelled.{spelled}
-use Rattle.solver.proofs.IsTurn.{false_refuted, whole_false, not_false, first_kept, no_false}
+use Rattle.solver.{specs.Spelled.{spelled}, proofs.IsTurn.{false_refuted, whole_false, not_false, first_kept, no_false}}
 use Rattle.solver.proofs.search.find_first.Goals as goal
 
 pub row-root-requires : goal.row-root-requires

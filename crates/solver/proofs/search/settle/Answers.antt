@@ -1,13 +1,7 @@
 use Rattle.std.proofs.Common.{refl, sym, subst, List, []}
-use Rattle.pc_common.specs.World.{Node}
-use Rattle.pc_common.specs.Steps.{Step}
-use Rattle.pc_ground.specs.Refutes.{IsPartial}
-use Rattle.pc_ground.proofs.Refuted.{refutation_sound}
-use Rattle.solver.specs.Renamed.{tree_over}
-use Rattle.solver.specs.Spelled.{spelled}
-use Rattle.solver.specs.Statuses.{IsStatus}
-use Rattle.solver.specs.declared.find.SearchStatus.{SearchStatus}
-use Rattle.solver.proofs.IsTurn.{searching}
+use Rattle.pc_common.specs.{World.{Node}, Steps.{Step}}
+use Rattle.pc_ground.{specs.Refutes.{IsPartial}, proofs.Refuted.{refutation_sound}}
+use Rattle.solver.{specs.{Renamed.{tree_over}, Spelled.{spelled}, Statuses.{IsStatus}, declared.find.SearchStatus.{SearchStatus}}, proofs.IsTurn.{searching}}
 use Rattle.solver.proofs.search.settle.Goals as goal
 
 pub returns-in-Refuted-clause-turn : goal.returns-in-Refuted-clause-turn

@@ -1,7 +1,6 @@
 use Rattle.std.proofs.Common.{◌≡◌}
 use Rattle.pc_common.specs.World.{Node}
-use Rattle.pc_ground.specs.Tree.{Tree}
-use Rattle.pc_ground.specs.Rows.{rows_of}
+use Rattle.pc_ground.specs.{Tree.{Tree}, Rows.{rows_of}}
 use Rattle.solver.specs.Turns.{IsTurnOfTree, turn_weight}
 use Rattle.solver.proofs.solving.solve.Given as goal
 

@@ -1,6 +1,5 @@
 use Rattle.std.proofs.Common.{refl, sym, ap, arith}
-use Rattle.solver.specs.Flags.{flag}
-use Rattle.solver.proofs.AreTruths.{children_inside, right_is}
+use Rattle.solver.{specs.Flags.{flag}, proofs.AreTruths.{children_inside, right_is}}
 use Rattle.solver.proofs.truths.child_flags.Goals as goal
 
 pub row_at-requires : goal.row_at-requires

@@ -1,6 +1,5 @@
 use Rattle.std.proofs.Common.{◌∙◌}
-use Rattle.solver.specs.Spelled.{spelled}
-use Rattle.solver.proofs.AreTruths.{and_children, or_children, kind_at, met_always, met_never, met_leaf, met_both, met_either}
+use Rattle.solver.{specs.Spelled.{spelled}, proofs.AreTruths.{and_children, or_children, kind_at, met_always, met_never, met_leaf, met_both, met_either}}
 use Rattle.solver.proofs.truths.is_true_at.Goals as goal
 
 pub child_flags-left-requires-clause-inner : goal.child_flags-left-requires-clause-inner

@@ -1,11 +1,6 @@
-use Rattle.std.proofs.Common.{◌≡◌, ℕ}
-use Rattle.std.specs.Prelude.{slice_range, IsTrue, ◌↔◌, Some}
-use Rattle.std.proofs.lemmas.Result.{IfOk-weaker}
-use Rattle.pc_ground.specs.Tree.{Tree}
-use Rattle.pc_ground.specs.Refutes.{subtree_at}
-use Rattle.solver.specs.Spelled.{spelled}
-use Rattle.solver.specs.Met.{IsMet}
-use Rattle.solver.proofs.IsTreePart.{part_spelled, part_below, part_met}
+use Rattle.std.{proofs.{Common.{◌≡◌, ℕ}, lemmas.Result.{IfOk-weaker}}, specs.Prelude.{slice_range, IsTrue, ◌↔◌, Some}}
+use Rattle.pc_ground.specs.{Tree.{Tree}, Refutes.{subtree_at}}
+use Rattle.solver.{specs.{Spelled.{spelled}, Met.{IsMet}}, proofs.IsTreePart.{part_spelled, part_below, part_met}}
 use Rattle.solver.proofs.truths.truth_at.Goals as goal
 
 pub whole_truth-requires-clause-tree : goal.whole_truth-requires-clause-tree

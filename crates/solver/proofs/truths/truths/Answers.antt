@@ -1,5 +1,4 @@
-use Rattle.std.proofs.Common.{◌-◌, length, arith}
-use Rattle.std.proofs.lemmas.List.{length-replicate}
+use Rattle.std.proofs.{Common.{◌-◌, length, arith}, lemmas.List.{length-replicate}}
 use Rattle.solver.proofs.AreTruths.{truths_none}
 use Rattle.solver.proofs.truths.truths.Goals as goal
 

@@ -1,6 +1,5 @@
 use Rattle.std.proofs.Common.{◌≡◌, ◌-◌, length}
-use Rattle.solver.specs.Spelled.{spelled}
-use Rattle.solver.specs.Flags.{AreTruths}
+use Rattle.solver.specs.{Spelled.{spelled}, Flags.{AreTruths}}
 use Rattle.solver.proofs.truths.truths.Given as goal
 
 -- told from the last position on

@@ -1,11 +1,6 @@
-use Rattle.std.proofs.Common.{◌≡◌, ◌<◌, ◌∙◌, Bool, false, length, refl, sym, subst, arith}
-use Rattle.std.specs.Prelude.{IsTrue, ◌↔◌}
-use Rattle.std.proofs.lemmas.List.{get_or_default}
+use Rattle.std.{proofs.{Common.{◌≡◌, ◌<◌, ◌∙◌, Bool, false, length, refl, sym, subst, arith}, lemmas.List.{get_or_default}}, specs.Prelude.{IsTrue, ◌↔◌}}
 use Rattle.pc_ground.proofs.FlatRows.{size_pos}
-use Rattle.solver.specs.Spelled.{spelled}
-use Rattle.solver.specs.Met.{IsMet}
-use Rattle.solver.specs.Flags.{flag}
-use Rattle.solver.proofs.HasAsserted.{length_spelled}
+use Rattle.solver.{specs.{Spelled.{spelled}, Met.{IsMet}, Flags.{flag}}, proofs.HasAsserted.{length_spelled}}
 use Rattle.solver.proofs.truths.whole_truth.Goals as goal
 
 pub row_at-root-requires : goal.row_at-root-requires

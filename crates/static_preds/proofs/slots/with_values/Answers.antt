@@ -1,10 +1,6 @@
 use Rattle.std.proofs.Common.{arith}
-use Rattle.pc_syntax.specs.Closed.{meaning_of, closed_value}
-use Rattle.pc_syntax.specs.IsClosed.{sort_of}
-use Rattle.static_preds.specs.Values.{sort_bound, scope_of}
-use Rattle.static_preds.specs.Values.{meanings}
-use Rattle.static_preds.proofs.Walked.{mapped_more}
-use Rattle.static_preds.proofs.SlotLaws.{slot_more}
+use Rattle.pc_syntax.specs.{Closed.{meaning_of, closed_value}, IsClosed.{sort_of}}
+use Rattle.static_preds.{specs.Values.{sort_bound, scope_of, meanings}, proofs.{Walked.{mapped_more}, SlotLaws.{slot_more}}}
 use Rattle.static_preds.proofs.slots.with_values.Goals as goal
 
 pub loop-k-preserved : goal.loop-k-preserved

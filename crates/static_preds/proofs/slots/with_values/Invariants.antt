@@ -1,11 +1,8 @@
 -- The first k arguments have their slots.
 use Rattle.std.proofs.Common.{◌≡◌, ◌+◌, ◌++◌, length, map, take}
 use Rattle.pc_common.specs.Case.{Case}
-use Rattle.pc_syntax.specs.Closed.{closed_value}
-use Rattle.pc_syntax.specs.IsClosed.{with_sorts}
-use Rattle.static_preds.specs.Values.{scope_of}
-use Rattle.static_preds.specs.Slots.{AreInRange}
-use Rattle.static_preds.specs.Values.{meanings}
+use Rattle.pc_syntax.specs.{Closed.{closed_value}, IsClosed.{with_sorts}}
+use Rattle.static_preds.specs.{Values.{scope_of, meanings}, Slots.{AreInRange}}
 use Rattle.static_preds.proofs.slots.with_values.Given as goal
 
 abbrev pub invariant-loop-k : goal.invariant-loop-k

@@ -1,6 +1,5 @@
 use Rattle.std.proofs.lemmas.Result.{MatchResult-weaker}
-use Rattle.command_base.specs.Inputs.{plain_inputs}
-use Rattle.command_base.proofs.InputsRead.{bytes_end, ended_unread}
+use Rattle.command_base.{specs.Inputs.{plain_inputs}, proofs.InputsRead.{bytes_end, ended_unread}}
 use Rattle.sweep_command.proofs.PatternFiles.{task_read}
 use Rattle.sweep_command.proofs.inputs.read_task.Goals as goal
 

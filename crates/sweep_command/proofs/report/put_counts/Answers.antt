@@ -1,8 +1,6 @@
-use Rattle.std.proofs.Common.{◌∙◌, ap}
-use Rattle.std.specs.Fmt.{decimal}
+use Rattle.std.{proofs.Common.{◌∙◌, ap}, specs.Fmt.{decimal}}
 use Rattle.pc_common.proofs.Rooms.{puts_text}
-use Rattle.sweep_command.specs.Texts.{observables, unobservables}
-use Rattle.sweep_command.proofs.SweepTexts.{counts_of}
+use Rattle.sweep_command.{specs.Texts.{observables, unobservables}, proofs.SweepTexts.{counts_of}}
 use Rattle.sweep_command.proofs.report.put_counts.Goals as goal
 
 pub returns : goal.returns

@@ -1,8 +1,6 @@
-use Rattle.std.proofs.Common.{refl, ap, ◌∙◌, ◌++◌, ◌<◌, length, arith}
-use Rattle.std.proofs.lemmas.List.{get_or_default}
+use Rattle.std.{proofs.{Common.{refl, ap, ◌∙◌, ◌++◌, ◌<◌, length, arith}, lemmas.List.{get_or_default}}, specs.Prelude.{get_or, false}}
 use Rattle.pc_common.proofs.Rooms.{puts_then, puts_stop, puts_text}
 use Rattle.sweep_command.specs.Texts.{values_text, verdict_word}
-use Rattle.std.specs.Prelude.{get_or, false}
 use Rattle.sweep_command.proofs.report.put_row.Goals as goal
 
 pub returns-in_err-put : goal.returns-in_err-put

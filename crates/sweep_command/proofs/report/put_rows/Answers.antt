@@ -1,11 +1,7 @@
-use Rattle.std.proofs.Common.{refl, ap, arith}
-use Rattle.std.specs.List.{flat_map, range_with_len}
-use Rattle.std.proofs.lemmas.List.{take_all}
-use Rattle.pc_common.proofs.Rooms.{puts_text}
-use Rattle.pc_common.proofs.RoomPieces.{puts_next, puts_failed}
+use Rattle.std.{proofs.{Common.{refl, ap, arith}, lemmas.List.{take_all}}, specs.List.{flat_map, range_with_len}}
+use Rattle.pc_common.proofs.{Rooms.{puts_text}, RoomPieces.{puts_next, puts_failed}}
 use Rattle.pattern_reader.specs.Rows.{rows_of}
-use Rattle.sweep_command.specs.Texts.{row_text}
-use Rattle.sweep_command.proofs.SweepTexts.{row_in, row_at, length_rows, puts_whole}
+use Rattle.sweep_command.{specs.Texts.{row_text}, proofs.SweepTexts.{row_in, row_at, length_rows, puts_whole}}
 use Rattle.sweep_command.proofs.report.put_rows.Goals as goal
 
 pub returns-in_err-put_row : goal.returns-in_err-put_row

@@ -1,8 +1,6 @@
 -- The first rows were put.
-use Rattle.std.proofs.Common.{take}
-use Rattle.std.specs.List.{flat_map, range_with_len}
-use Rattle.pc_common.specs.Writes.{success}
-use Rattle.pc_common.specs.Room.{Puts}
+use Rattle.std.{proofs.Common.{take}, specs.List.{flat_map, range_with_len}}
+use Rattle.pc_common.specs.{Writes.{success}, Room.{Puts}}
 use Rattle.pattern_reader.specs.Rows.{rows_of}
 use Rattle.sweep_command.specs.Texts.{row_text}
 use Rattle.sweep_command.proofs.report.put_rows.Given as goal

@@ -1,13 +1,8 @@
-use Rattle.std.proofs.Common.{refl, ap, arith}
-use Rattle.std.specs.List.{flat_map}
-use Rattle.std.proofs.lemmas.List.{take_all}
-use Rattle.std.proofs.lemmas.Option.{slice_get_within}
-use Rattle.pc_common.proofs.Rooms.{puts_text}
-use Rattle.pc_common.proofs.RoomPieces.{puts_next, puts_failed}
+use Rattle.std.{proofs.{Common.{refl, ap, arith}, lemmas.{List.{take_all}, Option.{slice_get_within}}}, specs.List.{flat_map}}
+use Rattle.pc_common.proofs.{Rooms.{puts_text}, RoomPieces.{puts_next, puts_failed}}
 use Rattle.pc_case.specs.Plain.{plain_value}
 use Rattle.pattern_reader.specs.Rows.{values_in_row}
-use Rattle.sweep_command.specs.Texts.{value_text}
-use Rattle.sweep_command.proofs.SweepTexts.{text_at, length_values, puts_whole}
+use Rattle.sweep_command.{specs.Texts.{value_text}, proofs.SweepTexts.{text_at, length_values, puts_whole}}
 use Rattle.sweep_command.proofs.report.put_values.Goals as goal
 
 pub returns-in_err-put_value : goal.returns-in_err-put_value

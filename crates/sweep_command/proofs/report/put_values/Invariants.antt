@@ -1,8 +1,6 @@
 -- The first values were put.
-use Rattle.std.proofs.Common.{take}
-use Rattle.std.specs.List.{flat_map}
-use Rattle.pc_common.specs.Writes.{success}
-use Rattle.pc_common.specs.Room.{Puts}
+use Rattle.std.{proofs.Common.{take}, specs.List.{flat_map}}
+use Rattle.pc_common.specs.{Writes.{success}, Room.{Puts}}
 use Rattle.pattern_reader.specs.Rows.{values_in_row}
 use Rattle.sweep_command.specs.Texts.{value_text}
 use Rattle.sweep_command.proofs.report.put_values.Given as goal

@@ -1,7 +1,5 @@
 use Rattle.std.proofs.Common.{◌∙◌, sym}
-use Rattle.pc_ground.specs.Stages.{plain_axioms}
-use Rattle.pc_ground.specs.GroundTree.{closed_ground_tree}
-use Rattle.pc_ground.specs.declared.version.Version.TheVariants.{One}
+use Rattle.pc_ground.specs.{Stages.{plain_axioms}, GroundTree.{closed_ground_tree}, declared.version.Version.TheVariants.{One}}
 use Rattle.sweep_command.proofs.RowAnswers.{row_folded, answered}
 use Rattle.sweep_command.proofs.row.is_observable.Goals as goal
 

@@ -1,9 +1,7 @@
-use Rattle.std.proofs.Common.{ℕ, Bool, [], ◌∷◌, length, ap, ◌∙◌, arith}
-use Rattle.std.proofs.lemmas.List.{length-append}
+use Rattle.std.proofs.{Common.{ℕ, Bool, [], ◌∷◌, length, ap, ◌∙◌, arith}, lemmas.List.{length-append}}
 use Rattle.pc_ground.specs.Stages.{plain_axioms}
 use Rattle.pattern_reader.specs.Rows.{row_case}
-use Rattle.sweep_command.specs.Sweeps.{IsAnswerTo}
-use Rattle.sweep_command.proofs.RowAnswers.{answers_more}
+use Rattle.sweep_command.{specs.Sweeps.{IsAnswerTo}, proofs.RowAnswers.{answers_more}}
 use Rattle.sweep_command.proofs.sweeping.sweep.Goals as goal
 
 pub loop-row-preserved : goal.loop-row-preserved

@@ -1,6 +1,5 @@
 use Rattle.command_line.specs.Command.{plain_command, word_bytes}
-use Rattle.top_call.specs.AnswerTexts.{answer_status, answer_text}
-use Rattle.top_call.proofs.WordsOutcomes.{usage_outcome, command_outcome}
+use Rattle.top_call.{specs.AnswerTexts.{answer_status, answer_text}, proofs.WordsOutcomes.{usage_outcome, command_outcome}}
 use Rattle.top_call.proofs.top.decide.Goals as goal
 
 pub returns-in-None-clause-outcome : goal.returns-in-None-clause-outcome

@@ -1,5 +1,4 @@
-use Rattle.std.proofs.Common.{map, drop}
-use Rattle.std.specs.Prelude.{◌↔◌}
+use Rattle.std.{proofs.Common.{map, drop}, specs.Prelude.{◌↔◌}}
 use Rattle.pc_common.specs.Chain.{Leads}
 use Rattle.pc_ground.specs.Keys.{key_node}
 use Rattle.tree_check.specs.Facts.{HasEdge}

@@ -1,5 +1,4 @@
-use Rattle.std.proofs.Common.{map}
-use Rattle.std.specs.Prelude.{◌↔◌}
+use Rattle.std.{proofs.Common.{map}, specs.Prelude.{◌↔◌}}
 use Rattle.pc_ground.specs.Keys.{key_node}
 use Rattle.tree_check.proofs.Closes.{cycle_closes, path_closes, absent_closes, false_closes}
 use Rattle.tree_check.proofs.closing.closes.Goals as goal

@@ -1,12 +1,6 @@
 use Rattle.std.proofs.Common.{◌+◌, ◌∙◌, ℕ, arith, sym, ap, subst}
-use Rattle.pc_ground.specs.declared.node_key.NodeKey.{NodeKey}
-use Rattle.pc_ground.specs.declared.row.Row.{Row}
-use Rattle.pc_ground.specs.Keys.{row_node}
-use Rattle.pc_ground.specs.Refutes.{signed}
-use Rattle.pc_ground.specs.Walks.{stride}
-use Rattle.tree_check.specs.Facts.{facts_of_kind, HasAdded}
-use Rattle.pc_ground.specs.Rows.{turned_row}
-use Rattle.tree_check.proofs.OrRows.{turned_here}
+use Rattle.pc_ground.specs.{declared.{node_key.NodeKey.{NodeKey}, row.Row.{Row}}, Keys.{row_node}, Refutes.{signed}, Walks.{stride}, Rows.{turned_row}}
+use Rattle.tree_check.{specs.Facts.{facts_of_kind, HasAdded}, proofs.OrRows.{turned_here}}
 use Rattle.tree_check.proofs.SideFacts.{HasWalked, walked_start, walked_step, walked_within, walked_all, walked_first, row_stride, stride_node}
 use Rattle.tree_check.proofs.entering.add_part.Goals as goal
 
@@ -25,7 +19,7 @@ loop-at-smaller c =
     let n = c.args.negated in let row = c.row-in-loop-at.result in
     let r = turned_row n row in
     let here = turned_here n c.args.tree.now c.loop-at.at row c.row-in-loop-at.ensures.row in
-    let step = c.stride-at.ensures ∙ ap (λ (x : Row NodeKey). stride x) c.turned-row.ensures ∙ sym (stride_node r.kind r.skip) in
+    let step = c.stride-at.ensures ∙ ap (λ (x : Row NodeKey). stride x) c.negate_if-row.ensures ∙ sym (stride_node r.kind r.skip) in
     omega (arith, c.loop-at-test.true, step, row_stride c.args.tree.now n c.loop-at.at (row_node r) c.row-in-loop-at.ensures.one_tree here)
 
 pub loop-at-preserved : goal.loop-at-preserved
@@ -37,8 +31,8 @@ loop-at-preserved c =
     let A : Row NodeKey → Type 0 = λ x. HasAdded c.loop-at.facts (facts_of_kind (signed n at) (row_node x).kind) c.add_row.new.facts in
     let here = turned_here n rows at row c.row-in-loop-at.ensures.row in
     let next = walked_step rows n _ _ at _ _ c.add_row.new.facts (row_node r) before.walked c.loop-at-test.true here
-    (subst A c.turned-row.ensures c.in_ok-add_row.ensures) in
-    let step = c.stride-at.ensures ∙ ap (λ (x : Row NodeKey). stride x) c.turned-row.ensures ∙ sym (stride_node r.kind r.skip) in
+    (subst A c.negate_if-row.ensures c.in_ok-add_row.ensures) in
+    let step = c.stride-at.ensures ∙ ap (λ (x : Row NodeKey). stride x) c.negate_if-row.ensures ∙ sym (stride_node r.kind r.skip) in
     let P : ℕ → Type 0 = λ m. HasWalked rows n c.args.root (c.args.root + c.row.result.skip) (at + m) c.args.facts.now c.add_row.new.facts in
     record { end = before.end; walked = subst P (sym step) next }
 
@@ -57,6 +51,6 @@ overflow_add-at c =
     let A : Row NodeKey → Type 0 = λ x. HasAdded c.loop-at.facts (facts_of_kind (signed n at) (row_node x).kind) c.add_row.new.facts in
     let here = turned_here n rows at row c.row-in-loop-at.ensures.row in
     let next = walked_step rows n _ _ at _ _ c.add_row.new.facts (row_node r) before.walked c.loop-at-test.true here
-    (subst A c.turned-row.ensures c.in_ok-add_row.ensures) in
-    let step = c.stride-at.ensures ∙ ap (λ (x : Row NodeKey). stride x) c.turned-row.ensures ∙ sym (stride_node r.kind r.skip) in
+    (subst A c.negate_if-row.ensures c.in_ok-add_row.ensures) in
+    let step = c.stride-at.ensures ∙ ap (λ (x : Row NodeKey). stride x) c.negate_if-row.ensures ∙ sym (stride_node r.kind r.skip) in
     omega (arith, walked_within _ _ _ _ _ _ _ next, before.end, step, c.show_size.ensures.bound)

@@ -1,8 +1,6 @@
-use Rattle.std.proofs.Common.{List, subst}
-use Rattle.std.proofs.lemmas.Result.{on_ok_weaker}
+use Rattle.std.proofs.{Common.{List, subst}, lemmas.Result.{on_ok_weaker}}
 use Rattle.pc_ground.specs.Refutes.{signed}
-use Rattle.tree_check.specs.Facts.{PlainFact, HasAdded}
-use Rattle.tree_check.proofs.BranchFacts.{facts_of_lit, fact_of_position}
+use Rattle.tree_check.{specs.Facts.{PlainFact, HasAdded}, proofs.BranchFacts.{facts_of_lit, fact_of_position}}
 use Rattle.tree_check.proofs.entering.add_row.Goals as goal
 
 pub returns-in-Lit : goal.returns-in-Lit

@@ -1,7 +1,5 @@
-use Rattle.std.proofs.Common.{ℕ, Option, sym, subst}
-use Rattle.std.proofs.lemmas.Result.{on_ok_weaker}
-use Rattle.tree_check.specs.Sides.{with_denied}
-use Rattle.tree_check.specs.OpenBranches.{IsBranch}
+use Rattle.std.proofs.{Common.{ℕ, Option, sym, subst}, lemmas.Result.{on_ok_weaker}}
+use Rattle.tree_check.specs.{Sides.{with_denied}, OpenBranches.{IsBranch}}
 use Rattle.tree_check.proofs.entering.enter_denied.Goals as goal
 
 pub returns-in-None-clause-entered : goal.returns-in-None-clause-entered

@@ -1,11 +1,6 @@
-use Rattle.std.proofs.Common.{◌∙◌, ap, sym}
-use Rattle.std.proofs.lemmas.Result.{on_ok_weaker}
-use Rattle.pc_ground.specs.declared.node_key.NodeKey.{NodeKey}
-use Rattle.pc_ground.specs.declared.row.Row.{Row}
-use Rattle.pc_ground.specs.Keys.{key_node, literal_node, renamed_kind, row_node}
-use Rattle.pc_ground.specs.Rows.{turned_row}
-use Rattle.tree_check.proofs.OrRows.{turned_here}
-use Rattle.tree_check.proofs.SideFacts.{entered_again, entered_all, entered_literal}
+use Rattle.std.proofs.{Common.{◌∙◌, ap, sym}, lemmas.Result.{on_ok_weaker}}
+use Rattle.pc_ground.specs.{declared.{node_key.NodeKey.{NodeKey}, row.Row.{Row}}, Keys.{key_node, literal_node, renamed_kind, row_node}, Rows.{turned_row}}
+use Rattle.tree_check.proofs.{OrRows.{turned_here}, SideFacts.{entered_again, entered_all, entered_literal}}
 use Rattle.tree_check.proofs.entering.enter_part.Goals as goal
 
 pub returns-in-Lit-clause-first : goal.returns-in-Lit-clause-first
@@ -18,7 +13,7 @@ returns-in-Lit-clause-entered c =
     on_ok_weaker c.add_literal.result
     (λ h t ps flat b. entered_literal t n rows (row_node r) (literal_node c.in-Lit.literal) c.args.facts.now c.add_literal.new.facts ps c.args.root
     flat (turned_here n rows c.args.root c.row.result c.row.ensures.row)
-    (ap (λ (x : Row NodeKey). renamed_kind key_node x.kind) (sym c.turned.ensures) ∙ ap (renamed_kind key_node) c.in-Lit.is) h b) c.add_literal.ensures
+    (ap (λ (x : Row NodeKey). renamed_kind key_node x.kind) (sym c.negate_if.ensures) ∙ ap (renamed_kind key_node) c.in-Lit.is) h b) c.add_literal.ensures
 
 pub returns-then-has-clause-entered : goal.returns-then-has-clause-entered
 returns-then-has-clause-entered c = λ t ps flat b. entered_again t c.args.facts.now ps c.args.negated c.args.root (c.has.ensures.0 c.if-has.true) b

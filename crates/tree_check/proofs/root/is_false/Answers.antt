@@ -1,5 +1,4 @@
-use Rattle.std.proofs.Common.{◌∙◌, sym, ap, refl}
-use Rattle.std.specs.Prelude.{slice_get}
+use Rattle.std.{proofs.Common.{◌∙◌, sym, ap, refl}, specs.Prelude.{slice_get}}
 use Rattle.tree_check.proofs.OrRows.{row_never, never_row}
 use Rattle.tree_check.proofs.root.is_false.Goals as goal
 

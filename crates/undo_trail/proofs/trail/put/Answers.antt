@@ -1,6 +1,5 @@
 use Rattle.std.proofs.Common.{◌++◌, ◌∷◌, [], sym, vec_len, vec_capacity}
-use Rattle.undo_trail.proofs.Grows.{change, grows_one}
-use Rattle.undo_trail.proofs.OnResults.{pushed}
+use Rattle.undo_trail.proofs.{Grows.{change, grows_one}, OnResults.{pushed}}
 use Rattle.undo_trail.proofs.trail.put.Goals as goal
 
 pub returns-clause-grows : goal.returns-clause-grows

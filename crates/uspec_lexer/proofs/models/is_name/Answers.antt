@@ -1,6 +1,5 @@
 use Rattle.std.proofs.Common.{◌≡◌, sym, ◌∙◌}
-use Rattle.uspec_lexer.specs.Bytes.{is_name}
-use Rattle.uspec_lexer.proofs.Names.{name_is_piece, no_name, name_rest}
+use Rattle.uspec_lexer.{specs.Bytes.{is_name}, proofs.Names.{name_is_piece, no_name, name_rest}}
 use Rattle.uspec_lexer.proofs.models.is_name.Goals as goal
 
 pub returns-else-is_letter-clause-piece : goal.returns-else-is_letter-clause-piece

@@ -1,6 +1,5 @@
 use Rattle.ll_grammar.proofs.Faults.{one_answer}
-use Rattle.uspec_parser.specs.Marks.{IsMarkedModel, IsMarkedFormula}
-use Rattle.uspec_parser.specs.Answers.{terminals}
+use Rattle.uspec_parser.specs.{Marks.{IsMarkedModel, IsMarkedFormula}, Answers.{terminals}}
 use Rattle.uspec_parser.proofs.laws.one_answer.Goals as goal
 
 pub returns-clause-model : goal.returns-clause-model

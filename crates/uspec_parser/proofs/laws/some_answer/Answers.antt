@@ -1,5 +1,4 @@
-use Rattle.uspec_parser.specs.Answers.{terminals}
-use Rattle.uspec_parser.proofs.Existence.{model_answer, formula_answer}
+use Rattle.uspec_parser.{specs.Answers.{terminals}, proofs.Existence.{model_answer, formula_answer}}
 use Rattle.uspec_parser.proofs.laws.some_answer.Goals as goal
 
 pub returns-clause-model : goal.returns-clause-model

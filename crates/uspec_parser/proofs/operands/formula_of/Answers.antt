@@ -1,10 +1,7 @@
 use Rattle.std.proofs.Common.{◌≡◌, [], ◌∷◌, sym, ap, ◌∙◌, List, length, refl, arith}
 use Rattle.pc_syntax.specs.Written.{written}
-use Rattle.uspec_parser.specs.Operands.{whole, only, formula_of, Grouped}
-use Rattle.uspec_parser.specs.Grouping.{grouped_before, written_grouping, operands_before}
-use Rattle.uspec_parser.specs.declared.operands.Link.{Link}
-use Rattle.uspec_parser.proofs.GroupedBefore.{grouped_before-push, group-operands}
-use Rattle.uspec_parser.proofs.Steps.{ok_map}
+use Rattle.uspec_parser.specs.{Operands.{whole, only, formula_of, Grouped}, Grouping.{grouped_before, written_grouping, operands_before}}
+use Rattle.uspec_parser.{specs.declared.operands.Link.{Link}, proofs.{GroupedBefore.{grouped_before-push, group-operands}, Steps.{ok_map}}}
 use Rattle.uspec_parser.proofs.operands.formula_of.Goals as goal
 
 pub loop-link-preserved : goal.loop-link-preserved

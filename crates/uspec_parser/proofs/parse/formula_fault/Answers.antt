@@ -1,14 +1,7 @@
 use Rattle.std.proofs.Common.{IfOk, subst}
-use Rattle.ll_grammar.specs.Rules.{Derives}
-use Rattle.ll_grammar.specs.FirstFault.{IsAnswer}
-use Rattle.ll_grammar.proofs.Faults.{if_ok-along}
-use Rattle.uspec_parser.specs.Levels.{level_of}
-use Rattle.uspec_parser.specs.Marks.{IsMarkedFormula}
-use Rattle.uspec_parser.specs.Phrases.{rules}
-use Rattle.uspec_parser.specs.declared.level.Level.{Level}
-use Rattle.uspec_parser.specs.declared.phrase.Phrase.TheVariants.{Operand}
-use Rattle.uspec_parser.proofs.DerivedIsMarked.{marked_formula_of}
-use Rattle.uspec_parser.proofs.MarkedIsDerived.{formula_derived}
+use Rattle.ll_grammar.{specs.{Rules.{Derives}, FirstFault.{IsAnswer}}, proofs.Faults.{if_ok-along}}
+use Rattle.uspec_parser.specs.{Levels.{level_of}, Marks.{IsMarkedFormula}, Phrases.{rules}, declared.{level.Level.{Level}, phrase.Phrase.TheVariants.{Operand}}}
+use Rattle.uspec_parser.proofs.{DerivedIsMarked.{marked_formula_of}, MarkedIsDerived.{formula_derived}}
 use Rattle.uspec_parser.proofs.parse.formula_fault.Goals as goal
 
 pub returns : goal.returns

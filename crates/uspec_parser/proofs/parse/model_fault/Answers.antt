@@ -1,9 +1,5 @@
-use Rattle.ll_grammar.specs.Rules.{Derives}
-use Rattle.ll_grammar.proofs.Faults.{if_ok-along}
-use Rattle.uspec_parser.specs.Marks.{IsMarkedModel}
-use Rattle.uspec_parser.specs.Phrases.{rules}
-use Rattle.uspec_parser.specs.declared.phrase.Phrase.TheVariants.{Items}
-use Rattle.uspec_parser.proofs.DerivedIsMarked.{marked_model_of}
+use Rattle.ll_grammar.{specs.Rules.{Derives}, proofs.Faults.{if_ok-along}}
+use Rattle.uspec_parser.{specs.{Marks.{IsMarkedModel}, Phrases.{rules}, declared.phrase.Phrase.TheVariants.{Items}}, proofs.DerivedIsMarked.{marked_model_of}}
 use Rattle.uspec_parser.proofs.MarkedIsDerived.{model_derived}
 use Rattle.uspec_parser.proofs.parse.model_fault.Goals as goal
 

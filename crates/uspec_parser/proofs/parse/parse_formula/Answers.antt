@@ -1,9 +1,6 @@
 use Rattle.std.proofs.Common.{List, subst, ◌∙◌}
 use Rattle.pc_syntax.specs.Written.{written}
-use Rattle.uspec_parser.specs.Terminals.{Lexeme}
-use Rattle.uspec_parser.specs.Marks.{IsMarkedFormula}
-use Rattle.uspec_parser.specs.Answers.{terminals}
-use Rattle.uspec_parser.proofs.Steps.{RowOf}
+use Rattle.uspec_parser.{specs.{Terminals.{Lexeme}, Marks.{IsMarkedFormula}, Answers.{terminals}}, proofs.Steps.{RowOf}}
 use Rattle.uspec_parser.proofs.Trees.{refusal_is, accepted_is, formula_tree}
 use Rattle.uspec_parser.proofs.parse.parse_formula.Goals as goal
 

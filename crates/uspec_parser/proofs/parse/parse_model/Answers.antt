@@ -1,9 +1,6 @@
 use Rattle.std.proofs.Common.{List, subst, ◌∙◌}
 use Rattle.pc_syntax.specs.Written.{written_model}
-use Rattle.uspec_parser.specs.Terminals.{Lexeme}
-use Rattle.uspec_parser.specs.Marks.{IsMarkedModel}
-use Rattle.uspec_parser.specs.Answers.{terminals}
-use Rattle.uspec_parser.specs.Descent.{Items}
+use Rattle.uspec_parser.specs.{Terminals.{Lexeme}, Marks.{IsMarkedModel}, Answers.{terminals}, Descent.{Items}}
 use Rattle.uspec_parser.proofs.Trees.{refusal_is, accepted_is, model_tree}
 use Rattle.uspec_parser.proofs.parse.parse_model.Goals as goal
 

@@ -1,5 +1,4 @@
-use Rattle.cert_check.specs.Fed.{IsFed}
-use Rattle.cert_check.specs.Questions.{question_of}
+use Rattle.cert_check.specs.{Fed.{IsFed}, Questions.{question_of}}
 use Rattle.verify_command.proofs.OneVerdict.{file_verified}
 use Rattle.verify_command.proofs.checking.check_any.Goals as goal
 

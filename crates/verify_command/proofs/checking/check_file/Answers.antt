@@ -1,8 +1,5 @@
-use Rattle.std.proofs.Common.{◌≡◌, List, ℕ, Some, ◌++◌}
-use Rattle.std.specs.Prelude.{IsTrue}
-use Rattle.std.proofs.lemmas.Result.{IfOk-weaker}
-use Rattle.cert_check.specs.Questions.{question_of_parts}
-use Rattle.cert_check.specs.Verified.{Verified}
+use Rattle.std.{proofs.{Common.{◌≡◌, List, ℕ, Some, ◌++◌}, lemmas.Result.{IfOk-weaker}}, specs.Prelude.{IsTrue}}
+use Rattle.cert_check.specs.{Questions.{question_of_parts}, Verified.{Verified}}
 use Rattle.verify_command.specs.Reading.{IsEnough}
 use Rattle.verify_command.proofs.checking.check_file.Goals as goal
 

@@ -1,8 +1,6 @@
 use Rattle.std.proofs.Common.{◌++◌}
-use Rattle.cert_check.specs.GraphFed.{IsGraphFed}
-use Rattle.cert_check.specs.Questions.{question_of_parts}
-use Rattle.verify_command.proofs.FirstLine.{all_says}
-use Rattle.verify_command.proofs.OneVerdict.{file_verified}
+use Rattle.cert_check.specs.{GraphFed.{IsGraphFed}, Questions.{question_of_parts}}
+use Rattle.verify_command.proofs.{FirstLine.{all_says}, OneVerdict.{file_verified}}
 use Rattle.verify_command.proofs.checking.check_graph.Goals as goal
 
 pub returns-clause-verified : goal.returns-clause-verified

@@ -1,11 +1,6 @@
-use Rattle.std.proofs.Common.{List, ℕ, ◌++◌, subst}
-use Rattle.std.specs.Prelude.{IsTrue}
-use Rattle.std.proofs.lemmas.Result.{IfOk-weaker}
-use Rattle.cert_check.specs.Certificates.{Question}
-use Rattle.cert_check.specs.Questions.{question_of, question_of_parts}
-use Rattle.cert_check.specs.Verified.{Verified}
-use Rattle.verify_command.specs.Reading.{IsEnough}
-use Rattle.verify_command.proofs.FirstLine.{same_question}
+use Rattle.std.{proofs.{Common.{List, ℕ, ◌++◌, subst}, lemmas.Result.{IfOk-weaker}}, specs.Prelude.{IsTrue}}
+use Rattle.cert_check.specs.{Certificates.{Question}, Questions.{question_of, question_of_parts}, Verified.{Verified}}
+use Rattle.verify_command.{specs.Reading.{IsEnough}, proofs.FirstLine.{same_question}}
 use Rattle.verify_command.proofs.checking.check_grounded.Goals as goal
 
 pub returns-clause-verified : goal.returns-clause-verified

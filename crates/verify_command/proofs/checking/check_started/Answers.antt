@@ -1,11 +1,6 @@
-use Rattle.std.proofs.Common.{◌≡◌, true, false, Bool, List, ℕ, ◌++◌, sym, ◌∙◌}
-use Rattle.std.specs.Prelude.{IsTrue}
-use Rattle.std.proofs.lemmas.Result.{IfOk-weaker}
-use Rattle.cert_check.specs.Questions.{question_of_parts}
-use Rattle.cert_check.specs.GraphBegins.{SaysUnobservable}
-use Rattle.cert_check.specs.Verified.{Verified}
-use Rattle.verify_command.specs.Reading.{IsEnough}
-use Rattle.verify_command.proofs.FirstLine.{none_says}
+use Rattle.std.{proofs.{Common.{◌≡◌, true, false, Bool, List, ℕ, ◌++◌, sym, ◌∙◌}, lemmas.Result.{IfOk-weaker}}, specs.Prelude.{IsTrue}}
+use Rattle.cert_check.specs.{Questions.{question_of_parts}, GraphBegins.{SaysUnobservable}, Verified.{Verified}}
+use Rattle.verify_command.{specs.Reading.{IsEnough}, proofs.FirstLine.{none_says}}
 use Rattle.verify_command.proofs.checking.check_started.Goals as goal
 
 clash : {b : Bool} → b ≡ true → b ≡ false → ⊥

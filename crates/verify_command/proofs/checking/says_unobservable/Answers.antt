@@ -1,7 +1,4 @@
-use Rattle.std.proofs.Common.{length, drop}
-use Rattle.std.specs.Prelude.{codes}
-use Rattle.std.proofs.lemmas.Slice.Eq.{starts_is}
-use Rattle.std.proofs.lemmas.Bool.Decides.{Decides-eqb}
+use Rattle.std.{proofs.{Common.{length, drop}, lemmas.{Slice.Eq.{starts_is}, Bool.Decides.{Decides-eqb}}}, specs.Prelude.{codes}}
 use Rattle.verify_command.proofs.checking.says_unobservable.Goals as goal
 
 pub returns : goal.returns

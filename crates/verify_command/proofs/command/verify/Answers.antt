@@ -1,6 +1,5 @@
 use Rattle.command_base.proofs.ThirdFile.{third_ending}
-use Rattle.verify_command.specs.VerifyAnswers.{IsJudged}
-use Rattle.verify_command.proofs.VerifyOutcomes.{found_outcome}
+use Rattle.verify_command.{specs.VerifyAnswers.{IsJudged}, proofs.VerifyOutcomes.{found_outcome}}
 use Rattle.verify_command.proofs.command.verify.Goals as goal
 
 pub returns-in-Err : goal.returns-in-Err

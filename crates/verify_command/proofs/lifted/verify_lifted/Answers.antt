@@ -1,6 +1,5 @@
 use Rattle.command_base.proofs.ThirdFile.{third_ending}
-use Rattle.verify_command.specs.LiftedAnswers.{IsJudged}
-use Rattle.verify_command.proofs.LiftedOutcomes.{found_outcome}
+use Rattle.verify_command.{specs.LiftedAnswers.{IsJudged}, proofs.LiftedOutcomes.{found_outcome}}
 use Rattle.verify_command.proofs.lifted.verify_lifted.Goals as goal
 
 pub returns-in-Err : goal.returns-in-Err

@@ -1,9 +1,6 @@
-use Rattle.std.proofs.Common.{rules, ◌-◌, ◌++◌, length}
-use Rattle.std.specs.Prelude.{IsTrue}
-use Rattle.std.proofs.lemmas.Result.{IfOk-weaker}
+use Rattle.std.{proofs.{Common.{rules, ◌-◌, ◌++◌, length}, lemmas.Result.{IfOk-weaker}}, specs.Prelude.{IsTrue}}
 use Rattle.command_base.specs.Feeding.{TookFirst}
-use Rattle.verify_command.specs.Reading.{IsEnough}
-use Rattle.verify_command.proofs.PieceByPiece.{took_few, took_then}
+use Rattle.verify_command.{specs.Reading.{IsEnough}, proofs.PieceByPiece.{took_few, took_then}}
 use Rattle.verify_command.proofs.reading.feed_file.Goals as goal
 
 pub returns-then-first-lt-ENOUGH-clause-took : goal.returns-then-first-lt-ENOUGH-clause-took

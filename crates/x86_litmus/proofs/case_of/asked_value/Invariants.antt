@@ -1,6 +1,5 @@
 use Rattle.std.proofs.Common.{◌≡◌, map, drop}
-use Rattle.x86_litmus.specs.Cases.{asked_value as asked_value_spec}
-use Rattle.x86_litmus.specs.Plain.{plain_asked}
+use Rattle.x86_litmus.specs.{Cases.{asked_value as asked_value_spec}, Plain.{plain_asked}}
 use Rattle.x86_litmus.proofs.case_of.asked_value.Given as goal
 
 abbrev pub invariant-loop-equation : goal.invariant-loop-equation

@@ -1,5 +1,4 @@
-use Rattle.x86_litmus.specs.Plain.{plain_said}
-use Rattle.x86_litmus.proofs.CaseFacts.{are_micro_ops, initial_once, final_once}
+use Rattle.x86_litmus.{specs.Plain.{plain_said}, proofs.CaseFacts.{are_micro_ops, initial_once, final_once}}
 use Rattle.x86_litmus.proofs.case_of.case_of.Goals as goal
 
 pub full-requires-clause-kept : goal.full-requires-clause-kept

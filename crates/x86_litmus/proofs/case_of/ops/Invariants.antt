@@ -1,7 +1,6 @@
 use Rattle.std.proofs.Common.{◌≡◌, map}
 use Rattle.pc_case.specs.Plain.{micro_op}
-use Rattle.x86_litmus.specs.Cases.{numbered, test_order}
-use Rattle.x86_litmus.specs.Plain.{plain_said}
+use Rattle.x86_litmus.specs.{Cases.{numbered, test_order}, Plain.{plain_said}}
 use Rattle.x86_litmus.proofs.case_of.ops.Given as goal
 
 abbrev pub invariant-loop-thread : goal.invariant-loop-thread

@@ -1,11 +1,8 @@
 use Rattle.std.proofs.Common.{List, map, get_or, ap, ◌∙◌}
 use Rattle.pc_case.specs.Plain.{micro_op}
-use Rattle.x86_litmus.specs.Said.{Asked}
-use Rattle.x86_litmus.specs.Cases.{op_of}
-use Rattle.x86_litmus.specs.Plain.{plain_instruction, plain_asked, plain_said}
-use Rattle.x86_litmus.proofs.Loops.{nobody, push_then, push_else}
-use Rattle.x86_litmus.proofs.case_of.push_thread.Goals as goal
+use Rattle.x86_litmus.{specs.{Said.{Asked}, Cases.{op_of}, Plain.{plain_instruction, plain_asked, plain_said}}, proofs.Loops.{nobody, push_then, push_else}}
 use Rattle.x86_litmus.proofs.case_of.push_thread.Goals.{then-instruction-thread+in_ok-op_of+in_ok-push, else-instruction-thread}
+use Rattle.x86_litmus.proofs.case_of.push_thread.Goals as goal
 
 pub loop-instruction-preserved : goal.loop-instruction-preserved
 loop-instruction-preserved c = λ before start.

@@ -1,8 +1,6 @@
 use Rattle.std.proofs.Common.{◌≡◌, ◌++◌, List, map, take, filter, ◌==◌}
 use Rattle.pc_case.specs.Plain.{micro_op}
-use Rattle.x86_litmus.specs.Said.{Instruction}
-use Rattle.x86_litmus.specs.Cases.{numbered}
-use Rattle.x86_litmus.specs.Plain.{plain_instruction, plain_said}
+use Rattle.x86_litmus.specs.{Said.{Instruction}, Cases.{numbered}, Plain.{plain_instruction, plain_said}}
 use Rattle.x86_litmus.proofs.case_of.push_thread.Given as goal
 
 abbrev pub invariant-loop-instruction : goal.invariant-loop-instruction

@@ -1,9 +1,7 @@
-use Rattle.std.proofs.Common.{List, ℕ, [], ◌∷◌, ◌++◌, map, ap, sym, ◌∙◌}
-use Rattle.std.proofs.lemmas.List.{map-append}
+use Rattle.std.proofs.{Common.{List, ℕ, [], ◌∷◌, ◌++◌, map, ap, sym, ◌∙◌}, lemmas.List.{map-append}}
 use Rattle.pc_common.specs.Case.{number}
 use Rattle.pc_case.specs.Plain.{stated_value}
-use Rattle.x86_litmus.specs.Cases.{address_of, number_of}
-use Rattle.x86_litmus.proofs.Loops.{map_at}
+use Rattle.x86_litmus.{specs.Cases.{address_of, number_of}, proofs.Loops.{map_at}}
 use Rattle.x86_litmus.proofs.case_of.stated_values.Goals as goal
 
 pub loop-k-preserved : goal.loop-k-preserved

@@ -1,6 +1,5 @@
 use Rattle.std.proofs.Common.{◌≡◌, map, drop}
-use Rattle.x86_litmus.specs.Said.{gives as gives_spec}
-use Rattle.x86_litmus.specs.Plain.{plain_asked}
+use Rattle.x86_litmus.specs.{Said.{gives as gives_spec}, Plain.{plain_asked}}
 use Rattle.x86_litmus.proofs.faults.gives.Given as goal
 
 abbrev pub invariant-loop-equation : goal.invariant-loop-equation

@@ -1,6 +1,5 @@
 use Rattle.std.proofs.Common.{◌≡◌, map, drop}
-use Rattle.x86_litmus.specs.Said.{loads as loads_spec}
-use Rattle.x86_litmus.specs.Plain.{plain_instruction}
+use Rattle.x86_litmus.specs.{Said.{loads as loads_spec}, Plain.{plain_instruction}}
 use Rattle.x86_litmus.proofs.faults.loads.Given as goal
 
 abbrev pub invariant-loop-instruction : goal.invariant-loop-instruction

@@ -1,6 +1,5 @@
 use Rattle.std.proofs.Common.{◌≡◌, map, drop}
-use Rattle.x86_litmus.specs.Faults.{open_fault as open_fault_spec}
-use Rattle.x86_litmus.specs.Plain.{plain_asked, plain_instruction}
+use Rattle.x86_litmus.specs.{Faults.{open_fault as open_fault_spec}, Plain.{plain_asked, plain_instruction}}
 use Rattle.x86_litmus.proofs.faults.open_fault.Given as goal
 
 abbrev pub invariant-loop-instruction : goal.invariant-loop-instruction

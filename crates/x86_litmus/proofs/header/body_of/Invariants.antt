@@ -1,6 +1,5 @@
 use Rattle.std.proofs.Common.{◌≡◌, ◌+◌, ◌-◌, ◌≤◌, length}
-use Rattle.x86_litmus.specs.Header.{header_of, header_behind}
-use Rattle.x86_litmus.specs.Lines.{lines_from}
+use Rattle.x86_litmus.specs.{Header.{header_of, header_behind}, Lines.{lines_from}}
 use Rattle.x86_litmus.proofs.header.body_of.Given as goal
 
 abbrev pub invariant-loop-at : goal.invariant-loop-at

@@ -1,9 +1,6 @@
-use Rattle.std.proofs.Common.{◌≡◌, ◌+◌, ◌-◌, ◌≤◌, ◌∷◌, not, length, take, drop, sym, ap, ◌∙◌, arith}
-use Rattle.std.proofs.lemmas.List.{take_all, length-take-le, length-drop}
+use Rattle.std.proofs.{Common.{◌≡◌, ◌+◌, ◌-◌, ◌≤◌, ◌∷◌, not, length, take, drop, sym, ap, ◌∙◌, arith}, lemmas.List.{take_all, length-take-le, length-drop}}
 use Rattle.std.specs.List.{prefix_len}
-use Rattle.x86_litmus.specs.Header.{is_line_end}
-use Rattle.x86_litmus.specs.Lines.{lines_from}
-use Rattle.x86_litmus.proofs.HeaderLines.{line_from}
+use Rattle.x86_litmus.{specs.{Header.{is_line_end}, Lines.{lines_from}}, proofs.HeaderLines.{line_from}}
 use Rattle.x86_litmus.proofs.header.line_at.Goals as goal
 
 pub returns-clause-line : goal.returns-clause-line

@@ -1,10 +1,7 @@
-use Rattle.std.proofs.Common.{Result, IfErr, map, subst, sym, ap, ◌∙◌}
-use Rattle.std.proofs.lemmas.Result.{err_from_is_err_and}
+use Rattle.std.proofs.{Common.{Result, IfErr, map, subst, sym, ap, ◌∙◌}, lemmas.Result.{err_from_is_err_and}}
 use Rattle.pc_common.specs.Case.{Case}
-use Rattle.x86_litmus.specs.Reading.{IsFaultIn, IsListingFault}
-use Rattle.x86_litmus.specs.Faults.{open_fault as open_fault_spec}
-use Rattle.x86_litmus.specs.Plain.{plain_said, plain_asked, plain_instruction, plain_fault}
-use Rattle.x86_litmus.specs.declared.fault.X86Fault.{X86Fault}
+use Rattle.x86_litmus.specs.{Reading.{IsFaultIn, IsListingFault}, Faults.{open_fault as open_fault_spec}}
+use Rattle.x86_litmus.specs.{Plain.{plain_said, plain_asked, plain_instruction, plain_fault}, declared.fault.X86Fault.{X86Fault}}
 use Rattle.x86_litmus.proofs.Outcomes.{case_in, open_in, fault_in, sound_of}
 use Rattle.x86_litmus.proofs.read.case_of_listing.Goals as goal
 

@@ -1,8 +1,6 @@
-use Rattle.std.proofs.Common.{inr, subst}
-use Rattle.std.proofs.lemmas.Result.{IfOk-weaker, IfErr-weaker}
+use Rattle.std.proofs.{Common.{inr, subst}, lemmas.Result.{IfOk-weaker, IfErr-weaker}}
 use Rattle.ll_grammar.specs.FirstFault.{IsSyntaxAnswer}
-use Rattle.x86_litmus.specs.Syntax.{IsListing}
-use Rattle.x86_litmus.proofs.Outcomes.{case_of_bytes, fault_of_bytes}
+use Rattle.x86_litmus.{specs.Syntax.{IsListing}, proofs.Outcomes.{case_of_bytes, fault_of_bytes}}
 use Rattle.x86_litmus.proofs.read.case_of_tokens.Goals as goal
 
 pub returns-in-Some-clause-err : goal.returns-in-Some-clause-err

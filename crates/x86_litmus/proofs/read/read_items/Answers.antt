@@ -1,16 +1,9 @@
-use Rattle.std.proofs.Common.{◌+◌, drop, Result, IfErr, subst, sym, ap, ◌∙◌, arith}
-use Rattle.std.proofs.lemmas.Result.{err_from_is_err_and}
+use Rattle.std.proofs.{Common.{◌+◌, drop, Result, IfErr, subst, sym, ap, ◌∙◌, arith}, lemmas.Result.{err_from_is_err_and}}
 use Rattle.uspec_lexer.specs.View.{plain}
-use Rattle.x86_litmus.specs.Reading.{IsFaultIn}
-use Rattle.x86_litmus.specs.Takes.{IsListingRefusal}
-use Rattle.x86_litmus.specs.Said.{Said}
-use Rattle.x86_litmus.specs.Spots.{items_from}
-use Rattle.x86_litmus.specs.Faults.{fault_of, judged}
-use Rattle.x86_litmus.specs.Plain.{plain_item, plain_some, plain_said, plain_spot}
-use Rattle.x86_litmus.specs.declared.fault.X86Fault.{X86Fault}
-use Rattle.x86_litmus.proofs.Walks.{step_none, step_some, column_after, refused_in}
+use Rattle.x86_litmus.specs.{Reading.{IsFaultIn}, Takes.{IsListingRefusal}, Said.{Said}, Spots.{items_from}, Faults.{fault_of, judged}}
+use Rattle.x86_litmus.specs.{Plain.{plain_item, plain_some, plain_said, plain_spot}, declared.fault.X86Fault.{X86Fault}}
+use Rattle.x86_litmus.proofs.{Walks.{step_none, step_some, column_after, refused_in}, read.read_items.Goals.{in-Some+in_ok-add, in_default}}
 use Rattle.x86_litmus.proofs.read.read_items.Goals as goal
-use Rattle.x86_litmus.proofs.read.read_items.Goals.{in-Some+in_ok-add, in_default}
 
 pub returns-in_err-add-clause-err : goal.returns-in_err-add-clause-err
 returns-in_err-add-clause-err c =

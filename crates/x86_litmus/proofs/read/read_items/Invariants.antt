@@ -1,8 +1,5 @@
 use Rattle.std.proofs.Common.{◌≡◌, ◌≤◌, drop}
-use Rattle.x86_litmus.specs.Spots.{items_from, column_of}
-use Rattle.x86_litmus.specs.Faults.{outcome_of, judged}
-use Rattle.x86_litmus.specs.Reading.{items_in}
-use Rattle.x86_litmus.specs.Plain.{plain_said, plain_spot}
+use Rattle.x86_litmus.specs.{Spots.{items_from, column_of}, Faults.{outcome_of, judged}, Reading.{items_in}, Plain.{plain_said, plain_spot}}
 use Rattle.x86_litmus.proofs.read.read_items.Given as goal
 
 abbrev pub invariant-loop-k : goal.invariant-loop-k

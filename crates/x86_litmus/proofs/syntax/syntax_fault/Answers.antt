@@ -1,11 +1,7 @@
 use Rattle.std.proofs.Common.{◌≡◌, map, List, subst, ◌∙◌}
-use Rattle.ll_grammar.specs.Rules.{Derives}
-use Rattle.ll_grammar.specs.FirstFault.{IsAnswer}
-use Rattle.x86_litmus.specs.Terminals.{terminal_of as terminal_spec}
-use Rattle.x86_litmus.specs.Phrases.{rules}
-use Rattle.x86_litmus.specs.declared.terminal.Terminal.{Terminal}
-use Rattle.x86_litmus.specs.declared.phrase.Phrase.TheVariants.{Listing}
-use Rattle.x86_litmus.proofs.SyntaxFaults.{answer}
+use Rattle.ll_grammar.specs.{Rules.{Derives}, FirstFault.{IsAnswer}}
+use Rattle.x86_litmus.specs.{Terminals.{terminal_of as terminal_spec}, Phrases.{rules}, declared.terminal.Terminal.{Terminal}}
+use Rattle.x86_litmus.{specs.declared.phrase.Phrase.TheVariants.{Listing}, proofs.SyntaxFaults.{answer}}
 use Rattle.x86_litmus.proofs.syntax.syntax_fault.Goals as goal
 
 pub returns : goal.returns

@@ -1,11 +1,7 @@
-use Rattle.std.proofs.Common.{◌⊎◌, inl, inr, ◌<◌, ◌++◌, length, sym, subst}
-use Rattle.std.proofs.lemmas.Bool.{false≢true}
+use Rattle.std.proofs.{Common.{◌⊎◌, inl, inr, ◌<◌, ◌++◌, length, sym, subst}, lemmas.Bool.{false≢true}}
 use Rattle.pc_common.specs.declared.limits.TheConstants.{MAX_CERTIFICATE}
 use Rattle.line_judge.specs.Texts.{HoldsRefused}
-use Rattle.cert_check.specs.Certificates.{Question}
-use Rattle.cert_check.specs.RawLines.{RawFirst}
-use Rattle.cert_check.specs.Fed.{judge_view}
-use Rattle.cert_check.proofs.Raws.{holds_refused}
+use Rattle.cert_check.{specs.{Certificates.{Question}, RawLines.{RawFirst}, Fed.{judge_view}}, proofs.Raws.{holds_refused}}
 use Rattle.cert_check.proofs.checker.Checker.feed.Goals as goal
 
 pub returns-clause-took : goal.returns-clause-took

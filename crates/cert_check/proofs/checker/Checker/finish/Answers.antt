@@ -1,9 +1,6 @@
 use Rattle.std.proofs.Common.{subst}
 use Rattle.pc_common.specs.declared.limits.TheConstants.{MAX_CERTIFICATE}
-use Rattle.cert_check.specs.Certificates.{Question}
-use Rattle.cert_check.specs.Proper.{IsAsked}
-use Rattle.cert_check.specs.Questions.{question_of}
-use Rattle.cert_check.proofs.Outcomes.{outcome_holds}
+use Rattle.cert_check.{specs.{Certificates.{Question}, Proper.{IsAsked}, Questions.{question_of}}, proofs.Outcomes.{outcome_holds}}
 use Rattle.cert_check.proofs.Verified.{whole_verified, refused_verified}
 use Rattle.cert_check.proofs.checker.Checker.finish.Goals as goal
 

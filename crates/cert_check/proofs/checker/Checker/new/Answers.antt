@@ -1,9 +1,6 @@
 use Rattle.std.proofs.Common.{ap, sym, subst, refl, [], ◌∙◌}
-use Rattle.pc_ground.specs.declared.front.Front.{Front}
-use Rattle.pc_ground.specs.NodeForm.{names_of}
-use Rattle.cert_check.specs.Questions.{question_of}
-use Rattle.cert_check.specs.Proper.{IsAsked}
-use Rattle.cert_check.specs.RawLines.{RawStands}
+use Rattle.pc_ground.specs.{declared.front.Front.{Front}, NodeForm.{names_of}}
+use Rattle.cert_check.specs.{Questions.{question_of}, Proper.{IsAsked}, RawLines.{RawStands}}
 use Rattle.cert_check.proofs.checker.Checker.new.Goals as goal
 
 pub new-requires-clause-stands : goal.new-requires-clause-stands

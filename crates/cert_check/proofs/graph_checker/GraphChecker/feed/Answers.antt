@@ -1,11 +1,7 @@
-use Rattle.std.proofs.Common.{◌⊎◌, inl, inr, ◌<◌, ◌++◌, length, sym, subst}
-use Rattle.std.proofs.lemmas.Bool.{false≢true}
+use Rattle.std.proofs.{Common.{◌⊎◌, inl, inr, ◌<◌, ◌++◌, length, sym, subst}, lemmas.Bool.{false≢true}}
 use Rattle.pc_common.specs.declared.limits.TheConstants.{MAX_CERTIFICATE}
 use Rattle.line_judge.specs.Texts.{HoldsRefused}
-use Rattle.cert_check.specs.Certificates.{Question}
-use Rattle.cert_check.specs.GraphBegins.{GraphFirst}
-use Rattle.cert_check.specs.GraphFed.{graph_judge_view}
-use Rattle.cert_check.proofs.GraphJudged.{graph_holds}
+use Rattle.cert_check.{specs.{Certificates.{Question}, GraphBegins.{GraphFirst}, GraphFed.{graph_judge_view}}, proofs.GraphJudged.{graph_holds}}
 use Rattle.cert_check.proofs.graph_checker.GraphChecker.feed.Goals as goal
 
 pub returns-clause-took : goal.returns-clause-took

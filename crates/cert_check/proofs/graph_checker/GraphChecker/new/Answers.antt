@@ -1,9 +1,6 @@
 use Rattle.std.proofs.Common.{ap, sym, subst, [], ◌∙◌}
-use Rattle.pc_ground.specs.declared.parts.Parts.{Parts}
-use Rattle.pc_ground.specs.NodeForm.{names_of_parts, AreReadable}
-use Rattle.cert_check.specs.Questions.{question_of_parts}
-use Rattle.cert_check.specs.RawLines.{RawStands}
-use Rattle.cert_check.specs.GraphStages.{as_stage}
+use Rattle.pc_ground.specs.{declared.parts.Parts.{Parts}, NodeForm.{names_of_parts, AreReadable}}
+use Rattle.cert_check.specs.{Questions.{question_of_parts}, RawLines.{RawStands}, GraphStages.{as_stage}}
 use Rattle.cert_check.proofs.graph_checker.GraphChecker.new.Goals as goal
 
 pub new-requires-clause-stands : goal.new-requires-clause-stands

@@ -1,8 +1,7 @@
 use Rattle.std.proofs.Common.{subst}
 use Rattle.pc_common.specs.Lines.{Names}
 use Rattle.pc_ground.specs.NodeForm.{AreReadable}
-use Rattle.cert_check.specs.Questions.{question_of_parts}
-use Rattle.cert_check.proofs.RawStages.{raw_start}
+use Rattle.cert_check.{specs.Questions.{question_of_parts}, proofs.RawStages.{raw_start}}
 use Rattle.cert_check.proofs.graph_judge.GraphJudge.new.Goals as goal
 
 pub returns-clause-readable : goal.returns-clause-readable

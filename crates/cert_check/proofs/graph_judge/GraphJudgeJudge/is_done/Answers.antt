@@ -1,5 +1,4 @@
-use Rattle.cert_check.specs.Questions.{question_of_parts}
-use Rattle.cert_check.proofs.GraphJudged.{graph_done}
+use Rattle.cert_check.{specs.Questions.{question_of_parts}, proofs.GraphJudged.{graph_done}}
 use Rattle.cert_check.proofs.graph_judge.GraphJudgeJudge.is_done.Goals as goal
 
 pub returns : goal.returns

@@ -1,13 +1,8 @@
-use Rattle.std.proofs.Common.{◌≡◌, ℕ, List, [], ◌∷◌, ◌++◌, true, false}
-use Rattle.std.proofs.lemmas.Result.{IfOk-weaker}
+use Rattle.std.proofs.{Common.{◌≡◌, ℕ, List, [], ◌∷◌, ◌++◌, true, false}, lemmas.Result.{IfOk-weaker}}
 use Rattle.pc_common.specs.Lines.{Line}
 use Rattle.pc_ground.specs.NodeForm.{names_of_parts, AreReadable}
-use Rattle.cert_check.specs.Questions.{question_of_parts}
-use Rattle.cert_check.specs.RawLines.{RawStands}
-use Rattle.cert_check.specs.Stages.{StandsAt}
-use Rattle.cert_check.specs.GraphStages.{as_stage, HasGraphAdvanced}
-use Rattle.cert_check.specs.GraphBegins.{GraphFirst}
-use Rattle.cert_check.proofs.GraphJudged.{graph_good, graph_refused}
+use Rattle.cert_check.specs.{Questions.{question_of_parts}, RawLines.{RawStands}, Stages.{StandsAt}, GraphStages.{as_stage, HasGraphAdvanced}}
+use Rattle.cert_check.{specs.GraphBegins.{GraphFirst}, proofs.GraphJudged.{graph_good, graph_refused}}
 use Rattle.cert_check.proofs.graph_judge.GraphJudgeJudge.step.Goals as goal
 
 pub returns-clause-goes : goal.returns-clause-goes

@@ -1,5 +1,4 @@
-use Rattle.cert_check.specs.Questions.{question_of}
-use Rattle.cert_check.proofs.RawStages.{raw_start}
+use Rattle.cert_check.{specs.Questions.{question_of}, proofs.RawStages.{raw_start}}
 use Rattle.cert_check.proofs.judge.CertificateJudge.new.Goals as goal
 
 pub returns-clause-stands : goal.returns-clause-stands

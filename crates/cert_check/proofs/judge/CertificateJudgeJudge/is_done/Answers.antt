@@ -1,5 +1,4 @@
-use Rattle.cert_check.specs.Questions.{question_of}
-use Rattle.cert_check.proofs.RawStages.{raw_done}
+use Rattle.cert_check.{specs.Questions.{question_of}, proofs.RawStages.{raw_done}}
 use Rattle.cert_check.proofs.judge.CertificateJudgeJudge.is_done.Goals as goal
 
 pub returns : goal.returns

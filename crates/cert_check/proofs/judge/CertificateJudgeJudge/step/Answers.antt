@@ -1,11 +1,7 @@
-use Rattle.std.proofs.Common.{◌≡◌, ℕ, List, [], ◌∷◌, ◌++◌, true, false}
-use Rattle.std.proofs.lemmas.Result.{IfOk-weaker}
+use Rattle.std.proofs.{Common.{◌≡◌, ℕ, List, [], ◌∷◌, ◌++◌, true, false}, lemmas.Result.{IfOk-weaker}}
 use Rattle.pc_common.specs.Lines.{Line}
 use Rattle.pc_ground.specs.NodeForm.{names_of}
-use Rattle.cert_check.specs.Questions.{question_of}
-use Rattle.cert_check.specs.Proper.{IsAsked}
-use Rattle.cert_check.specs.RawLines.{RawFirst, RawStands}
-use Rattle.cert_check.specs.Stages.{StandsAt, HasAdvanced}
+use Rattle.cert_check.specs.{Questions.{question_of}, Proper.{IsAsked}, RawLines.{RawFirst, RawStands}, Stages.{StandsAt, HasAdvanced}}
 use Rattle.cert_check.proofs.RawStages.{raw_advanced, raw_refused}
 use Rattle.cert_check.proofs.judge.CertificateJudgeJudge.step.Goals as goal
 

@@ -1,6 +1,5 @@
 use Rattle.std.proofs.Common.{refl}
-use Rattle.cert_check.specs.Questions.{question_of}
-use Rattle.cert_check.proofs.Advances.{tree_begins}
+use Rattle.cert_check.{specs.Questions.{question_of}, proofs.Advances.{tree_begins}}
 use Rattle.cert_check.proofs.open_tree.OpenTree.new.Goals as goal
 
 pub returns : goal.returns

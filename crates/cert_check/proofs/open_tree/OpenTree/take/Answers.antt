@@ -1,18 +1,9 @@
-use Rattle.std.proofs.Common.{◌≡◌, true, false, Bool, List, refl, sym, ◌∙◌}
-use Rattle.std.specs.Prelude.{codes}
-use Rattle.std.proofs.lemmas.Result.{IfOk-weaker}
-use Rattle.pc_common.specs.World.{Node}
-use Rattle.pc_common.specs.Lines.{Line}
-use Rattle.pc_ground.specs.Tree.{Tree}
-use Rattle.pc_ground.specs.declared.version.Version.{Version}
-use Rattle.pc_ground.specs.Refutes.{Branch}
+use Rattle.std.{proofs.{Common.{◌≡◌, true, false, Bool, List, refl, sym, ◌∙◌}, lemmas.Result.{IfOk-weaker}}, specs.Prelude.{codes}}
+use Rattle.pc_common.specs.{World.{Node}, Lines.{Line}}
+use Rattle.pc_ground.specs.{Tree.{Tree}, declared.version.Version.{Version}, Refutes.{Branch}}
 use Rattle.tree_check.specs.OpenBranches.{Stands}
-use Rattle.cert_check.specs.Certificates.{Question}
-use Rattle.cert_check.specs.Proper.{IsAsked}
-use Rattle.cert_check.specs.Stages.{HasAdvanced, StepsOn, IsTreeSoFar}
-use Rattle.cert_check.specs.declared.open_tree.OpenTree.{OpenTree}
-use Rattle.cert_check.specs.declared.stage.Stage.TheVariants.{Tree as TreeStage}
-use Rattle.cert_check.proofs.Advances.{not_two, version_goes, tree_advanced}
+use Rattle.cert_check.specs.{Certificates.{Question}, Proper.{IsAsked}, Stages.{HasAdvanced, StepsOn, IsTreeSoFar}, declared.open_tree.OpenTree.{OpenTree}}
+use Rattle.cert_check.{specs.declared.stage.Stage.TheVariants.{Tree as TreeStage}, proofs.Advances.{not_two, version_goes, tree_advanced}}
 use Rattle.cert_check.proofs.open_tree.OpenTree.take.Goals as goal
 
 pub returns-then-says_two : goal.returns-then-says_two

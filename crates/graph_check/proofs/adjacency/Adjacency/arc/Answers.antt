@@ -1,7 +1,5 @@
-use Rattle.std.proofs.Common.{◌≡◌, ◌≤◌, ◌-◌, ◌⊎◌, ℕ, length, refl, subst, arith}
-use Rattle.std.proofs.lemmas.Option.{slice_get_read}
-use Rattle.graph_check.specs.Arcs.{Arcs, Joins, IsWalk, ComesTo}
-use Rattle.graph_check.proofs.Links.{walk_on, walk_rest}
+use Rattle.std.proofs.{Common.{◌≡◌, ◌≤◌, ◌-◌, ◌⊎◌, ℕ, length, refl, subst, arith}, lemmas.Option.{slice_get_read}}
+use Rattle.graph_check.{specs.Arcs.{Arcs, Joins, IsWalk, ComesTo}, proofs.Links.{walk_on, walk_rest}}
 use Rattle.graph_check.proofs.adjacency.Adjacency.arc.Goals as goal
 
 pub returns-clause-walk : goal.returns-clause-walk

@@ -1,8 +1,6 @@
 use Rattle.std.proofs.Common.{ℕ, inl, inr, refl, sym, ◌∙◌, ap, subst, arith}
 use Rattle.pc_common.proofs.Bools.{not_both}
-use Rattle.graph_check.specs.Arcs.{ComesTo}
-use Rattle.graph_check.specs.Columns.{is_set}
-use Rattle.graph_check.proofs.Links.{walk_done}
+use Rattle.graph_check.{specs.{Arcs.{ComesTo}, Columns.{is_set}}, proofs.Links.{walk_done}}
 use Rattle.graph_check.proofs.adjacency.Adjacency.leads.Goals.{then-arc-b-via-then-arc-b, then-arc-b-via-else-arc-b+then-column-arc}
 use Rattle.graph_check.proofs.adjacency.Adjacency.leads.Goals as goal
 

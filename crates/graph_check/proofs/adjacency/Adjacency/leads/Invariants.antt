@@ -1,7 +1,6 @@
 -- The walk still comes to each edge that leads to b or to a node whose flag is set.
 use Rattle.std.proofs.Common.{◌≡◌, ◌⊎◌, ℕ, true}
-use Rattle.graph_check.specs.Arcs.{Joins, IsWalk, ComesTo}
-use Rattle.graph_check.specs.Columns.{is_set}
+use Rattle.graph_check.specs.{Arcs.{Joins, IsWalk, ComesTo}, Columns.{is_set}}
 use Rattle.graph_check.proofs.adjacency.Adjacency.leads.Given as goal
 
 abbrev pub invariant-loop-at : goal.invariant-loop-at

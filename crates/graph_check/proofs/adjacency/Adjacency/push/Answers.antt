@@ -1,9 +1,6 @@
-use Rattle.std.proofs.Common.{◌≡◌, ◌<◌, ◌⊎◌, ◌∷◌, [], ℕ, length, sym, ◌∙◌, ap, subst, arith}
+use Rattle.std.proofs.{Common.{◌≡◌, ◌<◌, ◌⊎◌, ◌∷◌, [], ℕ, length, sym, ◌∙◌, ap, subst, arith}, lemmas.{List.{length-append}, Grind.{get_or_default_zero}}}
 use Rattle.std.specs.Prelude.{◌↔◌}
-use Rattle.std.proofs.lemmas.List.{length-append}
-use Rattle.std.proofs.lemmas.Grind.{get_or_default_zero}
-use Rattle.graph_check.specs.Arcs.{Arcs, Joins, AreLinked}
-use Rattle.graph_check.proofs.Links.{linked_more, joins_more, entered_so}
+use Rattle.graph_check.{specs.Arcs.{Arcs, Joins, AreLinked}, proofs.Links.{linked_more, joins_more, entered_so}}
 use Rattle.graph_check.proofs.adjacency.Adjacency.push.Goals as goal
 
 pub invariant_of-self-2 : goal.invariant_of-self-2

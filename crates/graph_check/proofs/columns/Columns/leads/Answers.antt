@@ -1,6 +1,4 @@
-use Rattle.std.proofs.Common.{◌-◌, ◌∷◌, [], length, set, ap, refl, arith}
-use Rattle.std.proofs.lemmas.List.{length-append}
-use Rattle.std.proofs.lemmas.Option.{slice_get_within}
+use Rattle.std.proofs.{Common.{◌-◌, ◌∷◌, [], length, set, ap, refl, arith}, lemmas.{List.{length-append}, Option.{slice_get_within}}}
 use Rattle.graph_check.proofs.ColumnFlags.{column_at, column_found, columns_more, columns_same, flag_leads, flag_read, joins_leads}
 use Rattle.graph_check.proofs.columns.Columns.leads.Goals as goal
 

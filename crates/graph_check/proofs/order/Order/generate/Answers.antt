@@ -1,8 +1,6 @@
 use Rattle.std.proofs.Common.{refl}
 use Rattle.graph_text.specs.Graphs.{graph_nodes, graph_edges}
-use Rattle.graph_check.proofs.ArcChains.{ends_over, acyclic_up, acyclic_down, starts_within}
-use Rattle.graph_check.proofs.ColumnFlags.{topological_acyclic}
-use Rattle.graph_check.proofs.GraphWorlds.{where_none}
+use Rattle.graph_check.proofs.{ArcChains.{ends_over, acyclic_up, acyclic_down, starts_within}, ColumnFlags.{topological_acyclic}, GraphWorlds.{where_none}}
 use Rattle.graph_check.proofs.order.Order.generate.Goals as goal
 
 pub returns-in_default : goal.returns-in_default

@@ -1,8 +1,7 @@
 use Rattle.std.proofs.Common.{sym}
 use Rattle.pc_ground.specs.Keys.{key_node}
 use Rattle.graph_text.specs.Graphs.{graph_nodes, graph_edges}
-use Rattle.graph_check.proofs.ArcChains.{ends_over, acyclic_down, starts_within, number_within}
-use Rattle.graph_check.proofs.ColumnFlags.{topological_acyclic}
+use Rattle.graph_check.proofs.{ArcChains.{ends_over, acyclic_down, starts_within, number_within}, ColumnFlags.{topological_acyclic}}
 use Rattle.graph_check.proofs.GraphWorlds.{edge_answer, edge_is_none}
 use Rattle.graph_check.proofs.order.Order.has_edge.Goals as goal
 

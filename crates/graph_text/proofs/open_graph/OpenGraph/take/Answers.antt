@@ -1,9 +1,7 @@
 use Rattle.std.proofs.Common.{subst}
 use Rattle.pc_common.specs.Lines.{node, edge}
 use Rattle.pc_ground.specs.Keys.{key_node}
-use Rattle.graph_text.specs.declared.graph_line.GraphLine.{GraphLine}
-use Rattle.graph_text.specs.GraphTexts.{plain_line, IsGraphLineIn}
-use Rattle.graph_text.proofs.LinesOf.{keeps_names}
+use Rattle.graph_text.{specs.{declared.graph_line.GraphLine.{GraphLine}, GraphTexts.{plain_line, IsGraphLineIn}}, proofs.LinesOf.{keeps_names}}
 use Rattle.graph_text.proofs.open_graph.OpenGraph.take.Goals as goal
 
 pub returns-in-Ok-Node-clause-of_names : goal.returns-in-Ok-Node-clause-of_names

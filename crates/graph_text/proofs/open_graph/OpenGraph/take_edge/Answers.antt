@@ -1,10 +1,7 @@
-use Rattle.std.proofs.Common.{sym, ◌∙◌, refl}
-use Rattle.std.proofs.lemmas.List.{map_push}
-use Rattle.std.specs.Map.{keys_of}
-use Rattle.graph_text.specs.Graphs.{key_edge, graph_nodes, graph_edges}
-use Rattle.pc_ground.specs.Keys.{key_node}
-use Rattle.graph_text.proofs.OpenGraphs.{open_edge, edge_put, is_listed, not_listed}
+use Rattle.std.{proofs.{Common.{sym, ◌∙◌, refl}, lemmas.List.{map_push}}, specs.Map.{keys_of}}
+use Rattle.graph_text.{specs.Graphs.{key_edge, graph_nodes, graph_edges}, proofs.OpenGraphs.{open_edge, edge_put, is_listed, not_listed}}
 use Rattle.graph_text.proofs.open_graph.OpenGraph.take_edge.Goals.{then-not-contains_key-via-then-not-contains_key, then-not-contains_key-via-else-not-contains_key+then-not-contains_key-2}
+use Rattle.pc_ground.specs.Keys.{key_node}
 use Rattle.graph_text.proofs.open_graph.OpenGraph.take_edge.Goals as goal
 
 pub returns-then-not-contains_key-clause-taken : goal.returns-then-not-contains_key-clause-taken

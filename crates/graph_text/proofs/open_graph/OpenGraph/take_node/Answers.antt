@@ -1,10 +1,6 @@
-use Rattle.std.proofs.lemmas.List.{map_push}
-use Rattle.std.specs.Map.{keys_of}
-use Rattle.pc_ground.specs.Keys.{key_node}
-use Rattle.pc_ground.proofs.Nodes.{key_eq}
-use Rattle.graph_text.specs.Graphs.{graph_nodes, graph_edges}
-use Rattle.pc_ground.proofs.MapKeys.{keys_put}
-use Rattle.graph_text.proofs.OpenGraphs.{open_node}
+use Rattle.std.{proofs.lemmas.List.{map_push}, specs.Map.{keys_of}}
+use Rattle.pc_ground.{specs.Keys.{key_node}, proofs.{Nodes.{key_eq}, MapKeys.{keys_put}}}
+use Rattle.graph_text.{specs.Graphs.{graph_nodes, graph_edges}, proofs.OpenGraphs.{open_node}}
 use Rattle.graph_text.proofs.open_graph.OpenGraph.take_node.Goals as goal
 
 pub invariant_of-self-2 : goal.invariant_of-self-2

@@ -1,10 +1,7 @@
-use Rattle.std.proofs.Common.{inl, inr, ◌++◌, sym, subst}
-use Rattle.std.proofs.lemmas.Bool.{false≢true}
+use Rattle.std.proofs.{Common.{inl, inr, ◌++◌, sym, subst}, lemmas.Bool.{false≢true}}
 use Rattle.pc_common.specs.declared.limits.TheConstants.{MAX_CERTIFICATE}
-use Rattle.line_judge.specs.Texts.{HoldsRefused}
-use Rattle.line_judge.specs.Feeds.{IsDecided}
-use Rattle.lifted_check.specs.LiftedTexts.{Question, BeginsLifted}
-use Rattle.lifted_check.specs.Fed.{judge_view}
+use Rattle.line_judge.specs.{Texts.{HoldsRefused}, Feeds.{IsDecided}}
+use Rattle.lifted_check.specs.{LiftedTexts.{Question, BeginsLifted}, Fed.{judge_view}}
 use Rattle.lifted_check.proofs.checker.LiftedChecker.feed.Goals as goal
 
 pub returns-clause-took : goal.returns-clause-took

@@ -1,6 +1,5 @@
 use Rattle.pc_common.specs.declared.limits.TheConstants.{MAX_CERTIFICATE}
-use Rattle.lifted_check.specs.Fed.{lifted_of}
-use Rattle.lifted_check.proofs.Outcomes.{outcome_holds, finished_found}
+use Rattle.lifted_check.{specs.Fed.{lifted_of}, proofs.Outcomes.{outcome_holds, finished_found}}
 use Rattle.lifted_check.proofs.checker.LiftedChecker.finish.Goals as goal
 
 pub returns-clause-found : goal.returns-clause-found

@@ -1,8 +1,7 @@
 use Rattle.std.proofs.Common.{sym, ◌∙◌, ap, subst, [], List}
 use Rattle.pc_common.specs.Case.{Case}
 use Rattle.pc_syntax.specs.declared.closed.Closed.{Closed}
-use Rattle.lifted_check.specs.LiftedTexts.{Question, asked}
-use Rattle.lifted_check.specs.Stages.{Stands}
+use Rattle.lifted_check.specs.{LiftedTexts.{Question, asked}, Stages.{Stands}}
 use Rattle.lifted_check.proofs.checker.LiftedChecker.new.Goals as goal
 
 pub new-requires-clause-stands : goal.new-requires-clause-stands

@@ -1,5 +1,4 @@
-use Rattle.lifted_check.specs.LiftedTexts.{asked}
-use Rattle.lifted_check.proofs.Texts.{done_is}
+use Rattle.lifted_check.{specs.LiftedTexts.{asked}, proofs.Texts.{done_is}}
 use Rattle.lifted_check.proofs.judge.LiftedJudgeJudge.is_done.Goals as goal
 
 pub returns : goal.returns

@@ -1,7 +1,5 @@
-use Rattle.std.proofs.Common.{◌≡◌, ℕ, List, [], ◌∷◌, ◌++◌, true, false, Bool, subst}
-use Rattle.std.proofs.lemmas.Result.{IfOk-weaker}
-use Rattle.lifted_check.specs.LiftedTexts.{asked, BeginsLifted}
-use Rattle.lifted_check.specs.Stages.{IsAsked, StandsAt, Stands, HasGone}
+use Rattle.std.proofs.{Common.{◌≡◌, ℕ, List, [], ◌∷◌, ◌++◌, true, false, Bool, subst}, lemmas.Result.{IfOk-weaker}}
+use Rattle.lifted_check.specs.{LiftedTexts.{asked, BeginsLifted}, Stages.{IsAsked, StandsAt, Stands, HasGone}}
 use Rattle.lifted_check.proofs.judge.LiftedJudgeJudge.step.Goals as goal
 
 pub returns-clause-goes : goal.returns-clause-goes

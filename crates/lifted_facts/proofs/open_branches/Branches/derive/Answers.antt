@@ -1,9 +1,5 @@
-use Rattle.std.proofs.Common.{subst, List, [], reverse, map}
-use Rattle.std.specs.Prelude.{is_ok}
-use Rattle.lifted_facts.specs.declared.fact.Fact.{Fact}
-use Rattle.lifted_facts.specs.PlainFacts.{PlainFact, plain_fact}
-use Rattle.lifted_facts.specs.Lifted.{HasPart}
-use Rattle.lifted_facts.proofs.KeptFacts.{kept_push}
+use Rattle.std.{proofs.Common.{subst, List, [], reverse, map}, specs.Prelude.{is_ok}}
+use Rattle.lifted_facts.{specs.{declared.fact.Fact.{Fact}, PlainFacts.{PlainFact, plain_fact}, Lifted.{HasPart}}, proofs.KeptFacts.{kept_push}}
 use Rattle.lifted_facts.proofs.OpenFacts.{did_derive, no_derive}
 use Rattle.lifted_facts.proofs.open_branches.Branches.derive.Goals as goal
 

@@ -1,7 +1,5 @@
-use Rattle.std.proofs.Common.{◌∙◌, ap, List, ◌++◌, ◌∷◌, []}
-use Rattle.std.specs.Prelude.{is_ok, if◌then◌else◌}
-use Rattle.lifted_facts.specs.declared.fact.Fact.{Fact}
-use Rattle.lifted_facts.proofs.KeptFacts.{kept_next, opened_later}
+use Rattle.std.{proofs.Common.{◌∙◌, ap, List, ◌++◌, ◌∷◌, []}, specs.Prelude.{is_ok, if◌then◌else◌}}
+use Rattle.lifted_facts.{specs.declared.fact.Fact.{Fact}, proofs.KeptFacts.{kept_next, opened_later}}
 use Rattle.lifted_facts.proofs.open_branches.Branches.open_next.Goals as goal
 
 pub invariant_of-self-in-Some : goal.invariant_of-self-in-Some

@@ -1,13 +1,7 @@
-use Rattle.std.proofs.Common.{◌≡◌, ◌∙◌, ap, subst, sym, refl, List, [], reverse, map, length, arith}
-use Rattle.lifted_facts.specs.declared.fact.Fact.{Fact}
-use Rattle.lifted_facts.specs.declared.waiting.Waiting.{Waiting}
-use Rattle.lifted_facts.specs.PlainFacts.{PlainFact, plain_fact}
-use Rattle.lifted_facts.specs.Lifted.{split as split_step, HasSides, HasAdvanced}
-use Rattle.lifted_facts.specs.OpenBranches.{opens_of}
-use Rattle.std.proofs.Common.{true}
-use Rattle.std.specs.Prelude.{is_ok}
-use Rattle.lifted_facts.proofs.KeptFacts.{reversed, kept_push, kept_later}
-use Rattle.lifted_facts.proofs.OpenFacts.{did_split, no_split}
+use Rattle.std.{proofs.Common.{◌≡◌, ◌∙◌, ap, subst, sym, refl, List, [], reverse, map, length, arith, true}, specs.Prelude.{is_ok}}
+use Rattle.lifted_facts.specs.{declared.{fact.Fact.{Fact}, waiting.Waiting.{Waiting}}, PlainFacts.{PlainFact, plain_fact}}
+use Rattle.lifted_facts.specs.{Lifted.{split as split_step, HasSides, HasAdvanced}, OpenBranches.{opens_of}}
+use Rattle.lifted_facts.proofs.{KeptFacts.{reversed, kept_push, kept_later}, OpenFacts.{did_split, no_split}}
 use Rattle.lifted_facts.proofs.open_branches.Branches.split.Goals as goal
 
 pub invariant_of-self : goal.invariant_of-self

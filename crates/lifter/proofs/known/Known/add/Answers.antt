@@ -1,7 +1,6 @@
 use Rattle.std.proofs.Common.{ℕ, sym, subst, List, ◌∙◌}
 use Rattle.pc_common.proofs.Elements.{In}
-use Rattle.lifter.specs.KnownFacts.{Entry, entry, plain_key}
-use Rattle.lifter.proofs.FoundKeys.{marked_before, marked_new, put_last}
+use Rattle.lifter.{specs.KnownFacts.{Entry, entry, plain_key}, proofs.FoundKeys.{marked_before, marked_new, put_last}}
 use Rattle.lifter.proofs.known.Known.add.Goals as goal
 
 pub returns-in-Some : goal.returns-in-Some

@@ -1,5 +1,4 @@
-use Rattle.std.proofs.Common.{sym, ap, ◌∙◌, take}
-use Rattle.std.proofs.lemmas.List.{take-map}
+use Rattle.std.proofs.{Common.{sym, ap, ◌∙◌, take}, lemmas.List.{take-map}}
 use Rattle.lifter.specs.KnownFacts.{entries_of}
 use Rattle.lifter.proofs.known.Known.truncate.Goals as goal
 

@@ -1,8 +1,7 @@
-use Rattle.std.proofs.Common.{◌≡◌, ap, length, rules}
-use Rattle.std.proofs.lemmas.List.{nil_from_length}
+use Rattle.std.proofs.{Common.{◌≡◌, ap, length, rules}, lemmas.List.{nil_from_length}}
 use Rattle.line_judge.proofs.JudgedLines.{whole_at_end, refused_end}
-use Rattle.line_judge.proofs.judged.Judged.end.Goals as goal
 use Rattle.line_judge.proofs.judged.Judged.end.Goals.{else-is_empty-via-then-is_empty+else-is_done, else-is_empty-via-else-is_empty}
+use Rattle.line_judge.proofs.judged.Judged.end.Goals as goal
 
 pub returns-then-is_done : goal.returns-then-is_done
 returns-then-is_done g c = λ start text good.

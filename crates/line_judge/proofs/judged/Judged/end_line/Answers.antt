@@ -1,5 +1,4 @@
-use Rattle.std.proofs.Common.{◌≡◌, ◌∙◌, ◌++◌, [], ap, sym, rules}
-use Rattle.std.proofs.lemmas.List.{nil_from_length}
+use Rattle.std.proofs.{Common.{◌≡◌, ◌∙◌, ◌++◌, [], ap, sym, rules}, lemmas.List.{nil_from_length}}
 use Rattle.line_judge.proofs.JudgedLines.{line_judged, line_stepped}
 use Rattle.line_judge.proofs.judged.Judged.end_line.Goals as goal
 

@@ -1,7 +1,5 @@
-use Rattle.std.proofs.Common.{◌≡◌, ◌∙◌, ◌++◌, ◌∷◌, [], ap, sym, subst, append_assoc, rules}
-use Rattle.std.proofs.lemmas.Bool.{MatchBool-at_true, MatchBool-at_false}
-use Rattle.line_judge.specs.JudgedLines.{IsGood, IsBad}
-use Rattle.line_judge.proofs.JudgedLines.{bad_stays, next_taken}
+use Rattle.std.proofs.{Common.{◌≡◌, ◌∙◌, ◌++◌, ◌∷◌, [], ap, sym, subst, append_assoc, rules}, lemmas.Bool.{MatchBool-at_true, MatchBool-at_false}}
+use Rattle.line_judge.{specs.JudgedLines.{IsGood, IsBad}, proofs.JudgedLines.{bad_stays, next_taken}}
 use Rattle.line_judge.proofs.judged.Judged.read.Goals as goal
 
 pub returns-then-not-branch : goal.returns-then-not-branch

@@ -1,15 +1,8 @@
 use Rattle.std.proofs.Common.{◌≡◌, List, [], ◌∷◌, ◌++◌, ◌∙◌, subst, sym, ap, refl, arith, length}
-use Rattle.pc_common.specs.declared.fault.FaultKind.TheVariants.{AgainInitial, AgainFinal}
-use Rattle.pc_common.specs.declared.value.Value.{Value}
-use Rattle.pc_common.specs.Case.{permitted, forbidden}
+use Rattle.pc_common.specs.{declared.{fault.FaultKind.TheVariants.{AgainInitial, AgainFinal}, value.Value.{Value}}, Case.{permitted, forbidden}}
 use Rattle.pc_case.specs.declared.stated.Stated.{Stated}
-use Rattle.litmus_reader.specs.Values.{IsUnstated}
-use Rattle.litmus_reader.specs.Items.{heads_in, initial_in, final_in}
-use Rattle.litmus_reader.specs.Content.{Never, AgainStated, MarkFault, IsFaultOf}
-use Rattle.litmus_reader.specs.Builder.{HasLines}
-use Rattle.litmus_reader.specs.declared.builder.CaseBuilder.{CaseBuilder}
-use Rattle.litmus_reader.specs.declared.item.Item.{Item}
-use Rattle.litmus_reader.proofs.ValueFacts.{again-none}
+use Rattle.litmus_reader.specs.{Values.{IsUnstated}, Items.{heads_in, initial_in, final_in}, Content.{Never, AgainStated, MarkFault, IsFaultOf}}
+use Rattle.litmus_reader.{specs.{Builder.{HasLines}, declared.{builder.CaseBuilder.{CaseBuilder}, item.Item.{Item}}}, proofs.ValueFacts.{again-none}}
 use Rattle.litmus_reader.proofs.BuilderFacts.{on_ok, never-first, has_microop, has_relationship, has_initial, has_final, has_expectation}
 use Rattle.litmus_reader.proofs.CleanFacts.{core_fits, head_never, few}
 use Rattle.litmus_reader.proofs.builder.CaseBuilder.append.Goals as goal

@@ -1,9 +1,6 @@
 use Rattle.std.proofs.Common.{List, subst, sym, ◌∙◌}
-use Rattle.pc_common.specs.declared.place.Place.{Place}
-use Rattle.pc_common.specs.Case.{Expectation}
-use Rattle.litmus_reader.specs.Content.{IsFaultOf, HeadFault, ActionFault, First, Unknown, AgainExpected}
-use Rattle.litmus_reader.specs.Rows.{Answers}
-use Rattle.litmus_reader.specs.declared.item.Head.{Head}
+use Rattle.pc_common.specs.{declared.place.Place.{Place}, Case.{Expectation}}
+use Rattle.litmus_reader.specs.{Content.{IsFaultOf, HeadFault, ActionFault, First, Unknown, AgainExpected}, Rows.{Answers}, declared.item.Head.{Head}}
 use Rattle.litmus_reader.specs.declared.item.Item.{Item}
 use Rattle.litmus_reader.proofs.builder.CaseBuilder.fault.Goals as goal
 

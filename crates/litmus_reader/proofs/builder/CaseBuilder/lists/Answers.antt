@@ -1,18 +1,9 @@
-use Rattle.std.proofs.Common.{◌≡◌, ℕ, List, [], ◌∷◌, map, length, subst, sym, ap, ◌∙◌, refl}
-use Rattle.std.proofs.lemmas.List.{append-nil, length-map}
+use Rattle.std.proofs.{Common.{◌≡◌, ℕ, List, [], ◌∷◌, map, length, subst, sym, ap, ◌∙◌, refl}, lemmas.List.{append-nil, length-map}}
 use Rattle.pc_common.specs.Case.{Address, Value}
-use Rattle.pc_case.specs.MicroOps.{AreMicroOps}
-use Rattle.pc_case.specs.Stated.{IsStatedOnce, AreWithin}
-use Rattle.pc_case.specs.Plain.{micro_op, dependency, stated_value}
-use Rattle.pc_case.specs.declared.stated.Stated.{Stated}
+use Rattle.pc_case.specs.{MicroOps.{AreMicroOps}, Stated.{IsStatedOnce, AreWithin}, Plain.{micro_op, dependency, stated_value}, declared.stated.Stated.{Stated}}
 use Rattle.litmus_reader.specs.Items.{microops_in, heads_in, relationships_in, initial_in, final_in, op_of, dependency_of, stated_by, expectation_among}
-use Rattle.litmus_reader.specs.Builder.{HasLines, stated_of}
-use Rattle.litmus_reader.specs.declared.item.Head.{Head}
-use Rattle.litmus_reader.specs.declared.item.Microop.{Microop}
-use Rattle.litmus_reader.specs.declared.item.ValueLine.{ValueLine}
-use Rattle.litmus_reader.specs.declared.item.Item.{Item}
-use Rattle.litmus_reader.specs.declared.builder.CaseBuilder.{CaseBuilder}
-use Rattle.litmus_reader.proofs.CleanFacts.{are_micro_ops, dependencies_within, initial_once, final_once}
+use Rattle.litmus_reader.specs.{Builder.{HasLines, stated_of}, declared.item.{Head.{Head}, Microop.{Microop}, ValueLine.{ValueLine}, Item.{Item}}}
+use Rattle.litmus_reader.{specs.declared.builder.CaseBuilder.{CaseBuilder}, proofs.CleanFacts.{are_micro_ops, dependencies_within, initial_once, final_once}}
 use Rattle.litmus_reader.proofs.builder.CaseBuilder.lists.Goals as goal
 
 lines_stated : (lines : List ValueLine) → map stated_value (map stated_of lines) ≡ map stated_by lines

@@ -1,7 +1,6 @@
 use Rattle.std.proofs.Common.{List, [], ◌∷◌, ◌++◌, subst, sym, ap, ◌∙◌}
 use Rattle.pc_case.specs.declared.stated.Stated.{Stated}
-use Rattle.litmus_reader.specs.Values.{IsUnstated}
-use Rattle.litmus_reader.proofs.ValueFacts.{value_added}
+use Rattle.litmus_reader.{specs.Values.{IsUnstated}, proofs.ValueFacts.{value_added}}
 use Rattle.litmus_reader.proofs.values.Values.add.Goals as goal
 
 pub returns : goal.returns

@@ -1,10 +1,7 @@
-use Rattle.std.proofs.Common.{◌≡◌, List, Option, subst, sym, ◌∙◌}
-use Rattle.std.specs.Map.{lookup}
-use Rattle.pc_case.specs.declared.stated.Stated.{Stated}
-use Rattle.pc_case.specs.contracts.address.AddressPartialEq.TheImpl.{eq-value as address_eq}
+use Rattle.std.{proofs.Common.{◌≡◌, List, Option, subst, sym, ◌∙◌}, specs.Map.{lookup}}
+use Rattle.pc_case.specs.{declared.stated.Stated.{Stated}, contracts.address.AddressPartialEq.TheImpl.{eq-value as address_eq}}
 use Rattle.pc_common.specs.declared.value.Value.{Value}
-use Rattle.litmus_reader.specs.Values.{IsValueAt}
-use Rattle.litmus_reader.proofs.ValueFacts.{value_at}
+use Rattle.litmus_reader.{specs.Values.{IsValueAt}, proofs.ValueFacts.{value_at}}
 use Rattle.litmus_reader.proofs.values.Values.get.Goals as goal
 
 pub returns : goal.returns

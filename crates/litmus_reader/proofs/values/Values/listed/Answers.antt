@@ -1,6 +1,4 @@
-use Rattle.std.proofs.Common.{◌≡◌, List, [], ◌∷◌, ◌++◌, take, get_or, ap, sym, ◌∙◌, arith}
-use Rattle.std.proofs.lemmas.List.{take_more}
-use Rattle.std.proofs.lemmas.Option.{get_or_from_slice_get}
+use Rattle.std.proofs.{Common.{◌≡◌, List, [], ◌∷◌, ◌++◌, take, get_or, ap, sym, ◌∙◌, arith}, lemmas.{List.{take_more}, Option.{get_or_from_slice_get}}}
 use Rattle.pc_case.specs.declared.stated.Stated.{Stated}
 use Rattle.litmus_reader.proofs.values.Values.listed.Goals as goal
 

@@ -1,10 +1,6 @@
-use Rattle.std.proofs.Common.{◌≡◌, ◌<◌, ◌+◌, ◌*◌, get_or, sym, ap, ◌∙◌, arith}
-use Rattle.std.proofs.lemmas.Result.{IfOk-weaker}
-use Rattle.pc_syntax.specs.Written.{written, bind_}
-use Rattle.pc_syntax.specs.Sizes.{expanded_height}
-use Rattle.pc_syntax.specs.Expansion.{expansion_of}
-use Rattle.macro_expand.specs.Tables.{callee_of, before, plain_macros, macro_at}
-use Rattle.macro_expand.proofs.Expansions.{parameter_names_at}
+use Rattle.std.proofs.{Common.{◌≡◌, ◌<◌, ◌+◌, ◌*◌, get_or, sym, ap, ◌∙◌, arith}, lemmas.Result.{IfOk-weaker}}
+use Rattle.pc_syntax.specs.{Written.{written, bind_}, Sizes.{expanded_height}, Expansion.{expansion_of}}
+use Rattle.macro_expand.{specs.Tables.{callee_of, before, plain_macros, macro_at}, proofs.Expansions.{parameter_names_at}}
 use Rattle.macro_expand.proofs.MeasureLaws.{lower, expansion_found, expansion_not_found}
 use Rattle.macro_expand.proofs.expansion.Expander.+walk.Goals as goal
 

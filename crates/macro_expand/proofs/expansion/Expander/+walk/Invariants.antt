@@ -1,6 +1,5 @@
 use Rattle.std.proofs.Common.{◌+◌, ◌*◌, max}
-use Rattle.pc_syntax.specs.Written.{written}
-use Rattle.pc_syntax.specs.Sizes.{expanded_height}
+use Rattle.pc_syntax.specs.{Written.{written}, Sizes.{expanded_height}}
 use Rattle.macro_expand.specs.Tables.{before, plain_macros}
 use Rattle.macro_expand.proofs.expansion.Expander.+walk.Given as goal
 

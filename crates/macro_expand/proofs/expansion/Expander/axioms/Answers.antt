@@ -1,8 +1,6 @@
 use Rattle.std.proofs.Common.{subst, arith}
-use Rattle.pc_syntax.specs.Written.{Written, written_item}
-use Rattle.pc_syntax.specs.Expansion.{IsExpanded}
-use Rattle.macro_expand.specs.Tables.{expansion_by_all, OfAxiom}
-use Rattle.macro_expand.proofs.Expansions.{item_of_axiom}
+use Rattle.pc_syntax.specs.{Written.{Written, written_item}, Expansion.{IsExpanded}}
+use Rattle.macro_expand.{specs.Tables.{expansion_by_all, OfAxiom}, proofs.Expansions.{item_of_axiom}}
 use Rattle.macro_expand.proofs.expansion.Expander.axioms.Goals as goal
 
 pub expand_body-requires-clause-expanded : goal.expand_body-requires-clause-expanded

@@ -1,8 +1,7 @@
 use Rattle.std.proofs.Common.{◌≡◌, Some, None, slice_get, subst}
-use Rattle.macro_expand.specs.Tables.{callee_of, before, macro_at, plain_macros}
-use Rattle.macro_expand.proofs.Tables.{found_below, found_above, found_none}
-use Rattle.macro_expand.proofs.macros.Macros.callee.Goals as goal
+use Rattle.macro_expand.{specs.Tables.{callee_of, before, macro_at, plain_macros}, proofs.Tables.{found_below, found_above, found_none}}
 use Rattle.macro_expand.proofs.macros.Macros.callee.Goals.{in_default-via-in-Some+else-found-earlier, in_default-via-in_default}
+use Rattle.macro_expand.proofs.macros.Macros.callee.Goals as goal
 
 pub returns-in-Some : goal.returns-in-Some
 returns-in-Some c =

@@ -1,7 +1,5 @@
-use Rattle.std.proofs.Common.{◌≡◌, map, take}
-use Rattle.std.specs.List.{flat_map}
-use Rattle.pc_syntax.specs.Written.{written_item}
-use Rattle.pc_syntax.specs.Observable.{macro_of}
+use Rattle.std.{proofs.Common.{◌≡◌, map, take}, specs.List.{flat_map}}
+use Rattle.pc_syntax.specs.{Written.{written_item}, Observable.{macro_of}}
 use Rattle.macro_expand.specs.Tables.{plain_macros, first_of_names}
 use Rattle.macro_expand.proofs.macros.Macros.collect.Given as goal
 

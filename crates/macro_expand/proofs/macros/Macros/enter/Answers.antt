@@ -1,9 +1,6 @@
-use Rattle.std.proofs.Common.{◌≡◌, Bool, true, false, not, Option, Some, None, option_copied, Bor, sym, ap, ◌∙◌, subst}
-use Rattle.std.specs.Option.{is_some}
-use Rattle.pc_syntax.specs.Written.{written}
-use Rattle.pc_syntax.specs.MacroFaults.{macro_with_name}
-use Rattle.macro_expand.specs.declared.macros.Macro.{Macro}
-use Rattle.macro_expand.specs.Tables.{with_macro, macro_at, plain_macros}
+use Rattle.std.{proofs.Common.{◌≡◌, Bool, true, false, not, Option, Some, None, option_copied, Bor, sym, ap, ◌∙◌, subst}, specs.Option.{is_some}}
+use Rattle.pc_syntax.specs.{Written.{written}, MacroFaults.{macro_with_name}}
+use Rattle.macro_expand.specs.{declared.macros.Macro.{Macro}, Tables.{with_macro, macro_at, plain_macros}}
 use Rattle.macro_expand.proofs.Tables.{entry_macros, still_table, entered_new, entered_old, some_first}
 use Rattle.macro_expand.proofs.macros.Macros.enter.Goals as goal
 

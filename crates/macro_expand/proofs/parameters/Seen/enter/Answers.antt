@@ -1,8 +1,6 @@
 use Rattle.std.proofs.Common.{List, [], ◌∷◌, ◌++◌, map, option_map, sym, ap, ◌∙◌}
-use Rattle.pc_syntax.specs.declared.term.Word.{Word}
-use Rattle.pc_syntax.specs.MacroFaults.{word_with_name}
-use Rattle.macro_expand.specs.Tables.{word_at}
-use Rattle.macro_expand.proofs.SeenNames.{place_of, no_place, word_more}
+use Rattle.pc_syntax.specs.{declared.term.Word.{Word}, MacroFaults.{word_with_name}}
+use Rattle.macro_expand.{specs.Tables.{word_at}, proofs.SeenNames.{place_of, no_place, word_more}}
 use Rattle.macro_expand.proofs.parameters.Seen.enter.Goals as goal
 
 pub returns-in-Some : goal.returns-in-Some

@@ -1,9 +1,5 @@
-use Rattle.std.proofs.Common.{◌∙◌, length, refl, ap}
-use Rattle.std.proofs.lemmas.List.{length_push}
-use Rattle.order_graph.proofs.OneMore.{more}
-use Rattle.order_graph.proofs.IsClash.{clashes_refute}
-use Rattle.order_graph.proofs.TakesEdge.{takes}
-use Rattle.order_graph.proofs.MarkLists.{marks_none}
+use Rattle.std.proofs.{Common.{◌∙◌, length, refl, ap}, lemmas.List.{length_push}}
+use Rattle.order_graph.proofs.{OneMore.{more}, IsClash.{clashes_refute}, TakesEdge.{takes}, MarkLists.{marks_none}}
 use Rattle.order_graph.proofs.Orders.{order_now, order_sized, order_more, found_none, found_some, order_kept}
 use Rattle.order_graph.proofs.graph.OrderGraph.assert_literal.Goals as goal
 

@@ -1,9 +1,6 @@
-use Rattle.std.proofs.Common.{◌≡◌, ◌∙◌, ◌+◌, ◌-◌, ◌<◌, List, ℕ, length, get_or, set, refl, sym, ap, arith}
-use Rattle.std.proofs.lemmas.List.{get_or_read, length-set, length_push}
+use Rattle.std.proofs.{Common.{◌≡◌, ◌∙◌, ◌+◌, ◌-◌, ◌<◌, List, ℕ, length, get_or, set, refl, sym, ap, arith}, lemmas.List.{get_or_read, length-set, length_push}}
 use Rattle.std.proofs.lemmas.List.Sums.{get_or-le-sum_by}
-use Rattle.order_graph.specs.Marks.{marks_from}
-use Rattle.order_graph.proofs.Orders.{order_marked}
-use Rattle.order_graph.proofs.MarkLists.{length-marks, marks_last}
+use Rattle.order_graph.{specs.Marks.{marks_from}, proofs.{Orders.{order_marked}, MarkLists.{length-marks, marks_last}}}
 use Rattle.order_graph.proofs.graph.OrderGraph.mark.Goals as goal
 
 pub overflow_add-index_mut : goal.overflow_add-index_mut

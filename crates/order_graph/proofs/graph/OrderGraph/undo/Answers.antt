@@ -1,9 +1,7 @@
 use Rattle.std.proofs.Common.{◌≡◌, ◌∙◌, ◌+◌, ◌≤◌, List, ℕ, length, take, get_or, sum, ap, refl, sym, arith}
 use Rattle.std.proofs.lemmas.List.{get_or_read, length_push, take_more_set}
 use Rattle.undo_trail.specs.BitTable.{tables}
-use Rattle.order_graph.specs.Marks.{marks_from}
-use Rattle.order_graph.proofs.MarkLists.{length-marks, IsCutAt, cut_at}
-use Rattle.order_graph.proofs.Orders.{order_undone, order_cost}
+use Rattle.order_graph.{specs.Marks.{marks_from}, proofs.{MarkLists.{length-marks, IsCutAt, cut_at}, Orders.{order_undone, order_cost}}}
 use Rattle.order_graph.proofs.graph.OrderGraph.undo.Given.{Over}
 use Rattle.order_graph.proofs.graph.OrderGraph.undo.Goals as goal
 

@@ -1,8 +1,6 @@
 use Rattle.std.proofs.Common.{◌∙◌, ap, map}
 use Rattle.pc_case.specs.Plain.{micro_op}
-use Rattle.pattern_reader.specs.Rows.{filled}
-use Rattle.pattern_reader.proofs.Digits.{value_among}
-use Rattle.pattern_reader.proofs.RowCases.{kept_lists}
+use Rattle.pattern_reader.{specs.Rows.{filled}, proofs.{Digits.{value_among}, RowCases.{kept_lists}}}
 use Rattle.pattern_reader.proofs.pattern.Pattern.row_lists.Goals as goal
 
 pub returns-clause-lists : goal.returns-clause-lists

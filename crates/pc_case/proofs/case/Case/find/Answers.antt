@@ -1,6 +1,5 @@
 use Rattle.std.proofs.Common.{ap, arith}
-use Rattle.pc_case.specs.Plain.{micro_op}
-use Rattle.pc_case.proofs.Names.{stands_at, place_within, none_more, one_name, other_name}
+use Rattle.pc_case.{specs.Plain.{micro_op}, proofs.Names.{stands_at, place_within, none_more, one_name, other_name}}
 use Rattle.pc_case.proofs.case.Case.find.Goals as goal
 
 pub returns-then-eq : goal.returns-then-eq

@@ -1,10 +1,6 @@
-use Rattle.std.proofs.Common.{rules, ◌≡◌, ◌&&◌, ◌||◌, true, false, sym, ap, ◌∙◌, Bool}
-use Rattle.std.specs.Prelude.{is_ok}
-use Rattle.std.specs.List.{list_any}
-use Rattle.std.specs.Map.{keys_of}
+use Rattle.std.{proofs.Common.{rules, ◌≡◌, ◌&&◌, ◌||◌, true, false, sym, ap, ◌∙◌, Bool}, specs.{Prelude.{is_ok}, List.{list_any}, Map.{keys_of}}}
 use Rattle.pc_common.specs.Names.{same_name}
-use Rattle.pc_case.specs.NameSets.{is_known}
-use Rattle.pc_case.proofs.Lookups.{name_written, name_first, key_put, or_false}
+use Rattle.pc_case.{specs.NameSets.{is_known}, proofs.Lookups.{name_written, name_first, key_put, or_false}}
 use Rattle.pc_case.proofs.long_names.LongNames.add.Goals as goal
 
 pub returns-in_err-insert-in-Some : goal.returns-in_err-insert-in-Some

@@ -1,5 +1,4 @@
-use Rattle.std.proofs.Common.{◌≡◌}
-use Rattle.std.proofs.lemmas.Map.Entries.{entries_from_clone}
+use Rattle.std.proofs.{Common.{◌≡◌}, lemmas.Map.Entries.{entries_from_clone}}
 use Rattle.pc_case.proofs.stated.ValueTable.copy.Goals as goal
 
 pub invariant_of-result : goal.invariant_of-result

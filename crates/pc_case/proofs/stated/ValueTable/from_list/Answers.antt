@@ -1,5 +1,4 @@
-use Rattle.pc_case.specs.contracts.address.AddressPartialEq.TheImpl.{eq-value as address_eq}
-use Rattle.pc_case.proofs.Values.{values_step, address_eq_flips}
+use Rattle.pc_case.{specs.contracts.address.AddressPartialEq.TheImpl.{eq-value as address_eq}, proofs.Values.{values_step, address_eq_flips}}
 use Rattle.pc_case.proofs.stated.ValueTable.from_list.Goals as goal
 
 pub loop-line-preserved : goal.loop-line-preserved

@@ -1,6 +1,5 @@
 use Rattle.std.proofs.Common.{map, take}
-use Rattle.pc_case.specs.Plain.{stated_value}
-use Rattle.pc_case.specs.Tables.{AreValuesOf}
+use Rattle.pc_case.specs.{Plain.{stated_value}, Tables.{AreValuesOf}}
 use Rattle.pc_case.proofs.stated.ValueTable.from_list.Given as goal
 
 abbrev pub invariant-loop-line : goal.invariant-loop-line

@@ -1,9 +1,7 @@
-use Rattle.std.proofs.Common.{map, ap, ◌∙◌}
-use Rattle.std.specs.Option.{option_map}
-use Rattle.pc_case.specs.Plain.{address_at, plain_value, stated_value}
-use Rattle.pc_common.specs.Addresses.{stated_at}
-use Rattle.pc_case.specs.contracts.address.AddressPartialEq.TheImpl.{eq-value as address_eq}
+use Rattle.std.{proofs.Common.{map, ap, ◌∙◌}, specs.Option.{option_map}}
+use Rattle.pc_case.specs.{Plain.{address_at, plain_value, stated_value}, contracts.address.AddressPartialEq.TheImpl.{eq-value as address_eq}}
 use Rattle.pc_case.proofs.Values.{lookup_stated, address_eq_flips}
+use Rattle.pc_common.specs.Addresses.{stated_at}
 use Rattle.pc_case.proofs.stated.ValueTable.get.Goals as goal
 
 pub returns : goal.returns

@@ -1,7 +1,5 @@
-use Rattle.std.proofs.Common.{◌≡◌, ◌<◌, ◌≤◌, ◌∷◌, ◌-◌, ◌∙◌, ap, ℕ, List, Some, length, get_or, take, drop, arith}
-use Rattle.std.specs.Prelude.{slice_get}
-use Rattle.pc_case.specs.Cuts.{cuts, Rises}
-use Rattle.pc_case.proofs.Pieces.{length-cuts, piece}
+use Rattle.std.{proofs.Common.{◌≡◌, ◌<◌, ◌≤◌, ◌∷◌, ◌-◌, ◌∙◌, ap, ℕ, List, Some, length, get_or, take, drop, arith}, specs.Prelude.{slice_get}}
+use Rattle.pc_case.{specs.Cuts.{cuts, Rises}, proofs.Pieces.{length-cuts, piece}}
 use Rattle.pc_case.proofs.type_names.TypeNames.get.Goals as goal
 
 -- there are as many ends as names

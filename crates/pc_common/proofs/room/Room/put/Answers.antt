@@ -1,8 +1,5 @@
-use Rattle.std.proofs.Common.{rules, arith, refl, inl, inr, ap, ◌∙◌, ◌≡◌, ◌≤◌, [], ◌+◌}
-use Rattle.std.proofs.lemmas.Bool.{cases_lt}
-use Rattle.pc_common.specs.Writes.{success}
-use Rattle.pc_common.specs.Room.{Puts}
-use Rattle.pc_common.proofs.Rooms.{puts_then, puts_nothing, puts_behind, puts_text, puts_cut, next_bytes}
+use Rattle.std.proofs.{Common.{rules, arith, refl, inl, inr, ap, ◌∙◌, ◌≡◌, ◌≤◌, [], ◌+◌}, lemmas.Bool.{cases_lt}}
+use Rattle.pc_common.{specs.{Writes.{success}, Room.{Puts}}, proofs.Rooms.{puts_then, puts_nothing, puts_behind, puts_text, puts_cut, next_bytes}}
 use Rattle.pc_common.proofs.room.Room.put.Goals as goal
 
 pub returns-in_err-make_space-clause-puts : goal.returns-in_err-make_space-clause-puts

@@ -1,7 +1,6 @@
 -- The first `at` bytes of the piece were put.
 use Rattle.std.proofs.Common.{length, ◌-◌, ◌≡◌, ◌≤◌, ◌+◌, take}
-use Rattle.pc_common.specs.Writes.{success}
-use Rattle.pc_common.specs.Room.{Puts}
+use Rattle.pc_common.specs.{Writes.{success}, Room.{Puts}}
 use Rattle.pc_common.proofs.room.Room.put.Given as goal
 
 abbrev pub invariant-loop-at : goal.invariant-loop-at

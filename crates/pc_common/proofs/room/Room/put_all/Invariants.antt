@@ -1,8 +1,6 @@
 -- The first pieces were put.
-use Rattle.std.proofs.Common.{take}
-use Rattle.std.specs.List.{flat_map}
-use Rattle.pc_common.specs.Writes.{success}
-use Rattle.pc_common.specs.Room.{Puts}
+use Rattle.std.{proofs.Common.{take}, specs.List.{flat_map}}
+use Rattle.pc_common.specs.{Writes.{success}, Room.{Puts}}
 use Rattle.pc_common.proofs.room.Room.put_all.Given as goal
 
 abbrev pub invariant-loop-piece : goal.invariant-loop-piece

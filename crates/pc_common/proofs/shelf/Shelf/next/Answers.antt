@@ -1,9 +1,5 @@
-use Rattle.std.proofs.Common.{arith, ◌≡◌, ◌∙◌, ap, sym, drop, [], Option}
-use Rattle.std.specs.Option.{option_map_or}
-use Rattle.pc_common.specs.Held.{bytes_at}
-use Rattle.pc_common.specs.Shelf.{left_of}
-use Rattle.pc_common.specs.declared.shelf.Started.{Started}
-use Rattle.pc_common.proofs.Moves.{moved}
+use Rattle.std.{proofs.Common.{arith, ◌≡◌, ◌∙◌, ap, sym, drop, [], Option}, specs.Option.{option_map_or}}
+use Rattle.pc_common.{specs.{Held.{bytes_at}, Shelf.{left_of}, declared.shelf.Started.{Started}}, proofs.Moves.{moved}}
 use Rattle.pc_common.proofs.shelf.Shelf.next.Goals as goal
 
 pub returns-in-Some-clause-bytes : goal.returns-in-Some-clause-bytes

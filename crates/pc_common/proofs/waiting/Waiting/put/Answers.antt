@@ -1,5 +1,4 @@
-use Rattle.std.proofs.Common.{rules, arith}
-use Rattle.std.proofs.lemmas.Grind.{common_steps}
+use Rattle.std.proofs.{Common.{rules, arith}, lemmas.Grind.{common_steps}}
 use Rattle.pc_common.proofs.Moves.{went_behind}
 use Rattle.pc_common.proofs.waiting.Waiting.put.Goals as goal
 

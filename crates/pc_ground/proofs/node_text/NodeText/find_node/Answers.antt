@@ -1,5 +1,4 @@
-use Rattle.std.proofs.Common.{arith, sym}
-use Rattle.std.proofs.lemmas.Option.{slice_get_within}
+use Rattle.std.proofs.{Common.{arith, sym}, lemmas.Option.{slice_get_within}}
 use Rattle.pc_ground.proofs.node_text.NodeText.find_node.Goals as goal
 
 pub returns-in_err-op : goal.returns-in_err-op

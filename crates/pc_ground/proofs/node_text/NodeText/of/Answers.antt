@@ -1,5 +1,4 @@
-use Rattle.pc_ground.specs.NodeForm.{names_of}
-use Rattle.pc_ground.proofs.ReadableNodes.{readable}
+use Rattle.pc_ground.{specs.NodeForm.{names_of}, proofs.ReadableNodes.{readable}}
 use Rattle.pc_ground.proofs.node_text.NodeText.of.Goals as goal
 
 pub returns-clause-readable : goal.returns-clause-readable

@@ -1,5 +1,4 @@
-use Rattle.pc_ground.specs.NodeForm.{names_of_parts}
-use Rattle.pc_ground.proofs.ReadableNodes.{readable}
+use Rattle.pc_ground.{specs.NodeForm.{names_of_parts}, proofs.ReadableNodes.{readable}}
 use Rattle.pc_ground.proofs.node_text.NodeText.of_parts.Goals as goal
 
 pub returns-clause-readable : goal.returns-clause-readable

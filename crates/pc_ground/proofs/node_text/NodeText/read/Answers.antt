@@ -1,7 +1,5 @@
 use Rattle.std.proofs.Common.{sym, ◌∙◌}
-use Rattle.pc_ground.specs.Keys.{key_node}
-use Rattle.pc_ground.proofs.Cuts.{words_form, words_cuts, no_name}
-use Rattle.pc_ground.proofs.ReadableNodes.{readable, named_text, named_in, named_by, formed}
+use Rattle.pc_ground.{specs.Keys.{key_node}, proofs.{Cuts.{words_form, words_cuts, no_name}, ReadableNodes.{readable, named_text, named_in, named_by, formed}}}
 use Rattle.pc_ground.proofs.node_text.NodeText.read.Goals as goal
 
 pub returns-in_default-clause-readable : goal.returns-in_default-clause-readable

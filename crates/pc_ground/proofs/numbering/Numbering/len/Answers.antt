@@ -1,5 +1,4 @@
-use Rattle.std.proofs.Common.{sym, arith}
-use Rattle.std.proofs.lemmas.List.{length-map}
+use Rattle.std.proofs.{Common.{sym, arith}, lemmas.List.{length-map}}
 use Rattle.pc_ground.proofs.KeyNumbers.{few_keys, few_nodes, distinct_nodes}
 use Rattle.pc_ground.proofs.numbering.Numbering.len.Goals as goal
 

@@ -1,5 +1,4 @@
-use Rattle.std.proofs.Common.{arith, sym}
-use Rattle.std.proofs.lemmas.List.{length-map}
+use Rattle.std.proofs.{Common.{arith, sym}, lemmas.List.{length-map}}
 use Rattle.pc_ground.proofs.KeyNumbers.{placed_some, placed_none}
 use Rattle.pc_ground.proofs.numbering.Numbering.number.Goals as goal
 

@@ -1,9 +1,5 @@
 use Rattle.std.proofs.Common.{◌∙◌, ap}
-use Rattle.pc_ground.specs.Keys.{key_node}
-use Rattle.pc_ground.specs.Numbers.{seen}
-use Rattle.pc_ground.proofs.Nodes.{key_eq}
-use Rattle.pc_ground.proofs.MapKeys.{keys_put}
-use Rattle.pc_ground.proofs.KeyNumbers.{seen_key, few_keys}
+use Rattle.pc_ground.{specs.{Keys.{key_node}, Numbers.{seen}}, proofs.{Nodes.{key_eq}, MapKeys.{keys_put}, KeyNumbers.{seen_key, few_keys}}}
 use Rattle.pc_ground.proofs.numbering.Numbering.see.Goals as goal
 
 pub returns : goal.returns

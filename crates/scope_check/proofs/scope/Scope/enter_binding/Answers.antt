@@ -1,7 +1,6 @@
 use Rattle.std.proofs.Common.{◌<◌, ◌≤◌, length, refl, arith}
 use Rattle.pc_syntax.specs.Scope.{bound_in}
-use Rattle.scope_check.proofs.Walks.{drop_at}
-use Rattle.scope_check.proofs.ScopeLists.{scope_within, scope_over, bound_in_length, bound_none, bound_one_more, bound_whole}
+use Rattle.scope_check.proofs.{Walks.{drop_at}, ScopeLists.{scope_within, scope_over, bound_in_length, bound_none, bound_one_more, bound_whole}}
 use Rattle.scope_check.proofs.scope.Scope.enter_binding.Goals as goal
 
 pub returns-then-not-has_room-clause-err : goal.returns-then-not-has_room-clause-err

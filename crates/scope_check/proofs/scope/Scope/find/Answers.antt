@@ -1,7 +1,6 @@
 use Rattle.std.proofs.Common.{option_map, ap, ◌∙◌}
 use Rattle.pc_syntax.specs.Scope.{binding_of}
-use Rattle.scope_check.specs.Bindings.{binding}
-use Rattle.scope_check.proofs.ScopeLists.{find_is}
+use Rattle.scope_check.{specs.Bindings.{binding}, proofs.ScopeLists.{find_is}}
 use Rattle.scope_check.proofs.scope.Scope.find.Goals as goal
 
 pub returns : goal.returns

@@ -1,9 +1,5 @@
-use Rattle.std.proofs.Common.{◌≡◌, ◌∙◌, Bool, List, ℕ, Bor, map, take, ap, sym, take_all, lt-ltb}
-use Rattle.std.specs.List.{list_any}
-use Rattle.std.proofs.lemmas.List.Folds.{list_any_at}
-use Rattle.short_names.specs.Numbered.{is_long}
-use Rattle.short_names.specs.Numbers.{name_bytes}
-use Rattle.short_names.proofs.ListingLaws.{any_name}
+use Rattle.std.{proofs.{Common.{◌≡◌, ◌∙◌, Bool, List, ℕ, Bor, map, take, ap, sym, take_all, lt-ltb}, lemmas.List.Folds.{list_any_at}}, specs.List.{list_any}}
+use Rattle.short_names.{specs.{Numbered.{is_long}, Numbers.{name_bytes}}, proofs.ListingLaws.{any_name}}
 use Rattle.short_names.proofs.listed_names.ListedNames.has_long.Goals as goal
 
 abbrev long_item : Bor (List ℕ) → Bool

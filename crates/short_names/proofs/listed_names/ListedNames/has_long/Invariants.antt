@@ -1,5 +1,4 @@
-use Rattle.std.proofs.Common.{◌≡◌, false, take}
-use Rattle.std.specs.List.{list_any}
+use Rattle.std.{proofs.Common.{◌≡◌, false, take}, specs.List.{list_any}}
 use Rattle.short_names.specs.Numbered.{is_long}
 use Rattle.short_names.proofs.listed_names.ListedNames.has_long.Given as goal
 

@@ -1,5 +1,4 @@
-use Rattle.std.proofs.Common.{◌≡◌, length, subst, arith}
-use Rattle.std.proofs.lemmas.List.{length-map}
+use Rattle.std.proofs.{Common.{◌≡◌, length, subst, arith}, lemmas.List.{length-map}}
 use Rattle.pc_ground.specs.Keys.{key_node}
 use Rattle.solver.specs.Numbered.{Numbered}
 use Rattle.solver.proofs.numbered_tree.NumberedTree.count.Goals as goal

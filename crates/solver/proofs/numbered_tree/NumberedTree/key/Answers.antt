@@ -1,8 +1,6 @@
-use Rattle.std.proofs.Common.{◌≡◌, ◌<◌, map, length, ap, sym, subst, arith}
-use Rattle.std.proofs.lemmas.List.{length-map}
+use Rattle.std.proofs.{Common.{◌≡◌, ◌<◌, map, length, ap, sym, subst, arith}, lemmas.List.{length-map}}
 use Rattle.pc_ground.specs.Keys.{key_node}
-use Rattle.solver.specs.Numbered.{Numbered}
-use Rattle.solver.specs.Renamed.{node_at}
+use Rattle.solver.specs.{Numbered.{Numbered}, Renamed.{node_at}}
 use Rattle.solver.proofs.numbered_tree.NumberedTree.key.Goals as goal
 
 pub key_at-requires : goal.key_at-requires

@@ -1,14 +1,7 @@
-use Rattle.std.proofs.Common.{◌≡◌, ap, sym, ◌∙◌, subst, length, map, arith, List}
-use Rattle.std.specs.Prelude.{All}
+use Rattle.std.{proofs.Common.{◌≡◌, ap, sym, ◌∙◌, subst, length, map, arith, List}, specs.Prelude.{All}}
 use Rattle.pc_common.specs.World.{Node}
-use Rattle.pc_ground.specs.Keys.{key_node}
-use Rattle.pc_ground.specs.Tree.{Tree}
-use Rattle.pc_ground.specs.Folded.{IsFolded}
-use Rattle.pc_ground.specs.Numbers.{AreDistinct}
-use Rattle.solver.specs.Below.{IsRowBelow}
-use Rattle.solver.specs.Renamed.{tree_over, node_at}
-use Rattle.solver.specs.Spelled.{spelled}
-use Rattle.solver.proofs.IsKnown.{rows_known}
+use Rattle.pc_ground.specs.{Keys.{key_node}, Tree.{Tree}, Folded.{IsFolded}, Numbers.{AreDistinct}}
+use Rattle.solver.{specs.{Below.{IsRowBelow}, Renamed.{tree_over, node_at}, Spelled.{spelled}}, proofs.IsKnown.{rows_known}}
 use Rattle.solver.proofs.IsTurn.{names_tree, folded_numbers}
 use Rattle.solver.proofs.numbered_tree.NumberedTree.new.Goals as goal
 

@@ -1,8 +1,6 @@
 use Rattle.std.proofs.Common.{◌<◌, length, ap, sym, subst, arith}
 use Rattle.pc_ground.specs.Tree.{size_of}
-use Rattle.solver.specs.Numbered.{Numbered}
-use Rattle.solver.specs.Spelled.{spelled}
-use Rattle.solver.proofs.HasAsserted.{length_spelled}
+use Rattle.solver.{specs.{Numbered.{Numbered}, Spelled.{spelled}}, proofs.HasAsserted.{length_spelled}}
 use Rattle.solver.proofs.numbered_tree.NumberedTree.row.Goals as goal
 
 pub row_at-requires : goal.row_at-requires

@@ -1,6 +1,5 @@
 use Rattle.std.proofs.Common.{subst}
-use Rattle.solver.specs.Searched.{Searched, HasUnmetBranch}
-use Rattle.solver.proofs.IsTurn.{searching}
+use Rattle.solver.{specs.Searched.{Searched, HasUnmetBranch}, proofs.IsTurn.{searching}}
 use Rattle.solver.proofs.search.Search.graph.Goals as goal
 
 pub returns-clause-searching : goal.returns-clause-searching

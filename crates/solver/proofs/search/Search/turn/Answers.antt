@@ -1,14 +1,7 @@
 use Rattle.std.proofs.Common.{◌≡◌, ◌<◌, ◌+◌, sym, subst, arith, List}
-use Rattle.solver.specs.Spelled.{spelled}
-use Rattle.solver.specs.Weights.{weight}
-use Rattle.solver.specs.Branches.{branches_of}
-use Rattle.solver.specs.Searched.{Searched}
-use Rattle.solver.specs.Turns.{turn_weight, GoesOn}
-use Rattle.solver.specs.Descents.{HasMore}
-use Rattle.solver.specs.declared.search.Turn.{Turn}
-use Rattle.solver.specs.declared.search.Turn.TheVariants.{More, Done}
-use Rattle.pc_common.specs.World.{Node}
-use Rattle.pc_common.specs.Steps.{Step}
+use Rattle.solver.specs.{Spelled.{spelled}, Weights.{weight}, Branches.{branches_of}, Searched.{Searched}, Turns.{turn_weight, GoesOn}, Descents.{HasMore}}
+use Rattle.solver.specs.declared.search.Turn.{Turn, TheVariants.{More, Done}}
+use Rattle.pc_common.specs.{World.{Node}, Steps.{Step}}
 use Rattle.solver.proofs.search.Search.turn.Goals as goal
 
 pub settle-requires : goal.settle-requires

@@ -1,8 +1,6 @@
 use Rattle.std.proofs.Common.{◌≡◌, Some, length}
-use Rattle.pc_syntax.specs.Arguments.{place_in}
-use Rattle.pc_syntax.specs.Predicates.{takes_of}
-use Rattle.static_preds.specs.Values.{values_of, scope_of}
-use Rattle.static_preds.proofs.GivenLaws.{slot_given, place_is, place_below}
+use Rattle.pc_syntax.specs.{Arguments.{place_in}, Predicates.{takes_of}}
+use Rattle.static_preds.{specs.Values.{values_of, scope_of}, proofs.GivenLaws.{slot_given, place_is, place_below}}
 use Rattle.static_preds.proofs.given.Given.place.Goals as goal
 
 pub op_in_slot-requires : goal.op_in_slot-requires

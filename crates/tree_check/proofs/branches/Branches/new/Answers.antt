@@ -1,8 +1,5 @@
 use Rattle.std.proofs.Common.{false, sym, subst, refl, List, []}
-use Rattle.tree_check.specs.Facts.{PlainFact}
-use Rattle.tree_check.specs.Sides.{with_all, left_side}
-use Rattle.tree_check.specs.OpenBranches.{IsBranch}
-use Rattle.tree_check.specs.declared.side.Side.{Side}
+use Rattle.tree_check.specs.{Facts.{PlainFact}, Sides.{with_all, left_side}, OpenBranches.{IsBranch}, declared.side.Side.{Side}}
 use Rattle.tree_check.proofs.SideFacts.{none_branch}
 use Rattle.tree_check.proofs.branches.Branches.new.Goals as goal
 

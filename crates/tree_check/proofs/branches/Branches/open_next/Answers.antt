@@ -1,6 +1,5 @@
 use Rattle.std.proofs.Common.{◌∷◌, sym, subst}
-use Rattle.tree_check.specs.OpenBranches.{OpenBranches, Stands}
-use Rattle.tree_check.proofs.Steps.{did_open, on_ok_both}
+use Rattle.tree_check.{specs.OpenBranches.{OpenBranches, Stands}, proofs.Steps.{did_open, on_ok_both}}
 use Rattle.tree_check.proofs.branches.Branches.open_next.Goals as goal
 
 pub returns-in-Some : goal.returns-in-Some

@@ -1,9 +1,6 @@
 use Rattle.std.proofs.Common.{◌≡◌, ℕ, ◌∙◌, true, sym, subst, ap, reverse, length, List, [], ◌∷◌, ◌++◌}
 use Rattle.pc_ground.specs.Refutes.{Branch}
-use Rattle.tree_check.specs.Sides.{left_side, right_side, with_all}
-use Rattle.tree_check.specs.OpenBranches.{AreOpen, IsBranch}
-use Rattle.tree_check.specs.declared.later.Later.{Later}
-use Rattle.tree_check.specs.declared.side.Side.{Side}
+use Rattle.tree_check.specs.{Sides.{left_side, right_side, with_all}, OpenBranches.{AreOpen, IsBranch}, declared.{later.Later.{Later}, side.Side.{Side}}}
 use Rattle.tree_check.proofs.Steps.{stands_open, stands_by, no_split, did_split}
 use Rattle.tree_check.proofs.branches.Branches.split.Goals as goal
 

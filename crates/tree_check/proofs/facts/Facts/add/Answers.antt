@@ -1,8 +1,5 @@
-use Rattle.std.proofs.Common.{sym, map}
-use Rattle.std.specs.Map.{keys_of}
-use Rattle.tree_check.specs.Facts.{plain_fact}
-use Rattle.tree_check.proofs.BranchFacts.{added_one}
-use Rattle.tree_check.proofs.FactSet.{fact_eq, added, added_behind}
+use Rattle.std.{proofs.Common.{sym, map}, specs.Map.{keys_of}}
+use Rattle.tree_check.{specs.Facts.{plain_fact}, proofs.{BranchFacts.{added_one}, FactSet.{fact_eq, added, added_behind}}}
 use Rattle.pc_ground.proofs.MapKeys.{keys_put}
 use Rattle.tree_check.proofs.facts.Facts.add.Goals as goal
 

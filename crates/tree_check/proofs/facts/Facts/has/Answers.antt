@@ -1,6 +1,4 @@
-use Rattle.std.proofs.Common.{sym}
-use Rattle.std.specs.Map.{keys_of}
-use Rattle.std.proofs.lemmas.Map.Made.{is_some-lookup}
+use Rattle.std.{proofs.{Common.{sym}, lemmas.Map.Made.{is_some-lookup}}, specs.Map.{keys_of}}
 use Rattle.tree_check.proofs.FactSet.{fact_eq, found}
 use Rattle.tree_check.proofs.facts.Facts.has.Goals as goal
 

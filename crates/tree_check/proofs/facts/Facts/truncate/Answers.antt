@@ -1,6 +1,4 @@
-use Rattle.std.proofs.Common.{sym, ap, ◌∙◌, map, take}
-use Rattle.std.proofs.lemmas.List.{take-map}
-use Rattle.std.specs.Map.{keys_of}
+use Rattle.std.{proofs.{Common.{sym, ap, ◌∙◌, map, take}, lemmas.List.{take-map}}, specs.Map.{keys_of}}
 use Rattle.tree_check.specs.Facts.{plain_fact}
 use Rattle.tree_check.proofs.facts.Facts.truncate.Goals as goal
 

@@ -1,8 +1,5 @@
-use Rattle.std.proofs.Common.{◌≡◌, ◌+◌, ◌*◌, ◌/◌, ◌%◌, get_or, ap, refl, arith}
-use Rattle.std.proofs.lemmas.List.{get_or_read}
-use Rattle.std.proofs.lemmas.Nat.Bits.{shr_and_one}
-use Rattle.undo_trail.specs.Bits.{has}
-use Rattle.undo_trail.proofs.BitWords.{place_in}
+use Rattle.std.proofs.{Common.{◌≡◌, ◌+◌, ◌*◌, ◌/◌, ◌%◌, get_or, ap, refl, arith}, lemmas.{List.{get_or_read}, Nat.Bits.{shr_and_one}}}
+use Rattle.undo_trail.{specs.Bits.{has}, proofs.BitWords.{place_in}}
 use Rattle.undo_trail.proofs.table.UndoTable.bit.Goals as goal
 
 pub returns : goal.returns

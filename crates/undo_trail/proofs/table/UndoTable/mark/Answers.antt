@@ -1,6 +1,5 @@
 use Rattle.std.proofs.Common.{◌∙◌, ◌-◌, sym, vec_capacity, vec_len}
-use Rattle.undo_trail.proofs.Back.{length-past}
-use Rattle.undo_trail.proofs.Grows.{is_bit_table}
+use Rattle.undo_trail.proofs.{Back.{length-past}, Grows.{is_bit_table}}
 use Rattle.undo_trail.proofs.table.UndoTable.mark.Goals as goal
 
 pub returns-clause-last : goal.returns-clause-last

@@ -1,8 +1,5 @@
-use Rattle.std.proofs.Common.{◌≡◌, ◌∙◌, ◌-◌, List, ℕ, length, subst, vec_len, vec_capacity}
-use Rattle.std.proofs.lemmas.List.{with_items_is}
-use Rattle.undo_trail.specs.BitTable.{Extends}
-use Rattle.undo_trail.specs.Trail.{table_of}
-use Rattle.undo_trail.proofs.BitWords.{rows_apart, has_joined}
+use Rattle.std.proofs.{Common.{◌≡◌, ◌∙◌, ◌-◌, List, ℕ, length, subst, vec_len, vec_capacity}, lemmas.List.{with_items_is}}
+use Rattle.undo_trail.{specs.{BitTable.{Extends}, Trail.{table_of}}, proofs.BitWords.{rows_apart, has_joined}}
 use Rattle.undo_trail.proofs.table.UndoTable.or_row_reserved.Goals as goal
 
 pub or_into-requires-clause-apart : goal.or_into-requires-clause-apart

@@ -1,8 +1,6 @@
 use Rattle.std.proofs.Common.{◌≡◌, ◌∙◌, ◌<◌, ◌*◌, ◌+◌, ◌/◌, ◌%◌, ◌^◌, ◌-◌, List, ℕ, length, vec_len, vec_capacity, get_or, set, bit_or, ap, subst, arith}
 use Rattle.std.proofs.lemmas.List.{with_items_is, get_or_read}
-use Rattle.undo_trail.specs.BitTable.{Extends}
-use Rattle.undo_trail.specs.Trail.{table_of}
-use Rattle.undo_trail.proofs.BitWords.{has_set, place_in}
+use Rattle.undo_trail.{specs.{BitTable.{Extends}, Trail.{table_of}}, proofs.BitWords.{has_set, place_in}}
 use Rattle.undo_trail.proofs.table.UndoTable.set_bit_reserved.Goals as goal
 
 pub returns-clause-set : goal.returns-clause-set

@@ -1,8 +1,5 @@
-use Rattle.std.proofs.Common.{◌≡◌, ◌∙◌, ◌*◌, length, take, drop, ap, arith, add-one}
-use Rattle.std.proofs.lemmas.List.{with_items_is, length_push}
-use Rattle.undo_trail.specs.Trail.{back}
-use Rattle.undo_trail.proofs.Back.{length-past, past_split}
-use Rattle.undo_trail.proofs.Grows.{trail_cut}
+use Rattle.std.proofs.{Common.{◌≡◌, ◌∙◌, ◌*◌, length, take, drop, ap, arith, add-one}, lemmas.List.{with_items_is, length_push}}
+use Rattle.undo_trail.{specs.Trail.{back}, proofs.{Back.{length-past, past_split}, Grows.{trail_cut}}}
 use Rattle.undo_trail.proofs.table.UndoTable.undo.Goals as goal
 
 pub restore-requires-clause-live : goal.restore-requires-clause-live

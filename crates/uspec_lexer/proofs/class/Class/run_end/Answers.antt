@@ -1,5 +1,4 @@
-use Rattle.std.proofs.Common.{◌≡◌, true, sym, ◌∙◌, subst, arith, slice_index, ⊎_elim}
-use Rattle.std.proofs.str.Laws.{order}
+use Rattle.std.proofs.{Common.{◌≡◌, true, sym, ◌∙◌, subst, arith, slice_index, ⊎_elim}, str.Laws.{order}}
 use Rattle.uspec_lexer.specs.Scan.{is_in}
 use Rattle.uspec_lexer.proofs.class.Class.run_end.Goals as goal
 

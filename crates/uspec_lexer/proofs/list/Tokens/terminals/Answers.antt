@@ -1,6 +1,5 @@
 use Rattle.std.proofs.Common.{arith}
-use Rattle.uspec_lexer.specs.View.{plain}
-use Rattle.uspec_lexer.proofs.Seen.{seen_more}
+use Rattle.uspec_lexer.{specs.View.{plain}, proofs.Seen.{seen_more}}
 use Rattle.uspec_lexer.proofs.list.Tokens.terminals.Goals as goal
 
 pub loop-k-preserved : goal.loop-k-preserved

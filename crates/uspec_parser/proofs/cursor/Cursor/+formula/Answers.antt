@@ -1,9 +1,6 @@
 use Rattle.std.proofs.Common.{◌≡◌, ◌<◌, true, false, List, length, sym, subst, ap, ◌∙◌, arith}
 use Rattle.pc_syntax.specs.Written.{written, not_, forall_, exists_}
-use Rattle.uspec_parser.specs.Terminals.{Lexeme}
-use Rattle.uspec_parser.specs.Operands.{only, chain, formula_of}
-use Rattle.uspec_parser.specs.Grouping.{operands_before}
-use Rattle.uspec_parser.specs.declared.operands.Link.{Link}
+use Rattle.uspec_parser.specs.{Terminals.{Lexeme}, Operands.{only, chain, formula_of}, Grouping.{operands_before}, declared.operands.Link.{Link}}
 use Rattle.uspec_parser.specs.Descent.{start, next, connective, Atom, Operand, Row, Tail}
 use Rattle.uspec_parser.proofs.Shorter.{operand_no_longer, behind_connective, behind_no_longer}
 use Rattle.uspec_parser.proofs.Steps.{row_pushed, ok_map, negated, bracketed, bound, atom, RowOf}

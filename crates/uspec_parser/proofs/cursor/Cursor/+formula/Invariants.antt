@@ -1,9 +1,6 @@
 use Rattle.std.proofs.Common.{◌+◌, ◌*◌, ◌≤◌, List, length}
 use Rattle.pc_syntax.specs.Written.{written}
-use Rattle.uspec_parser.specs.Terminals.{Lexeme}
-use Rattle.uspec_parser.specs.Operands.{Operands}
-use Rattle.uspec_parser.specs.Grouping.{operands_before}
-use Rattle.uspec_parser.specs.Descent.{Row, Tail}
+use Rattle.uspec_parser.specs.{Terminals.{Lexeme}, Operands.{Operands}, Grouping.{operands_before}, Descent.{Row, Tail}}
 use Rattle.uspec_parser.proofs.cursor.Cursor.+formula.Given as goal
 
 abbrev pub decreases-formula : goal.decreases-formula

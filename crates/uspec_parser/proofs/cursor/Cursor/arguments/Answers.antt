@@ -1,10 +1,6 @@
-use Rattle.std.proofs.Common.{[], ◌∷◌, sym, subst, ◌∙◌, List}
-use Rattle.std.proofs.lemmas.List.{append-nil}
+use Rattle.std.proofs.{Common.{[], ◌∷◌, sym, subst, ◌∙◌, List}, lemmas.List.{append-nil}}
 use Rattle.pc_syntax.specs.declared.term.Arg.{Arg}
-use Rattle.uspec_parser.specs.Terminals.{Lexeme}
-use Rattle.uspec_parser.specs.Descent.{Arguments, argument}
-use Rattle.uspec_parser.specs.Descent.Arguments.{ends, goes_on}
-use Rattle.uspec_parser.proofs.Pushed.{pushed, all_shared}
+use Rattle.uspec_parser.{specs.{Terminals.{Lexeme}, Descent.{Arguments, argument, Arguments.{ends, goes_on}}}, proofs.Pushed.{pushed, all_shared}}
 use Rattle.uspec_parser.proofs.cursor.Cursor.arguments.Goals as goal
 
 pub loop-alloc-preserved : goal.loop-alloc-preserved
@@ -20,4 +16,4 @@ returns c =
     let all =
     subst (λ (args : List Arg). Arguments c.args.self.now args c.loop-alloc.self) (append-nil c.loop-alloc.args)
     (c.loop-alloc.invariant [] c.loop-alloc.self (ends (sym c.is_argument_next.ensures ∙ c.loop-alloc-test.false))) in
-    all_shared c.of.result c.loop-alloc.args (λ (args : List Arg). Arguments c.args.self.now args c.loop-alloc.self) all c.of.ensures
+    all_shared c.from_listed.result c.loop-alloc.args (λ (args : List Arg). Arguments c.args.self.now args c.loop-alloc.self) all c.from_listed.ensures

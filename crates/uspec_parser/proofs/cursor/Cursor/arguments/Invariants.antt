@@ -1,7 +1,6 @@
 use Rattle.std.proofs.Common.{List, ◌++◌, length}
 use Rattle.pc_syntax.specs.declared.term.Arg.{Arg}
-use Rattle.uspec_parser.specs.Terminals.{Lexeme}
-use Rattle.uspec_parser.specs.Descent.{Arguments}
+use Rattle.uspec_parser.specs.{Terminals.{Lexeme}, Descent.{Arguments}}
 use Rattle.uspec_parser.proofs.cursor.Cursor.arguments.Given as goal
 
 -- the arguments to come, after those that were read, are all

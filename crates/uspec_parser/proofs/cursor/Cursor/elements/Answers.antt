@@ -1,11 +1,6 @@
-use Rattle.std.proofs.Common.{◌≡◌, ◌<◌, [], ◌∷◌, length, sym, subst, ap, ◌∙◌, List, arith}
-use Rattle.std.proofs.lemmas.List.{append-nil}
-use Rattle.uspec_parser.specs.Terminals.{Lexeme}
-use Rattle.uspec_parser.specs.Descent.{next, behind, Elements, behind_semicolon}
-use Rattle.uspec_parser.specs.Descent.Elements.{ends, goes_on}
-use Rattle.uspec_parser.specs.declared.terminal.Terminal.TheVariants.{Open}
-use Rattle.uspec_parser.proofs.Pushed.{pushed, all_shared}
-use Rattle.uspec_parser.proofs.Shorter.{behind_open, semicolon_no_longer}
+use Rattle.std.proofs.{Common.{◌≡◌, ◌<◌, [], ◌∷◌, length, sym, subst, ap, ◌∙◌, List, arith}, lemmas.List.{append-nil}}
+use Rattle.uspec_parser.specs.{Terminals.{Lexeme}, Descent.{next, behind, Elements, behind_semicolon, Elements.{ends, goes_on}}}
+use Rattle.uspec_parser.{specs.declared.terminal.Terminal.TheVariants.{Open}, proofs.{Pushed.{pushed, all_shared}, Shorter.{behind_open, semicolon_no_longer}}}
 use Rattle.uspec_parser.proofs.cursor.Cursor.elements.Goals as goal
 
 pub loop-alloc-smaller : goal.loop-alloc-smaller
@@ -39,5 +34,5 @@ returns g c =
     subst (λ (xs : List Lexeme). Elements g.E.Element.one g.E.Element.behind_one c.args.self.now c.loop-alloc.elements xs) (sym c.skip.ensures)
     (subst (λ (es : List _). Elements g.E.Element.one g.E.Element.behind_one c.args.self.now es (behind c.loop-alloc.self)) (append-nil c.loop-alloc.elements)
     (c.loop-alloc.invariant [] (behind c.loop-alloc.self) (ends none))) in
-    all_shared c.of.result c.loop-alloc.elements (λ (es : List _). Elements g.E.Element.one g.E.Element.behind_one c.args.self.now es c.skip.new.self)
-    all c.of.ensures
+    all_shared c.from_listed.result c.loop-alloc.elements (λ (es : List _). Elements g.E.Element.one g.E.Element.behind_one c.args.self.now es c.skip.new.self)
+    all c.from_listed.ensures

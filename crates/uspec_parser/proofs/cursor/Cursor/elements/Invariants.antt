@@ -1,6 +1,5 @@
 use Rattle.std.proofs.Common.{List, ◌++◌, length}
-use Rattle.uspec_parser.specs.Terminals.{Lexeme}
-use Rattle.uspec_parser.specs.Descent.{Elements}
+use Rattle.uspec_parser.specs.{Terminals.{Lexeme}, Descent.{Elements}}
 use Rattle.uspec_parser.proofs.cursor.Cursor.elements.Given as goal
 
 -- the elements to come, after those that were read, are all

@@ -1,13 +1,7 @@
-use Rattle.std.proofs.Common.{◌≡◌, true, List, [], ◌∷◌, ◌++◌, map, refl, sym, ap, subst, ◌∙◌}
-use Rattle.std.proofs.lemmas.List.{append-nil, map-append}
-use Rattle.pc_syntax.specs.declared.model.StageItem.{StageItem}
-use Rattle.pc_syntax.specs.Written.{WrittenItem, written_item, axiom_}
-use Rattle.pc_syntax.specs.declared.model.Item.{Item as ItemTree}
-use Rattle.uspec_parser.specs.Terminals.{Lexeme}
-use Rattle.uspec_parser.specs.Operands.{formula_of}
-use Rattle.uspec_parser.specs.Descent.{place, begins_item, stage_item, macro_item, Item}
-use Rattle.uspec_parser.specs.declared.terminal.Terminal.{Terminal}
-use Rattle.uspec_parser.specs.declared.terminal.Terminal.TheVariants.{StageName, Axiom, DefineMacro}
+use Rattle.std.proofs.{Common.{◌≡◌, true, List, [], ◌∷◌, ◌++◌, map, refl, sym, ap, subst, ◌∙◌}, lemmas.List.{append-nil, map-append}}
+use Rattle.pc_syntax.specs.{declared.model.{StageItem.{StageItem}, Item.{Item as ItemTree}}, Written.{WrittenItem, written_item, axiom_}}
+use Rattle.uspec_parser.specs.{Terminals.{Lexeme}, Operands.{formula_of}, Descent.{place, begins_item, stage_item, macro_item, Item}}
+use Rattle.uspec_parser.specs.declared.terminal.Terminal.{Terminal, TheVariants.{StageName, Axiom, DefineMacro}}
 use Rattle.uspec_parser.proofs.cursor.Cursor.item.Goals as goal
 
 pub returns-in_ok-push-in-StageName : goal.returns-in_ok-push-in-StageName

@@ -1,10 +1,6 @@
-use Rattle.std.proofs.Common.{◌≡◌, List, [], ◌++◌, map, sym, ap, subst, ◌∙◌, append_assoc}
-use Rattle.std.proofs.lemmas.List.{append-nil}
-use Rattle.pc_syntax.specs.declared.model.StageItem.{StageItem}
-use Rattle.pc_syntax.specs.Written.{WrittenItem, written_item}
-use Rattle.uspec_parser.specs.Terminals.{Lexeme}
-use Rattle.uspec_parser.specs.Descent.{Items}
-use Rattle.uspec_parser.proofs.Shorter.{item_shorter}
+use Rattle.std.proofs.{Common.{◌≡◌, List, [], ◌++◌, map, sym, ap, subst, ◌∙◌, append_assoc}, lemmas.List.{append-nil}}
+use Rattle.pc_syntax.specs.{declared.model.StageItem.{StageItem}, Written.{WrittenItem, written_item}}
+use Rattle.uspec_parser.{specs.{Terminals.{Lexeme}, Descent.{Items}}, proofs.Shorter.{item_shorter}}
 use Rattle.uspec_parser.proofs.cursor.Cursor.model.Goals as goal
 
 pub loop-alloc-smaller : goal.loop-alloc-smaller

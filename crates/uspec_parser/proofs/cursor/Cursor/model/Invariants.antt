@@ -1,6 +1,5 @@
 use Rattle.std.proofs.Common.{List, ◌++◌, length, map}
-use Rattle.pc_syntax.specs.declared.model.StageItem.{StageItem}
-use Rattle.pc_syntax.specs.Written.{WrittenItem, written_item}
+use Rattle.pc_syntax.specs.{declared.model.StageItem.{StageItem}, Written.{WrittenItem, written_item}}
 use Rattle.uspec_parser.specs.Descent.{Items}
 use Rattle.uspec_parser.proofs.cursor.Cursor.model.Given as goal
 

@@ -1,9 +1,5 @@
-use Rattle.std.proofs.Common.{◌≡◌, ◌<◌, ◌≤◌, List, length, map, drop, ap, sym, ◌∙◌, slice_index_or, arith}
-use Rattle.std.proofs.lemmas.List.{length-map}
-use Rattle.uspec_parser.specs.Terminals.{lexeme, terminal_of}
-use Rattle.uspec_parser.specs.Descent.{next}
-use Rattle.uspec_parser.specs.declared.terminal.Terminal.{Terminal}
-use Rattle.uspec_parser.specs.declared.terminal.Terminal.TheVariants.{StageName}
+use Rattle.std.proofs.{Common.{◌≡◌, ◌<◌, ◌≤◌, List, length, map, drop, ap, sym, ◌∙◌, slice_index_or, arith}, lemmas.List.{length-map}}
+use Rattle.uspec_parser.specs.{Terminals.{lexeme, terminal_of}, Descent.{next}, declared.terminal.Terminal.{Terminal, TheVariants.{StageName}}}
 use Rattle.uspec_parser.proofs.Lexemes.{next_left, left_none}
 use Rattle.uspec_parser.proofs.cursor.Cursor.next.Goals as goal
 

@@ -1,7 +1,6 @@
 use Rattle.std.proofs.Common.{rules, ◌≡◌, sym, ◌∙◌}
 use Rattle.uspec_lexer.specs.Span.{kind_of_token}
-use Rattle.uspec_parser.specs.declared.terminal.Terminal.TheVariants.{Number}
-use Rattle.uspec_parser.proofs.StageNames.{number_only}
+use Rattle.uspec_parser.{specs.declared.terminal.Terminal.TheVariants.{Number}, proofs.StageNames.{number_only}}
 use Rattle.uspec_parser.proofs.cursor.Cursor.number.Goals as goal
 
 pub value-requires : goal.value-requires

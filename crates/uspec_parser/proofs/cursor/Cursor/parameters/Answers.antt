@@ -1,10 +1,6 @@
-use Rattle.std.proofs.Common.{[], ◌∷◌, sym, subst, ◌∙◌, List}
-use Rattle.std.proofs.lemmas.List.{append-nil}
+use Rattle.std.proofs.{Common.{[], ◌∷◌, sym, subst, ◌∙◌, List}, lemmas.List.{append-nil}}
 use Rattle.pc_syntax.specs.declared.term.Word.{Word}
-use Rattle.uspec_parser.specs.Terminals.{Lexeme}
-use Rattle.uspec_parser.specs.Descent.{Parameters, word}
-use Rattle.uspec_parser.specs.Descent.Parameters.{ends, goes_on}
-use Rattle.uspec_parser.proofs.Pushed.{pushed, all_shared}
+use Rattle.uspec_parser.{specs.{Terminals.{Lexeme}, Descent.{Parameters, word, Parameters.{ends, goes_on}}}, proofs.Pushed.{pushed, all_shared}}
 use Rattle.uspec_parser.proofs.cursor.Cursor.parameters.Goals as goal
 
 pub loop-alloc-preserved : goal.loop-alloc-preserved
@@ -20,4 +16,4 @@ returns c =
     let all =
     subst (λ (args : List Word). Parameters c.args.self.now args c.loop-alloc.self) (append-nil c.loop-alloc.words)
     (c.loop-alloc.invariant [] c.loop-alloc.self (ends (sym c.is_parameter_next.ensures ∙ c.loop-alloc-test.false))) in
-    all_shared c.of.result c.loop-alloc.words (λ (args : List Word). Parameters c.args.self.now args c.loop-alloc.self) all c.of.ensures
+    all_shared c.from_listed.result c.loop-alloc.words (λ (args : List Word). Parameters c.args.self.now args c.loop-alloc.self) all c.from_listed.ensures

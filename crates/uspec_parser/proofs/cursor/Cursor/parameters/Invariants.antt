@@ -1,7 +1,6 @@
 use Rattle.std.proofs.Common.{List, ◌++◌, length}
 use Rattle.pc_syntax.specs.declared.term.Word.{Word}
-use Rattle.uspec_parser.specs.Terminals.{Lexeme}
-use Rattle.uspec_parser.specs.Descent.{Parameters}
+use Rattle.uspec_parser.specs.{Terminals.{Lexeme}, Descent.{Parameters}}
 use Rattle.uspec_parser.proofs.cursor.Cursor.parameters.Given as goal
 
 -- the parameters to come, after those that were read, are all

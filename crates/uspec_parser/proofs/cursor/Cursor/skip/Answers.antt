@@ -1,7 +1,5 @@
 use Rattle.std.proofs.Common.{◌≡◌, ◌<◌, ◌≤◌, ◌+◌, suc, length, map, drop, ap, sym, ◌∙◌, arith}
-use Rattle.uspec_parser.specs.Terminals.{lexeme}
-use Rattle.uspec_parser.specs.Descent.{behind}
-use Rattle.uspec_parser.proofs.Lexemes.{behind_left, behind_none}
+use Rattle.uspec_parser.{specs.{Terminals.{lexeme}, Descent.{behind}}, proofs.Lexemes.{behind_left, behind_none}}
 use Rattle.uspec_parser.proofs.cursor.Cursor.skip.Goals as goal
 
 pub returns-then-self-len : goal.returns-then-self-len

@@ -1,8 +1,6 @@
 use Rattle.std.proofs.Common.{◌≡◌, ◌<◌, ◌≤◌, ◌∷◌, List, length, map, drop, ap, sym, ◌∙◌, arith}
 use Rattle.uspec_lexer.specs.View.{plain as plain_token}
-use Rattle.uspec_parser.specs.Terminals.{Lexeme, lexeme}
-use Rattle.uspec_parser.specs.Descent.{behind}
-use Rattle.uspec_parser.proofs.Lexemes.{left_suc, left_none, behind_left}
+use Rattle.uspec_parser.{specs.{Terminals.{Lexeme, lexeme}, Descent.{behind}}, proofs.Lexemes.{left_suc, left_none, behind_left}}
 use Rattle.uspec_parser.proofs.cursor.Cursor.token.Goals as goal
 
 pub returns-then-self-len : goal.returns-then-self-len

@@ -1,5 +1,4 @@
-use Rattle.std.proofs.Common.{ap, arith, length}
-use Rattle.std.proofs.lemmas.Result.{on_ok_weaker}
+use Rattle.std.proofs.{Common.{ap, arith, length}, lemmas.Result.{on_ok_weaker}}
 use Rattle.uspec_parser.proofs.Shorter.{edge_no_longer}
 use Rattle.uspec_parser.proofs.terms.EdgeTermElement.read.Goals as goal
 

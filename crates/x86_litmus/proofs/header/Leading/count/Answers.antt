@@ -1,5 +1,4 @@
-use Rattle.std.proofs.Common.{sym, ◌∙◌, arith}
-use Rattle.std.proofs.lemmas.List.Sums.{prefix_len_is}
+use Rattle.std.proofs.{Common.{sym, ◌∙◌, arith}, lemmas.List.Sums.{prefix_len_is}}
 use Rattle.x86_litmus.specs.Lines.{is_among}
 use Rattle.x86_litmus.proofs.header.Leading.count.Goals as goal
 

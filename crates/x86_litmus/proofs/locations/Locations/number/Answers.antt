@@ -1,6 +1,5 @@
 use Rattle.std.proofs.Common.{List, ℕ, ap, ◌∙◌}
-use Rattle.x86_litmus.specs.Cases.{number_of}
-use Rattle.x86_litmus.proofs.LookUps.{number_some, number_none}
+use Rattle.x86_litmus.{specs.Cases.{number_of}, proofs.LookUps.{number_some, number_none}}
 use Rattle.x86_litmus.proofs.locations.Locations.number.Goals as goal
 
 pub returns-in-Some : goal.returns-in-Some

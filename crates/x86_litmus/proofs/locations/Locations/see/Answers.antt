@@ -1,6 +1,5 @@
 use Rattle.std.proofs.Common.{List, ℕ, ap, ◌∙◌}
-use Rattle.x86_litmus.specs.Cases.{seen}
-use Rattle.x86_litmus.proofs.LookUps.{seen_word}
+use Rattle.x86_litmus.{specs.Cases.{seen}, proofs.LookUps.{seen_word}}
 use Rattle.x86_litmus.proofs.locations.Locations.see.Goals as goal
 
 pub returns : goal.returns

@@ -1,6 +1,5 @@
 use Rattle.std.proofs.Common.{List, ℕ, ap, sym, ◌∙◌}
-use Rattle.x86_litmus.specs.Cases.{seen, seen_value}
-use Rattle.x86_litmus.proofs.Loops.{fold_at}
+use Rattle.x86_litmus.{specs.Cases.{seen, seen_value}, proofs.Loops.{fold_at}}
 use Rattle.x86_litmus.proofs.locations.Locations.see_values.Goals as goal
 
 pub loop-k-preserved : goal.loop-k-preserved

@@ -1,6 +1,5 @@
 use Rattle.std.proofs.Common.{List, ℕ, [], ◌∷◌, ◌++◌, ap, ◌∙◌}
-use Rattle.x86_litmus.specs.Faults.{value_at}
-use Rattle.x86_litmus.proofs.LookUps.{look_up, value_more}
+use Rattle.x86_litmus.{specs.Faults.{value_at}, proofs.LookUps.{look_up, value_more}}
 use Rattle.x86_litmus.proofs.values.Values.add.Goals as goal
 
 pub returns : goal.returns

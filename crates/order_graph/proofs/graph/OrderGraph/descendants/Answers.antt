@@ -1,6 +1,6 @@
 use Rattle.std.proofs.Common.{◌*◌, ◌<◌, ap, arith}
 use Rattle.order_graph.proofs.Orders.{order_now, order_sized}
-use Rattle.order_graph.proofs.graph.OrderGraph.reached.Goals as goal
+use Rattle.order_graph.proofs.graph.OrderGraph.descendants.Goals as goal
 
 pub returns : goal.returns
 returns c b b_in =

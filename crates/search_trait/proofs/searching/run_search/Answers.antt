@@ -1,5 +1,5 @@
 use Rattle.search_trait.proofs.FoundFronts.{front_numbered, front_folded}
-use Rattle.solver_tests.proofs.solving.solved.Goals as goal
+use Rattle.search_trait.proofs.searching.run_search.Goals as goal
 
 pub solve-requires-clause-numbered : goal.solve-requires-clause-numbered
 solve-requires-clause-numbered g c = front_numbered c.args.front.now

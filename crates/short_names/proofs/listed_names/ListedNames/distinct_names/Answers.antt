@@ -1,9 +1,6 @@
-use Rattle.std.proofs.Common.{◌≡◌, ◌∙◌, ℕ, ◌+◌, List, map, take, Bor, All, subst, ap, sym, take_all}
-use Rattle.std.proofs.lemmas.List.{get_or_default}
-use Rattle.std.proofs.lemmas.List.Elements.{All-map}
-use Rattle.short_names.specs.Numbers.{name_bytes, IsAmong}
-use Rattle.short_names.proofs.ListingLaws.{once_more}
-use Rattle.short_names.proofs.listed_names.ListedNames.once.Goals as goal
+use Rattle.std.proofs.{Common.{◌≡◌, ◌∙◌, ℕ, ◌+◌, List, map, take, Bor, All, subst, ap, sym, take_all}, lemmas.List.{get_or_default, Elements.{All-map}}}
+use Rattle.short_names.{specs.Numbers.{name_bytes, IsAmong}, proofs.ListingLaws.{once_more}}
+use Rattle.short_names.proofs.listed_names.ListedNames.distinct_names.Goals as goal
 
 pub loop-name-preserved : goal.loop-name-preserved
 loop-name-preserved c =

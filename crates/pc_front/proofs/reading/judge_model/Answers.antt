@@ -1,9 +1,7 @@
-use Rattle.std.proofs.Common.{Some, sym, ◌∙◌, ap}
-use Rattle.std.proofs.lemmas.Result.{err_from_is_err_and}
-use Rattle.pc_syntax.specs.Closed.{closed_satisfies}
-use Rattle.pc_syntax.specs.Written.{written_model}
+use Rattle.std.proofs.{Common.{Some, sym, ◌∙◌, ap}, lemmas.Result.{err_from_is_err_and}}
+use Rattle.pc_syntax.specs.{Closed.{closed_satisfies}, Written.{written_model}}
 use Rattle.pc_front.proofs.FrontLaws.{stage_first, satisfied_alike, front_end, first_end}
-use Rattle.pc_front.proofs.reading.judged.Goals as goal
+use Rattle.pc_front.proofs.reading.judge_model.Goals as goal
 
 pub returns-in_err-check_stages-clause-err : goal.returns-in_err-check_stages-clause-err
 returns-in_err-check_stages-clause-err c =

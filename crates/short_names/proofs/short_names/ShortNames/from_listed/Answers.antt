@@ -1,9 +1,6 @@
-use Rattle.std.proofs.Common.{map, arith}
-use Rattle.std.proofs.lemmas.List.Elements.{All-weaker}
-use Rattle.short_names.specs.Numbers.{name_bytes}
-use Rattle.short_names.proofs.ListingLaws.{short_among}
-use Rattle.short_names.proofs.ShortNames.{keeps_apart, numbers_more, many_of}
-use Rattle.short_names.proofs.short_names.ShortNames.of.Goals as goal
+use Rattle.std.proofs.{Common.{map, arith}, lemmas.List.Elements.{All-weaker}}
+use Rattle.short_names.{specs.Numbers.{name_bytes}, proofs.{ListingLaws.{short_among}, ShortNames.{keeps_apart, numbers_more, many_of}}}
+use Rattle.short_names.proofs.short_names.ShortNames.from_listed.Goals as goal
 
 pub loop-number-preserved : goal.loop-number-preserved
 loop-number-preserved c =

@@ -1,9 +1,6 @@
-use Rattle.std.proofs.Common.{◌≡◌, ℕ, List, map, ap, ◌∙◌}
-use Rattle.std.proofs.lemmas.Option.{slice_get_within}
-use Rattle.std.proofs.lemmas.Result.{IfOk-weaker}
-use Rattle.short_names.specs.Numbers.{name_bytes, number_bytes, unlisted, short_name}
-use Rattle.short_names.proofs.ShortNames.{short_listed, short_unlisted, one_item}
-use Rattle.short_names.proofs.short_names.ShortNames.short.Goals as goal
+use Rattle.std.proofs.{Common.{◌≡◌, ℕ, List, map, ap, ◌∙◌}, lemmas.{Option.{slice_get_within}, Result.{IfOk-weaker}}}
+use Rattle.short_names.{specs.Numbers.{name_bytes, number_bytes, unlisted, short_name}, proofs.ShortNames.{short_listed, short_unlisted, one_item}}
+use Rattle.short_names.proofs.short_names.ShortNames.shorten.Goals as goal
 
 pub get-requires : goal.get-requires
 get-requires c = slice_get_within c.self.inside.shorts c.in-Some.number (number_bytes c.in-Some.number)
