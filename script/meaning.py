@@ -26,9 +26,9 @@ class Meaning:
         """Its files in reading order."""
         return self.reached.in_order(self.roots)
 
-    def count(self) -> int:
-        """How many lines are reached."""
-        return sum(self.reached.count(it) for it in self.reached.files)
+    def count(self, known: Meaning | None = None) -> int:
+        """How many lines are reached, or how many more where another meaning is known."""
+        return sum(self.reached.count(it, known.reached if known else None) for it in self.reached.files)
 
 
 def only(pattern: str) -> str:
