@@ -304,10 +304,9 @@ class Reached:
             visit(root)
         return [it for it in ordered if it in self.files]
 
-    def count(self, path: str, known: Reached | None = None) -> int:
-        """How many lines of a file are reached, but for what is reached by one who has read what is known."""
-        places = self.files[path] - (known.files.get(path, set()) if known else set())
-        taken = [read_file(path).definitions[it] for it in places]
+    def count(self, path: str) -> int:
+        """How many lines of a file are reached."""
+        taken = [read_file(path).definitions[it] for it in self.files[path]]
         return sum(len(self.lines_of(path, it.place)) for it in taken) + count_heads(taken)
 
 

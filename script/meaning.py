@@ -26,9 +26,9 @@ class Meaning:
         """Its files in reading order."""
         return self.reached.in_order(self.roots)
 
-    def count(self, known: Meaning | None = None) -> int:
-        """How many lines are reached, or how many more where another meaning is known."""
-        return sum(self.reached.count(it, known.reached if known else None) for it in self.reached.files)
+    def count(self) -> int:
+        """How many lines are reached."""
+        return sum(self.reached.count(it) for it in self.reached.files)
 
 
 def only(pattern: str) -> str:
@@ -51,7 +51,8 @@ def constructors(commands: File) -> dict[str, str]:
 
 
 class Top:
-    """The top call: the crate whose specs/ has Headline.antt, and the definitions of commands that it takes."""
+    """The top call: the crate whose specs/ has Headline.antt, which says which status comes, and Answers.antt, which says
+    the text too; and the definitions of commands that they take."""
 
     def __init__(self, top: str) -> None:
         self.top = top
@@ -69,8 +70,8 @@ class Top:
         """What can be asked for."""
         return [OBSERVABLE, *self.words, ALL]
 
-    def of_word(self, word: str) -> Meaning:
-        """What a word stands for."""
+    def of_word(self, word: str, of_status: bool = False) -> Meaning:
+        """What a word stands for, or, of a command, its status alone."""
         if word == OBSERVABLE:
             path = only(f"{self.top}/crates/*/specs/Observable.antt")
             reached = Reached(self.top)
@@ -80,20 +81,20 @@ class Top:
             return self.of_all()
         if word not in self.words:
             raise Fault(f"no such word: {word}. There are {', '.join(self.names())}")
-        return self.of_command(word)
+        return self.of_command(word, self.roots[:1] if of_status else self.roots)
 
-    def of_command(self, word: str) -> Meaning:
-        """What a command answers: the lines of tables that are of other commands are left out."""
+    def of_command(self, word: str, roots: list[str]) -> Meaning:
+        """What a command answers, by these tables: their lines that are of other commands are left out."""
         reached = Reached(self.top)
         others = set(self.words.values()) - {self.words[word]}
-        for path in [*self.roots, self.commands]:
+        for path in [*roots, self.commands]:
             for definition in read_file(path).definitions:
                 kept = without(definition.lines, others)
                 if len(kept) < len(definition.lines):
                     reached.parts[path, definition.place] = kept
-        for path in self.roots:
+        for path in roots:
             reached.add(path, (name for it in read_file(path).definitions for name in it.names))
-        return Meaning(word, self.roots, reached)
+        return Meaning(word, roots, reached)
 
     def of_all(self) -> Meaning:
         """What all clauses of the top call name."""
