@@ -5,8 +5,9 @@
 
 Writes each model and each certificate into the folder, as 0.model, 0.certificate and so on, and prints a line for each:
 its number, the number of its first line in the answer, and the status that `verify` has to end with. The exit status is
-0; 3 with the line of a refusal where the query is refused; 5 where the folder or standard output cannot be written; 6
-with the line of the answer that is refused; 125 where the words or the other files are none that can be.
+0; 3 with the line of a refusal where the query is refused; 4 where it could not be read; 5 where the folder or standard
+output cannot be written; 6 with the line of the answer that is refused; 125 where the words or the other files are none
+that can be.
 """
 import os
 import sys
@@ -16,7 +17,7 @@ from second.explaining_files import contents, parts_of
 from second.naming import line_and_column
 from second.queries import InModel
 from second.scopes import read_model
-from second.standard_output import FAILED, UNWRITTEN, status_of
+from second.standard_output import FAILED, UNREAD, UNWRITTEN, status_of
 from second.tokens import Fault
 
 
@@ -33,7 +34,11 @@ def main(folder: str, model_path: str, _test_path: str, answer_path: str, query_
         say = "an answer of ask is explained beside its query" if not query_path else "only an answer of ask has a query"
         print(f"pipecheck: {say}: explain MODEL TEST ANSWER QUERY", file=sys.stderr)
         return FAILED
-    model, query = read_model(text), contents(query_path) if query_path else b""
+    model = read_model(text)
+    try:
+        query = contents(query_path) if query_path else b""
+    except OSError:
+        return UNREAD
     try:
         parts = list(parts_of(model, text, read_answer(data, model), query))
     except AnswerRefused as refused:

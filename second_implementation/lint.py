@@ -16,7 +16,7 @@ from second.linting_lines import line_of
 from second.models import Model
 from second.queries import InModel
 from second.scopes import read_model
-from second.standard_output import status_of
+from second.standard_output import UNREAD, status_of
 from second.tokens import Fault
 
 LIMIT = 1_048_576
@@ -96,7 +96,7 @@ def main(model_path: str, *paths: str) -> int:
         read = [files.read_query(path, model_path, model) for path in asked] if isinstance(model, Model) else []
         queries = [query for query in read if query is not None]
     except Unreadable:
-        return 4
+        return UNREAD
     count = 0
     if isinstance(model, Model):
         for slip in slips(model_path, files.texts[model_path], model, tests, queries):

@@ -6,6 +6,7 @@ import sys
 import traceback
 from typing import Callable, Sequence
 
+UNREAD = 4
 UNWRITTEN = 5
 FAILED = 125
 # how deep formulas may nest
