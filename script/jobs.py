@@ -37,6 +37,12 @@ def jobs_for(processors: int, memory: float) -> Optional[int]:
     return int(max(1, min(processors, memory // NEED)))
 
 
+def processors() -> int:
+    """How many a crate may take that is proved alone, or what RT_JOBS says."""
+    said = os.environ.get("RT_JOBS", "")
+    return int(said) if said.isdigit() and int(said) > 0 else len(os.sched_getaffinity(0))
+
+
 def environment() -> dict[str, str]:
     """What `rt ci` is told, where whoever builds has not said it."""
     found = jobs_for(len(os.sched_getaffinity(0)), min(free_memory(), group_memory()))

@@ -3,8 +3,8 @@
     make_program.py TOP NEW LOG CRATE.. -- WORD..
 
 TOP is a checkout, NEW the file that the program is written to, LOG the one that gets what `rt` prints, CRATE.. are the
-crates that the program is made of, and WORD.. is the command that it is built for, if there is one. `rt ci` works on a
-copy of the crates, since it takes no repository inside another one.
+crates that the program is made of, and WORD.. is the command that it is built for, if there is one. `rt ci` proves the
+libraries, in a copy, since it takes no repository inside another one; the program over them is one call more.
 
 The status is 0 where NEW is the proved program. A signal that asks for an end ends all that was started here, and
 removes the copy.
@@ -21,9 +21,10 @@ import sys
 import tempfile
 import time
 from dataclasses import dataclass
-from typing import Iterator, Optional
+from typing import IO, Iterator, Optional
 
 import jobs
+import one_call
 from preview import Preview, is_misuse, previewing
 from processes import SIGNALS, Ended, Process, end_by, running
 
@@ -95,16 +96,16 @@ def temporary_folder() -> Iterator[str]:
                 shutil.rmtree(it, ignore_errors=True)
 
 
-def copy_crates(job: Job, to: str) -> None:
-    """Makes a repository of the program's crates alone, without their edits that must fail."""
+def copy_crates(top: str, crates: list[str], to: str) -> None:
+    """Makes a repository of these crates alone, without their edits that must fail."""
     os.makedirs(f"{to}/.git")
-    shutil.copy(f"{job.top}/HANDLES", to)
-    with open(f"{job.top}/crates.txt", encoding="utf-8") as given:
-        lines = [line for line in given if re.split("[ :]", line)[0] in job.crates]
+    shutil.copy(f"{top}/HANDLES", to)
+    with open(f"{top}/crates.txt", encoding="utf-8") as given:
+        lines = [line for line in given if re.split("[ :]", line)[0] in crates]
     with open(f"{to}/crates.txt", "w", encoding="utf-8") as kept:
         kept.writelines(lines)
-    for name in job.crates:
-        crate = f"{job.top}/crates/{name}"
+    for name in crates:
+        crate = f"{top}/crates/{name}"
 
         def left_out(folder: str, _: list[str], crate: str = crate) -> list[str]:
             return ["out", "must-fail"] if folder == crate else []
@@ -148,20 +149,67 @@ def put_program(built: str, new: str) -> None:
         raise
 
 
+@dataclass
+class Build:
+    """A build under way: the repository of the libraries, that of all crates, and room for what is temporary."""
+
+    job: Job
+    libraries: str
+    checkout: str
+    temporary: str
+    log: IO[bytes]
+    preview: Optional[Preview] = None
+
+    def run(self, words: list[str], folder: str, said: IO[bytes]) -> int:
+        """Runs a command of the toolchain to its end. What it says goes to a file."""
+        with running(words, folder, self.temporary, said, said) as call:
+            return wait_for(call, self.preview, self.job)
+
+    def is_called(self) -> bool:
+        """Whether one call proved the program over its libraries, compiled it, and it was linked."""
+        tools = one_call.toolchain()
+        folder = f"{self.checkout}/crates/{one_call.PROGRAM}"
+        os.makedirs(f"{folder}/out", exist_ok=True)
+        words = one_call.proof(tools, self.libraries, self.checkout, self.job.crates, jobs.processors())
+        with tempfile.TemporaryFile(dir=self.temporary) as said:
+            status = self.run(words, folder, said)
+            said.seek(0)
+            text = said.read()
+        self.log.write(text)
+        self.log.flush()
+        if status != 0 or not one_call.is_proved(text.decode("utf-8", "replace")):
+            return False
+        is_linked = self.run(one_call.linking(tools), folder, self.log) == 0
+        return is_linked and not one_call.calls_beyond(tools, f"{folder}/out/{one_call.PROGRAM}")
+
+    def is_made(self) -> bool:
+        """Whether the program is proved and built. Where the one call comes to nothing, as with a toolchain of other
+        words, `rt ci` judges all crates, and says why."""
+        # a crate reads of those below it what they state, and not their proofs: so this takes less time than `rt run`
+        if self.run(["rt", "ci"], self.libraries, self.log) != 0:
+            return False
+        try:
+            if self.is_called():
+                return True
+        except OSError as error:
+            self.log.write(f"{error}\n".encode())
+            self.log.flush()
+        return self.run(["rt", "ci"], self.checkout, self.log) == 0
+
+
 def make(job: Job) -> None:
     with temporary_folder() as room, open(job.log, "wb") as log:
-        checkout, temporary = f"{room}/checkout", f"{room}/temporary"
-        os.mkdir(temporary, 0o711)
-        copy_crates(job, checkout)
+        build = Build(job, f"{room}/libraries", f"{room}/checkout", f"{room}/temporary", log)
+        os.mkdir(build.temporary, 0o711)
+        copy_crates(job.top, [it for it in job.crates if it != one_call.PROGRAM], build.libraries)
+        copy_crates(job.top, job.crates, build.checkout)
         os.environ.update(jobs.environment())
-        # a crate reads of those below it what they state, and not their proofs: so this takes less time than `rt run`
-        with running(["rt", "ci"], checkout, temporary, log, log) as gate:
-            with previewing(job.top, job.words, checkout, temporary) as preview:
-                status = wait_for(gate, preview, job)
-        if status != 0:
+        with previewing(job.top, job.words, build.checkout, build.temporary) as build.preview:
+            is_made = build.is_made()
+        if not is_made:
             tell_failure(job.log)
             raise Failed(f"all that rt printed stands in {job.log}")
-        put_program(f"{checkout}/crates/pipecheck_cli/out/pipecheck_cli", job.new)
+        put_program(f"{build.checkout}/crates/{one_call.PROGRAM}/out/{one_call.PROGRAM}", job.new)
 
 
 def tell_begin(job: Job) -> None:
