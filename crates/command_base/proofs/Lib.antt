@@ -1,6 +1,7 @@
 pub mod EndOfText
 pub mod Forms
 pub mod TestForm
+pub mod ListingForm
 pub mod OneCase
 pub mod InputsRead
 pub mod AnsweredFiles
@@ -8,3 +9,7 @@ pub mod ThirdFile
 pub mod AskedAlike
 pub mod CertificateTruth
 pub mod PieceByPiece
+pub mod ThreeWords
+pub mod FourWords
+pub mod GenWords
+pub mod OneCommand

@@ -1,8 +1,9 @@
--- What holds of every two files.
+-- What holds of every two files, and of all words.
 use Rattle.std.specs.Prelude.{◌≡◌, ◌⊎◌, List, ℕ}
 use Rattle.pc_common.specs.{Case.{Case}, declared.fault.InputFault.{InputFault}}
 use Rattle.pc_syntax.specs.Written.{WrittenModel}
 use Rattle.command_base.specs.Inputs.{Inputs, Contents, IsRead, Says, IsFirstInputFault}
+use Rattle.command_base.specs.Command.{Command, IsCommand}
 
 module _ (case_of : List ℕ → Case → Type 0) (first_fault : List ℕ → List ℕ → InputFault → Type 0)
     (holds : Contents) where
@@ -29,3 +30,7 @@ module _ (case_of : List ℕ → Case → Type 0) (first_fault : List ℕ → Li
   InputsExcludeFault =
       (i : Inputs) (m : WrittenModel) (c : Case) (f : InputFault) → Says case_of holds i m c
       → IsFirstInputFault first_fault holds i f → ⊥
+
+-- the words are one command at most
+abbrev pub IsOneCommand : List (List ℕ) → Type 0
+IsOneCommand words = (c d : Command) → IsCommand words c → IsCommand words d → c ≡ d

@@ -1,7 +1,9 @@
 pub mod Words
 pub mod Inputs
+pub mod Command
 pub mod Fronts
 pub mod SecondFiles
+pub mod Listings
 pub mod Refusals
 pub mod Endings
 pub mod Outcomes

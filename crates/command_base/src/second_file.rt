@@ -7,7 +7,7 @@ ghost use Rattle.pc_front.specs.Front.{IsFirstFrontFault as IsTestFault};
 ghost use Rattle.command_base.specs.Fronts.{front_of_parts};
 ghost use Rattle.command_base.specs.SecondFiles.{SaysFront, IsFrontEnd};
 
-use front_maker::front_of;
+use grounder::front_of;
 use pc_front::{FrontEnd, MAX_FILE, read_parts};
 use pc_ground::{Front, Parts};
 use std::alloc::Global;

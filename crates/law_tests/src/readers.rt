@@ -72,8 +72,8 @@ fn each_law_of_listings_can_be_called(_rt: HostRuntime) {
 
 #[test]
 fn each_law_of_a_model_and_a_listing_can_be_called(_rt: HostRuntime) {
-    listing_form::one_first_fault();
-    listing_form::case_or_first_fault();
-    listing_form::one_model_and_case();
-    listing_form::no_first_fault();
+    command_base::one_listing_fault();
+    command_base::listing_case_or_fault();
+    command_base::one_model_and_listing();
+    command_base::no_listing_fault();
 }

@@ -4,7 +4,7 @@ ghost use Rattle.pc_front.specs.Front.{SayParts, SayFront, IsEnd};
 
 use super::model_front::{FrontEnd, ModelFront};
 use super::reading::read_model;
-use front_maker::front_of;
+use grounder::front_of;
 use litmus_reader::read_case;
 use pc_case::Case;
 use pc_ground::{Front, Parts};

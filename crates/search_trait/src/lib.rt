@@ -10,7 +10,7 @@
 //! ```
 //!
 //! `Search` says what grounds the parts of a model and a test, and what is found of a front; `Solver` does it, by
-//! `front_maker` and `solver`. A crate that asks for many fronts and answers, as `axiom_core` and `ask_command` do, is
+//! `grounder` and `solver`. A crate that asks for many fronts and answers, as `axiom_core` and `ask_command` do, is
 //! generic over `Search`. So it is proved by these contracts alone, and the prover need not load the grounder and the
 //! search for it. What is found is shortened: `search_front` searches, and `shorten_found` leaves out of a refutation
 //! the splits that it does not need.

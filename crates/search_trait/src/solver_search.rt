@@ -7,12 +7,12 @@ use pc_ground::{Axioms, Front, Parts, Version};
 use solver::Answer;
 use std::alloc::Global;
 
-/// The grounder behind `front_maker`, and the search of `solver`.
+/// What `grounder` makes, and the search of `solver`.
 pub struct Solver;
 
 impl Search for Solver {
     fn front_of(alloc: Global, parts: Parts) -> Result<Front, Memory> {
-        front_maker::front_of(alloc, parts)
+        grounder::front_of(alloc, parts)
     }
 
     fn front_with(
@@ -21,7 +21,7 @@ impl Search for Solver {
         case: Case,
         axioms: Axioms,
     ) -> Result<Front, Memory> {
-        front_maker::front_with(alloc, front, case, axioms)
+        grounder::front_with(alloc, front, case, axioms)
     }
 
     fn found_of(alloc: Global, front: &Front) -> Result<Answer, Memory> {

@@ -2,7 +2,7 @@
 use Rattle.std.{proofs.Common.{◌≡◌, ℕ, List, refl, subst}, specs.Prelude.{IsTrue}}
 use Rattle.pc_common.specs.{Outside.{FilesView}, declared.status.Status.{Status, TheVariants.{Usage, ReadFault}}}
 use Rattle.command_base.{specs.Outcomes.{IsOutcome}, proofs.InputsRead.{reads_none}}
-use Rattle.command_line.{specs.Command.{Command, IsCommand, IsNoCommand}, proofs.OneCommand.{one_command}}
+use Rattle.command_base.{specs.Command.{Command, IsCommand, IsNoCommand}, proofs.OneCommand.{one_command}}
 use Rattle.top_call.specs.{Answers.{usage_text, usage, answered, Lacks}, Decides.{IsCommandOutcome, IsWordsOutcome}}
 
 no_fault_of_usage : Usage ≡ ReadFault → ⊥

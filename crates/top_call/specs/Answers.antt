@@ -8,13 +8,13 @@ use Rattle.check_command.specs.CheckAnswers.{AnswersCheck}
 use Rattle.verify_command.specs.{VerifyAnswers.{AnswersVerify}, LiftedAnswers.{AnswersLifted}}
 use Rattle.core_command.specs.CoreAnswers.{AnswersCore}
 use Rattle.x86_litmus.specs.Answer.{CaseOf as ListingCase}
-use Rattle.listing_form.specs.Listings.{IsFirstListingFault as IsListingFault}
+use Rattle.command_base.specs.Listings.{IsFirstListingFault as IsListingFault}
 use Rattle.pc_ground.specs.declared.version.Version.TheVariants.{One}
 use Rattle.sweep_command.specs.SweepAnswers.{AnswersSweep}
 use Rattle.ask_command.specs.{AskFiles.{LacksAskedFile}, AskAnswers.{AnswersAsk}}
 use Rattle.lift_command.specs.LiftAnswers.{AnswersLift}
 use Rattle.gen_command.specs.GenAnswers.{AnswersGen}
-use Rattle.command_line.specs.Command.{Command, check, verify, find_core, check_listing, verify_listing, sweep_rows, verify_lifted, ask_query, lift_tree, gen, IsCommand, IsNoCommand}
+use Rattle.command_base.specs.Command.{Command, check, verify, find_core, check_listing, verify_listing, sweep_rows, verify_lifted, ask_query, lift_tree, gen, IsCommand, IsNoCommand}
 
 abbrev pub usage_text : List ℕ
 usage_text = codes "pipecheck: bad command line\n"

@@ -9,12 +9,12 @@ use Rattle.check_command.specs.CheckAnswers.{IsCheckDue}
 use Rattle.verify_command.specs.{VerifyAnswers.{IsVerifyDue}, LiftedAnswers.{IsLiftedDue}}
 use Rattle.core_command.specs.CoreAnswers.{IsCoreDue}
 use Rattle.x86_litmus.specs.Answer.{CaseOf as ListingCase}
-use Rattle.listing_form.specs.Listings.{IsFirstListingFault as IsListingFault}
+use Rattle.command_base.specs.Listings.{IsFirstListingFault as IsListingFault}
 use Rattle.sweep_command.specs.SweepAnswers.{IsSweepDue}
 use Rattle.ask_command.specs.AskAnswers.{IsAskDue}
 use Rattle.lift_command.specs.LiftAnswers.{IsLiftDue}
 use Rattle.gen_command.specs.GenAnswers.{IsGenDue}
-use Rattle.command_line.specs.Command.{Command, check, verify, find_core, check_listing, verify_listing, sweep_rows, verify_lifted, ask_query, lift_tree, gen, IsCommand}
+use Rattle.command_base.specs.Command.{Command, check, verify, find_core, check_listing, verify_listing, sweep_rows, verify_lifted, ask_query, lift_tree, gen, IsCommand}
 
 -- what the statuses of a verdict say to a command: observable only where some choice of nodes with some strict order
 -- makes every axiom true of the case, and unobservable only where none does; whatever a third file holds. `core`,

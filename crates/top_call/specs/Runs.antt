@@ -1,7 +1,7 @@
 -- What a run is, and what `run` says of it.
 use Rattle.std.specs.Prelude.{◌≡◌, ◌≢◌, ◌⊎◌, ◌++◌, ℕ, List, String, IsTrue}
 use Rattle.pc_common.specs.{Outside.{FilesView, SinkView}, Pieces.{IsCutShort}, declared.status.Status.{Status, TheVariants.{ReadFault, WriteFault, Memory}}}
-use Rattle.command_line.specs.Command.{word_bytes, WordsReadOnlyIf}
+use Rattle.command_base.specs.Command.{word_bytes, WordsReadOnlyIf}
 use Rattle.top_call.specs.{Answers.{Answers, LacksNamedFile}, Headline.{IsVerdictTrue, IsDue}}
 
 -- a run: its words as bytes, the files before it, the sink before and after it, and the status that it ends with; of

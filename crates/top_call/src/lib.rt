@@ -10,7 +10,7 @@
 //! assert!(rt; sink.taken() == text.as_slice());
 //! ```
 //!
-//! `parse` of `command_line` takes the words, `answer_to` hands a command to the crate of its own, and `tell` writes
+//! `parse` of `command_base` takes the words, `answer_to` hands a command to the crate of its own, and `tell` writes
 //! the text of what that returned. A command's crate says what it reads and what it returns; here is a line for each
 //! command in each table. `pipecheck_run` hands `run` on, beside the other public calls of the top: a crate that
 //! hands on `front` carries all that is said of what it returns, and the program, which waits for this one, needs
@@ -21,6 +21,6 @@ mod answer;
 mod laws;
 mod top;
 
-pub use command_line::one_command;
+pub use command_base::one_command;
 pub use laws::written_is_verified;
 pub use top::run;

@@ -12,7 +12,7 @@ ghost use Rattle.command_base.specs.declared.feed_end.FeedEnd.TheVariants.{ReadF
 use super::reading::{feed_file, first_bytes};
 use cert_check::{Checked, Checker, GraphChecker};
 use command_base::FeedEnd;
-use front_maker::front_of;
+use grounder::front_of;
 use pc_common::Files;
 use pc_ground::{Front, Parts};
 use std::alloc::Global;

@@ -1,4 +1,4 @@
-use Rattle.command_line.specs.Command.{ReadsOnlyIf, gen}
+use Rattle.command_base.specs.Command.{ReadsOnlyIf, gen}
 use Rattle.top_call.specs.AnswerTexts.{answer_status, answer_text}
 use Rattle.gen_command.proofs.GenOutcomes.{gen_outcome}
 use Rattle.top_call.proofs.top.answer_to.Goals as goal

@@ -1,4 +1,4 @@
-use Rattle.command_line.specs.Command.{plain_command, word_bytes}
+use Rattle.command_base.specs.Command.{plain_command, word_bytes}
 use Rattle.top_call.{specs.AnswerTexts.{answer_status, answer_text}, proofs.WordsOutcomes.{usage_outcome, command_outcome}}
 use Rattle.top_call.proofs.top.decide.Goals as goal
 

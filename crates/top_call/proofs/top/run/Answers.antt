@@ -1,6 +1,6 @@
 use Rattle.std.{proofs.Common.{◌≡◌, ◌≢◌, ◌∙◌, ◌⊎◌, inl, inr, ap, sym, subst}, specs.Prelude.{◌++◌}}
 use Rattle.pc_common.specs.declared.status.Status.{Status, TheVariants.{Usage, ReadFault, Memory}}
-use Rattle.command_line.specs.Command.{word_bytes}
+use Rattle.command_base.specs.Command.{word_bytes}
 use Rattle.top_call.{specs.{AnswerTexts.{answer_text, answer_status}, Answers.{Answers}}, proofs.WrittenStatus.{answer_is_status, answer_is, status_is}}
 use Rattle.top_call.proofs.Headline.{status_true, answer_due}
 use Rattle.top_call.proofs.top.run.Goals as goal

@@ -1,4 +1,0 @@
-pub mod ThreeWords
-pub mod FourWords
-pub mod GenWords
-pub mod OneCommand
