@@ -1,8 +1,7 @@
 -- A command, and which words are one.
 use Rattle.std.specs.{Prelude.{◌≡◌, ◌≤◌, ⊤, ℕ, List, [], ◌∷◌, Bool, Option, Some, None, IsTrue, String, map, codes}, Fmt.{decimal}, String.{string_bytes}}
 use Rattle.pc_ground.specs.declared.version.Version.{Version, TheVariants.{One, Two}}
-use Rattle.command_base.specs.Inputs.{Inputs, plain_inputs}
-use Rattle.command_base.specs.declared.command.Command.{Command as CodeCommand}
+use Rattle.command_base.specs.{Inputs.{Inputs, plain_inputs}, declared.command.Command.{Command as CodeCommand}}
 use Rattle.command_base.specs.declared.command.Command.TheVariants.{Check, Verify, Core, CheckListing, VerifyListing, Sweep, VerifyLifted, Ask, Lift, Gen}
 
 pub data Command : Type 0 where

@@ -2,8 +2,7 @@
 use Rattle.std.specs.Prelude.{◌≡◌, ◌⊎◌, List, ℕ}
 use Rattle.pc_common.specs.{Case.{Case}, declared.fault.InputFault.{InputFault}}
 use Rattle.pc_syntax.specs.Written.{WrittenModel}
-use Rattle.command_base.specs.Inputs.{Inputs, Contents, IsRead, Says, IsFirstInputFault}
-use Rattle.command_base.specs.Command.{Command, IsCommand}
+use Rattle.command_base.specs.{Inputs.{Inputs, Contents, IsRead, Says, IsFirstInputFault}, Command.{Command, IsCommand}}
 
 module _ (case_of : List ℕ → Case → Type 0) (first_fault : List ℕ → List ℕ → InputFault → Type 0)
     (holds : Contents) where

@@ -6,13 +6,13 @@ ghost use Rattle.command_base.specs.Feeding.{TookLeft};
 
 use super::feed_end::FeedEnd;
 use super::text_check::TextCheck;
-use pc_common::Files;
+use pc_common::{Files, MAX_CERTIFICATE};
 
 /// How many bytes of a third file are asked for in one call. Each text pays for the room, and most are shorter.
 pub const PIECE: usize = 2048;
 
 /// How many bytes of a third file are read at most: one more than a certificate may have.
-pub const MOST: usize = 67_108_865;
+pub const MOST: usize = MAX_CERTIFICATE + 1;
 
 /// Feeds the checker what is left of the file that was started, to its end or to `limit` bytes, by pieces of the
 /// length of `buf`. `ReadFault` where a call of the files fails, whatever was read before.

@@ -2,17 +2,15 @@
 use Rattle.std.proofs.Common.{◌≢◌, ℕ, List, subst}
 use Rattle.pc_common.specs.declared.status.Status.{Status}
 use Rattle.pc_common.specs.declared.status.Status.TheVariants.{Observable, Unobservable, Done, Usage, Refused, ReadFault, WriteFault, CertRefused, Memory}
-use Rattle.command_base.{specs.Inputs.{Contents}, proofs.TestForm.{test_form}}
+use Rattle.command_base.{specs.Inputs.{Contents}, proofs.{TestForm.{test_form}, ListingForm.{listing_form}, OneCommand.{one_command}}}
 use Rattle.check_command.proofs.CheckOutcomes.{check_true, check_due}
 use Rattle.verify_command.proofs.{VerifyOutcomes.{verify_true, verify_due}, LiftedOutcomes.{lifted_true, lifted_due}}
 use Rattle.core_command.proofs.CoreOutcomes.{core_due}
-use Rattle.command_base.proofs.ListingForm.{listing_form}
 use Rattle.sweep_command.proofs.SweepOutcomes.{sweep_due}
 use Rattle.ask_command.proofs.AskOutcomes.{ask_due}
 use Rattle.lift_command.proofs.LiftOutcomes.{lift_true, lift_due}
 use Rattle.gen_command.proofs.GenOutcomes.{gen_due}
 use Rattle.command_base.specs.Command.{Command, check, verify, find_core, check_listing, verify_listing, sweep_rows, verify_lifted, ask_query, lift_tree, gen, IsCommand}
-use Rattle.command_base.proofs.OneCommand.{one_command}
 use Rattle.top_call.specs.{Answers.{Answers, usage, answered, AnswersCommand}, Headline.{IsVerdictTrueFor, IsVerdictTrue, IsDueTo, IsDue}, Runs.{HasAnswered}}
 
 -- the answer to words is one to the command that they are

@@ -8,8 +8,7 @@ use Rattle.cert_check.specs.{Verified.{Verified, seen as a_graph_text, unseen as
 use Rattle.cert_check.specs.declared.checked.Checked.TheVariants.{Observable, Unobservable}
 use Rattle.command_base.specs.{Inputs.{Inputs, Contents, Says, IsRead}, FileAnswers.{refused as is_refused, found as is_found}, Questions.{question_by}}
 use Rattle.command_base.{specs.{Refusals.{refusal}, SecondFiles.{IsForm}, CheckedTexts.{checked_status}}, proofs.OneCase.{one_held, no_fault_said}}
-use Rattle.command_base.proofs.{TestForm.{test_form}, AnsweredFiles.{found_of}}
-use Rattle.command_base.proofs.ListingForm.{listing_form}
+use Rattle.command_base.proofs.{TestForm.{test_form}, ListingForm.{listing_form}, AnsweredFiles.{found_of}}
 use Rattle.check_command.specs.CheckAnswers.{AnswersCheck}
 use Rattle.verify_command.{specs.VerifyAnswers.{AnswersVerify, IsJudged, judged}, proofs.OneVerdict.{one_found}}
 use Rattle.command_base.specs.Command.{check, verify, check_listing, verify_listing}

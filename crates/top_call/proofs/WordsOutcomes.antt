@@ -1,8 +1,8 @@
 -- The outcome of a command is that of the words that are it.
 use Rattle.std.{proofs.Common.{◌≡◌, ℕ, List, refl, subst}, specs.Prelude.{IsTrue}}
 use Rattle.pc_common.specs.{Outside.{FilesView}, declared.status.Status.{Status, TheVariants.{Usage, ReadFault}}}
-use Rattle.command_base.{specs.Outcomes.{IsOutcome}, proofs.InputsRead.{reads_none}}
-use Rattle.command_base.{specs.Command.{Command, IsCommand, IsNoCommand}, proofs.OneCommand.{one_command}}
+use Rattle.command_base.specs.{Outcomes.{IsOutcome}, Command.{Command, IsCommand, IsNoCommand}}
+use Rattle.command_base.proofs.{InputsRead.{reads_none}, OneCommand.{one_command}}
 use Rattle.top_call.specs.{Answers.{usage_text, usage, answered, Lacks}, Decides.{IsCommandOutcome, IsWordsOutcome}}
 
 no_fault_of_usage : Usage ≡ ReadFault → ⊥

@@ -1,8 +1,7 @@
 -- The outcome of the words, before anything is written.
 use Rattle.std.specs.Prelude.{◌≡◌, ℕ, List}
 use Rattle.pc_common.specs.{Outside.{FilesView}, declared.status.Status.{Status}}
-use Rattle.command_base.specs.Outcomes.{IsOutcome}
-use Rattle.command_base.specs.Command.{Command, IsNoCommand, ReadsOnlyIf, WordsReadOnlyIf}
+use Rattle.command_base.specs.{Outcomes.{IsOutcome}, Command.{Command, IsNoCommand, ReadsOnlyIf, WordsReadOnlyIf}}
 use Rattle.top_call.specs.Answers.{usage_text, AnswersCommand, Answers, Lacks, LacksNamedFile}
 
 module _ {F : Type 0} (view : F → FilesView) where

@@ -4,12 +4,11 @@ use Rattle.pc_common.specs.{Case.{Case}, declared.status.Status.{Status}}
 use Rattle.pc_syntax.specs.Written.{WrittenModel}
 use Rattle.litmus_reader.specs.Answer.{CaseOf}
 use Rattle.pc_front.specs.Front.{IsFirstFrontFault as IsTestFault}
-use Rattle.command_base.specs.{Inputs.{Contents, Says}, VerdictStatus.{IsTrueStatus}}
+use Rattle.command_base.specs.{Inputs.{Contents, Says}, VerdictStatus.{IsTrueStatus}, Listings.{IsFirstListingFault as IsListingFault}}
 use Rattle.check_command.specs.CheckAnswers.{IsCheckDue}
 use Rattle.verify_command.specs.{VerifyAnswers.{IsVerifyDue}, LiftedAnswers.{IsLiftedDue}}
 use Rattle.core_command.specs.CoreAnswers.{IsCoreDue}
 use Rattle.x86_litmus.specs.Answer.{CaseOf as ListingCase}
-use Rattle.command_base.specs.Listings.{IsFirstListingFault as IsListingFault}
 use Rattle.sweep_command.specs.SweepAnswers.{IsSweepDue}
 use Rattle.ask_command.specs.AskAnswers.{IsAskDue}
 use Rattle.lift_command.specs.LiftAnswers.{IsLiftDue}

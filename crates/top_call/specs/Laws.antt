@@ -2,8 +2,7 @@
 use Rattle.std.specs.Prelude.{◌≡◌, ◌≤◌, List, ℕ, Some, length}
 use Rattle.pc_common.specs.declared.{status.Status.{Status}, limits.TheConstants.{MAX_CERTIFICATE}}
 use Rattle.pc_ground.specs.declared.version.Version.{Version}
-use Rattle.command_base.specs.Inputs.{Inputs, Contents}
-use Rattle.command_base.specs.Command.{Command, check, verify, check_listing, verify_listing, IsCommand}
+use Rattle.command_base.specs.{Inputs.{Inputs, Contents}, Command.{Command, check, verify, check_listing, verify_listing, IsCommand}}
 use Rattle.top_call.specs.Answers.{Answers}
 
 -- what the first command writes to two files, the second one judges

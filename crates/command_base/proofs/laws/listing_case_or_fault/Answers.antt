@@ -1,5 +1,4 @@
-use Rattle.command_base.proofs.OneCase.{case_or_first_fault}
-use Rattle.command_base.proofs.ListingForm.{listing_form}
+use Rattle.command_base.proofs.{ListingForm.{listing_form}, OneCase.{case_or_first_fault}}
 use Rattle.command_base.proofs.laws.listing_case_or_fault.Goals as goal
 
 pub returns : goal.returns

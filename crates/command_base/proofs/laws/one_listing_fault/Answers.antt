@@ -1,5 +1,4 @@
-use Rattle.command_base.proofs.OneCase.{one_first_fault}
-use Rattle.command_base.proofs.ListingForm.{listing_form}
+use Rattle.command_base.proofs.{ListingForm.{listing_form}, OneCase.{one_first_fault}}
 use Rattle.command_base.proofs.laws.one_listing_fault.Goals as goal
 
 pub returns : goal.returns

@@ -1,5 +1,4 @@
-use Rattle.command_base.proofs.OneCase.{one_said}
-use Rattle.command_base.proofs.ListingForm.{listing_form}
+use Rattle.command_base.proofs.{ListingForm.{listing_form}, OneCase.{one_said}}
 use Rattle.command_base.proofs.laws.one_model_and_listing.Goals as goal
 
 pub returns : goal.returns

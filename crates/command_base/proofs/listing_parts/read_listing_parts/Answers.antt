@@ -1,8 +1,7 @@
 use Rattle.std.proofs.{Common.{refl}, lemmas.Result.{err_from_is_err_and}}
 use Rattle.x86_litmus.proofs.CaseOps.{case_ops}
 use Rattle.pc_front.proofs.PartsOf.{axioms_within, are_stages, parts_are, front_is}
-use Rattle.command_base.specs.Fronts.{front_of_parts}
-use Rattle.command_base.proofs.ListingForm.{model_end, fault_end}
+use Rattle.command_base.{specs.Fronts.{front_of_parts}, proofs.ListingForm.{model_end, fault_end}}
 use Rattle.command_base.proofs.listing_parts.read_listing_parts.Goals as goal
 
 pub returns-in_err-model-clause-err : goal.returns-in_err-model-clause-err
