@@ -30,3 +30,11 @@ pub went_behind : (from used n : ℕ) (old new piece : List ℕ) →
     drop from (take (used + n) new) ≡ drop from (take used old) ++ piece
 went_behind from used n old new piece order within whole =
     ap (drop from) whole ∙ drop-append-le from (take used old) piece (omega (arith, length-take-le used old within))
+
+-- the next n bytes that were read of what is left, after those before
+pub read_on : (all before left read old after items : List ℕ) (n : ℕ) →
+    all ≡ before ++ left → left ≡ take n read ++ after → n ≤ length read → items ≡ before ++ take n (read ++ old) →
+    all ≡ items ++ after
+read_on all before left read old after items n so_far next within put =
+    let behind : items ≡ before ++ take n read = put ∙ ap (λ xs. before ++ xs) (take-append-le n read old within) in
+    so_far ∙ ap (λ xs. before ++ xs) next ∙ sym (append_assoc before (take n read) after) ∙ ap (λ xs. xs ++ after) (sym behind)

@@ -104,12 +104,9 @@ impl<T> Shared<T> {
         requires { (a b : T) → T.is_clone a b → a ≡ b }
         ensures { self.new ≡ (if is_ok result then self.old ++ x ∷ [] else self.old) }
     {
-        let mut items = Listed::new(self.alloc);
-        for y in self.as_slice() {
-            items.push(y.clone()?)?;
-        }
-        items.push(x)?;
-        *self = Shared::from_listed(items)?;
+        let mut copies = Listed::from_vec(self.as_slice().to_vec(self.alloc)?);
+        copies.push(x)?;
+        *self = Shared::from_listed(copies)?;
         Ok(())
     }
 }
