@@ -25,7 +25,7 @@ pub fn kind_of_fact(case: &Case, fact: &Fact<'_>) -> Kind
     }
 }
 
-/// The first part that is False, with how it is named, of a fact that is False for one. Takes no memory.
+/// A part that is False, with how it is named, of a fact that is False for one. Takes no memory.
 pub fn false_part<'a>(case: &Case, fact: &Fact<'a>) -> (Way, Fact<'a>)
     requires proper { IsProper case.now fact.now }
     requires kind { kind_of (parts_from case.now (plain_fact fact.now) 0) ≡ False }
