@@ -1,5 +1,5 @@
 -- Expansion keeps the truth, the size, the height and the first name fault of a formula.
-use Rattle.std.{proofs.Common.{◌≡◌, ◌+◌, Bool, true, false, not, ◌&&◌, ◌||◌, List, [], ◌∷◌, ◌++◌, cond, refl}, specs.List.{list_any, list_all}}
+use Rattle.std.{proofs.Common.{◌≡◌, Bool, true, false, not, ◌&&◌, ◌||◌, List, [], ◌∷◌, ◌++◌, cond, refl}, specs.List.{list_any, list_all}}
 use Rattle.std.specs.Option.{option_or}
 use Rattle.pc_syntax.specs.{declared.model.StageItem.{StageItem}, Written.{Written, not_, and_, or_, implies_, forall_, exists_, expand_, bind_, MacroAt}}
 use Rattle.pc_syntax.specs.{Truth.{Environment, Setting, bound_to, range_of, is_true}, Expansion.{parameter_names, expansion_of}}

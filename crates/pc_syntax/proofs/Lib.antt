@@ -6,4 +6,5 @@ pub mod ClosingShape
 pub mod ClosingStages
 pub mod ExpandedLaws
 pub mod RenamedItems
+mod Predicates
 mod Examples

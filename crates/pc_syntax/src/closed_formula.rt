@@ -2,7 +2,7 @@ ghost use Rattle.std.specs.Prelude.{◌≡◌, IfOk};
 ghost use Rattle.pc_syntax.specs.Closed.{plain_closed, closed_not, closed_and, closed_or, closed_implies, closed_forall, closed_exists, closed_bind};
 
 use super::boxed::boxes;
-use super::closed_term::{ClosedArgs, ClosedEdges, ClosedNodes, copy_args, copy_edges, copy_nodes};
+use super::closed_term::{ClosedArgs, ClosedEdges, ClosedNodes, copy_items};
 use super::pred::Pred;
 use super::term::Sort;
 use pc_common::Memory;
@@ -140,16 +140,16 @@ impl ClosedFormula {
         match self {
             ClosedFormula::Not(body) => ClosedFormula::negation(alloc, body.copy(alloc)?),
             ClosedFormula::And(left, right) => {
-                let (left, right) = copy_both(alloc, left, right)?;
-                ClosedFormula::conjunction(alloc, left, right)
+                let both = copy_both(alloc, left, right)?;
+                Ok(ClosedFormula::And(both.0, both.1))
             }
             ClosedFormula::Or(left, right) => {
-                let (left, right) = copy_both(alloc, left, right)?;
-                ClosedFormula::disjunction(alloc, left, right)
+                let both = copy_both(alloc, left, right)?;
+                Ok(ClosedFormula::Or(both.0, both.1))
             }
             ClosedFormula::Implies(left, right) => {
-                let (left, right) = copy_both(alloc, left, right)?;
-                ClosedFormula::implication(alloc, left, right)
+                let both = copy_both(alloc, left, right)?;
+                Ok(ClosedFormula::Implies(both.0, both.1))
             }
             ClosedFormula::Forall { sort, body } => {
                 ClosedFormula::forall(alloc, *sort, body.copy(alloc)?)
@@ -159,42 +159,39 @@ impl ClosedFormula {
             }
             ClosedFormula::Static { pred, args } => Ok(ClosedFormula::Static {
                 pred: *pred,
-                args: copy_args(alloc, args)?,
+                args: copy_items(alloc, args)?,
             }),
-            ClosedFormula::Nodes(nodes) => Ok(ClosedFormula::Nodes(copy_nodes(alloc, nodes)?)),
-            ClosedFormula::Edges(edges) => Ok(ClosedFormula::Edges(copy_edges(alloc, edges)?)),
-            ClosedFormula::Bind { args, body } => {
-                let (args, body) = copy_bound(alloc, args, body)?;
-                ClosedFormula::bind(alloc, args, body)
-            }
+            ClosedFormula::Nodes(nodes) => Ok(ClosedFormula::Nodes(copy_items(alloc, nodes)?)),
+            ClosedFormula::Edges(edges) => Ok(ClosedFormula::Edges(copy_items(alloc, edges)?)),
+            ClosedFormula::Bind { args, body } => copy_bound(alloc, args, body),
         }
     }
 }
 
-/// A copy of each of two formulas.
+/// A copy of each of two formulas, in a box of its own.
 #[cycle(copy)]
 fn copy_both(
     alloc: Global,
     left: &ClosedFormula,
     right: &ClosedFormula,
-) -> Result<(ClosedFormula, ClosedFormula), Memory>
-    ensures left { IfOk result (λ both. plain_closed both.0 ≡ plain_closed left.now) }
-    ensures right { IfOk result (λ both. plain_closed both.1 ≡ plain_closed right.now) }
+) -> Result<(Box<ClosedFormula>, Box<ClosedFormula>), Memory>
+    ensures left { IfOk result (λ both. plain_closed both.0.value ≡ plain_closed left.now) }
+    ensures right { IfOk result (λ both. plain_closed both.1.value ≡ plain_closed right.now) }
 {
     let left = left.copy(alloc)?;
-    Ok((left, right.copy(alloc)?))
+    boxes(alloc, left, right.copy(alloc)?)
 }
 
-/// A copy of a binding's arguments and of its body.
+/// A binding of the same arguments over a copy of its body.
 #[cycle(copy)]
 fn copy_bound(
     alloc: Global,
     args: &ClosedArgs,
     body: &ClosedFormula,
-) -> Result<(ClosedArgs, ClosedFormula), Memory>
-    ensures args { IfOk result (λ bound. bound.0 ≡ args.now) }
-    ensures body { IfOk result (λ bound. plain_closed bound.1 ≡ plain_closed body.now) }
+) -> Result<ClosedFormula, Memory>
+    ensures { IfOk result (λ f. plain_closed f ≡ closed_bind args.now (plain_closed body.now)) }
 {
-    let args = copy_args(alloc, args)?;
-    Ok((args, body.copy(alloc)?))
+    let args = copy_items(alloc, args)?;
+    let body = body.copy(alloc)?;
+    ClosedFormula::bind(alloc, args, body)
 }

@@ -4,6 +4,27 @@ use super::term::Name;
 use pc_common::{Listed, Memory};
 use std::alloc::Global;
 
+/// What is copied item by item, where memory may be refused.
+pub(crate) trait CopyOrRefuse: Drop + Sized {
+    /// The same value once more.
+    fn copy_or_refuse(&self) -> Result<Self, Memory>
+        ensures { IfOk result (λ copy. copy ≡ self.now) };
+}
+
+/// The same items in a list of their own.
+pub(crate) fn copy_items<T: CopyOrRefuse>(
+    alloc: Global,
+    items: &Listed<T>,
+) -> Result<Listed<T>, Memory>
+    ensures { IfOk result (λ copies. copies ≡ items.now) }
+{
+    let mut copies = Listed::new(alloc);
+    for item in items.as_slice() {
+        copies.push(item.copy_or_refuse()?)?;
+    }
+    Ok(copies)
+}
+
 /// An argument with its names resolved.
 #[derive(Drop)]
 pub enum ClosedArg {
@@ -30,15 +51,10 @@ impl ClosedArg {
     }
 }
 
-/// The same arguments in a list of their own.
-pub(crate) fn copy_args(alloc: Global, args: &ClosedArgs) -> Result<ClosedArgs, Memory>
-    ensures { IfOk result (λ copies. copies ≡ args.now) }
-{
-    let mut copies = Listed::new(alloc);
-    for arg in args.as_slice() {
-        copies.push(arg.copy()?)?;
+impl CopyOrRefuse for ClosedArg {
+    fn copy_or_refuse(&self) -> Result<Self, Memory> {
+        self.copy()
     }
-    Ok(copies)
 }
 
 /// A node with its names resolved: a micro-op's slot, on its own core where no core is given, and
@@ -79,15 +95,10 @@ impl ClosedNode {
     }
 }
 
-/// The same nodes in a list of their own.
-pub(crate) fn copy_nodes(alloc: Global, nodes: &ClosedNodes) -> Result<ClosedNodes, Memory>
-    ensures { IfOk result (λ copies. copies ≡ nodes.now) }
-{
-    let mut copies = Listed::new(alloc);
-    for node in nodes.as_slice() {
-        copies.push(node.copy()?)?;
+impl CopyOrRefuse for ClosedNode {
+    fn copy_or_refuse(&self) -> Result<Self, Memory> {
+        self.copy()
     }
-    Ok(copies)
 }
 
 /// An edge with its names resolved: its first node happens before its second.
@@ -118,13 +129,8 @@ impl ClosedEdge {
     }
 }
 
-/// The same edges in a list of their own.
-pub(crate) fn copy_edges(alloc: Global, edges: &ClosedEdges) -> Result<ClosedEdges, Memory>
-    ensures { IfOk result (λ copies. copies ≡ edges.now) }
-{
-    let mut copies = Listed::new(alloc);
-    for edge in edges.as_slice() {
-        copies.push(edge.copy()?)?;
+impl CopyOrRefuse for ClosedEdge {
+    fn copy_or_refuse(&self) -> Result<Self, Memory> {
+        self.copy()
     }
-    Ok(copies)
 }

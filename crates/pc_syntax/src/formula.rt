@@ -188,16 +188,16 @@ impl Formula {
         match self {
             Formula::Not(body) => Formula::negation(alloc, body.copy(alloc)?),
             Formula::And(left, right) => {
-                let (left, right) = copy_both(alloc, left, right)?;
-                Formula::conjunction(alloc, left, right)
+                let both = copy_both(alloc, left, right)?;
+                Ok(Formula::And(both.0, both.1))
             }
             Formula::Or(left, right) => {
-                let (left, right) = copy_both(alloc, left, right)?;
-                Formula::disjunction(alloc, left, right)
+                let both = copy_both(alloc, left, right)?;
+                Ok(Formula::Or(both.0, both.1))
             }
             Formula::Implies(left, right) => {
-                let (left, right) = copy_both(alloc, left, right)?;
-                Formula::implication(alloc, left, right)
+                let both = copy_both(alloc, left, right)?;
+                Ok(Formula::Implies(both.0, both.1))
             }
             Formula::Forall {
                 at,
@@ -206,7 +206,12 @@ impl Formula {
                 body,
             } => {
                 let (name, body) = copy_named(alloc, name, body)?;
-                Formula::forall(alloc, *at, *sort, name, body)
+                Ok(Formula::Forall {
+                    at: *at,
+                    sort: *sort,
+                    name,
+                    body,
+                })
             }
             Formula::Exists {
                 at,
@@ -215,43 +220,50 @@ impl Formula {
                 body,
             } => {
                 let (name, body) = copy_named(alloc, name, body)?;
-                Formula::exists(alloc, *at, *sort, name, body)
+                Ok(Formula::Exists {
+                    at: *at,
+                    sort: *sort,
+                    name,
+                    body,
+                })
             }
             Formula::Static { pred, args } => shared_static(pred, args),
-            Formula::Nodes(nodes) => Ok(Formula::Nodes(nodes.share()?)),
-            Formula::Edges(edges) => Ok(Formula::Edges(edges.share()?)),
+            Formula::Nodes(nodes) => nodes.share().map(Formula::Nodes),
+            Formula::Edges(edges) => edges.share().map(Formula::Edges),
             Formula::Expand { at, name, args } => shared_expand(*at, name, args),
             Formula::Bind {
                 at,
                 names,
                 args,
                 body,
-            } => {
-                let (names, args, body) = copy_bound(alloc, names, args, body)?;
-                Formula::bind(alloc, *at, names, args, body)
-            }
+            } => copy_bound(alloc, *at, names, args, body),
         }
     }
 }
 
-/// A copy of each of two formulas.
+/// A copy of each of two formulas, in a box of its own.
 #[cycle(copy)]
-fn copy_both(alloc: Global, left: &Formula, right: &Formula) -> Result<(Formula, Formula), Memory>
-    ensures left { IfOk result (λ both. written both.0 ≡ written left.now) }
-    ensures right { IfOk result (λ both. written both.1 ≡ written right.now) }
+fn copy_both(
+    alloc: Global,
+    left: &Formula,
+    right: &Formula,
+) -> Result<(Box<Formula>, Box<Formula>), Memory>
+    ensures left { IfOk result (λ both. written both.0.value ≡ written left.now) }
+    ensures right { IfOk result (λ both. written both.1.value ≡ written right.now) }
 {
     let left = left.copy(alloc)?;
-    Ok((left, right.copy(alloc)?))
+    boxes(alloc, left, right.copy(alloc)?)
 }
 
-/// A quantifier's name, shared, and a copy of its body.
+/// A quantifier's name, shared, and a copy of its body in a box of its own.
 #[cycle(copy)]
-fn copy_named(alloc: Global, name: &Name, body: &Formula) -> Result<(Name, Formula), Memory>
+fn copy_named(alloc: Global, name: &Name, body: &Formula) -> Result<(Name, Box<Formula>), Memory>
     ensures name { IfOk result (λ named. named.0 ≡ name.now) }
-    ensures body { IfOk result (λ named. written named.1 ≡ written body.now) }
+    ensures body { IfOk result (λ named. written named.1.value ≡ written body.now) }
 {
     let name = name.share()?;
-    Ok((name, body.copy(alloc)?))
+    let body = body.copy(alloc)?;
+    Ok((name, Box::new(alloc, body)?))
 }
 
 /// The same predicate of the same arguments.
@@ -277,19 +289,19 @@ fn shared_expand(at: Place, name: &Word, args: &Args) -> Result<Formula, Memory>
     })
 }
 
-/// A binding's names and arguments, shared, and a copy of its body.
+/// A binding's names and arguments, shared, over a copy of its body.
 #[cycle(copy)]
 fn copy_bound(
     alloc: Global,
+    at: Place,
     names: &Names,
     args: &Args,
     body: &Formula,
-) -> Result<(Names, Args, Formula), Memory>
-    ensures names { IfOk result (λ bound. bound.0 ≡ names.now) }
-    ensures args { IfOk result (λ bound. bound.1 ≡ args.now) }
-    ensures body { IfOk result (λ bound. written bound.2 ≡ written body.now) }
+) -> Result<Formula, Memory>
+    ensures { IfOk result (λ f. written f ≡ bind_ at names.now args.now (written body.now)) }
 {
     let names = names.share()?;
     let args = args.share()?;
-    Ok((names, args, body.copy(alloc)?))
+    let body = body.copy(alloc)?;
+    Formula::bind(alloc, at, names, args, body)
 }

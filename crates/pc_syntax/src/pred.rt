@@ -42,21 +42,35 @@ pub enum Takes {
     Plain,
 }
 
-/// A predicate's name, as models spell it, and what it takes, in order.
-#[derive(Clone, Copy)]
-struct Row {
-    name: &'static [u8],
-    takes: &'static [Takes],
-}
-
-impl Row {
-    fn new(name: &'static [u8], takes: &'static [Takes]) -> Row
-        ensures name { result.name.now ≡ name.now }
-        ensures takes { result.takes.now ≡ takes.now }
-    {
-        Row { name, takes }
-    }
-}
+/// The predicates' names, as models spell them, in the order of their declaration.
+static NAMES: [&[u8]; 26] = [
+    b"True",
+    b"False",
+    b"IsAnyRead",
+    b"IsAnyWrite",
+    b"IsAnyFence",
+    b"AccessType",
+    b"OnCore",
+    b"SameCore",
+    b"SameThread",
+    b"SameMicroop",
+    b"SameInstruction",
+    b"SameIntra",
+    b"ProgramOrder",
+    b"SameVirtualAddress",
+    b"SamePhysicalAddress",
+    b"SameVirtualTag",
+    b"SamePhysicalTag",
+    b"SameIndex",
+    b"SameData",
+    b"DataFromInitialStateAtPA",
+    b"DataFromFinalStateAtPA",
+    b"HasDependency",
+    b"EntryOf",
+    b"MapsTagOf",
+    b"MarkedAccessed",
+    b"MarkedDirty",
+];
 
 impl Pred {
     /// All predicates, in the order of their declaration.
@@ -89,42 +103,45 @@ impl Pred {
         Pred::MarkedDirty,
     ];
 
-    /// The predicate's row. It is found by its name: so none is left out of `ALL`, and no two have one name.
-    #[tactic(auto, unfolding(crate::specs::Predicates::all_preds))]
-    fn row(self) -> Row
-        ensures name { result.name.now ≡ pred_name self }
-        ensures found { pred_with_name (pred_name self) ≡ Some self }
-        ensures takes { result.takes.now ≡ takes_of self }
+    /// What the predicate takes, in order.
+    fn taken(self) -> &'static [Takes]
+        ensures { result.now ≡ takes_of self }
     {
         use Takes::{Core, Op, Plain};
         match self {
-            Pred::True => Row::new(b"True", &[]),
-            Pred::False => Row::new(b"False", &[]),
-            Pred::IsAnyRead => Row::new(b"IsAnyRead", &[Op]),
-            Pred::IsAnyWrite => Row::new(b"IsAnyWrite", &[Op]),
-            Pred::IsAnyFence => Row::new(b"IsAnyFence", &[Op]),
-            Pred::AccessType => Row::new(b"AccessType", &[Plain, Op]),
-            Pred::OnCore => Row::new(b"OnCore", &[Core, Op]),
-            Pred::SameCore => Row::new(b"SameCore", &[Op, Op]),
-            Pred::SameThread => Row::new(b"SameThread", &[Op, Op]),
-            Pred::SameMicroop => Row::new(b"SameMicroop", &[Op, Op]),
-            Pred::SameInstruction => Row::new(b"SameInstruction", &[Op, Op]),
-            Pred::SameIntra => Row::new(b"SameIntra", &[Op, Op]),
-            Pred::ProgramOrder => Row::new(b"ProgramOrder", &[Op, Op]),
-            Pred::SameVirtualAddress => Row::new(b"SameVirtualAddress", &[Op, Op]),
-            Pred::SamePhysicalAddress => Row::new(b"SamePhysicalAddress", &[Op, Op]),
-            Pred::SameVirtualTag => Row::new(b"SameVirtualTag", &[Op, Op]),
-            Pred::SamePhysicalTag => Row::new(b"SamePhysicalTag", &[Op, Op]),
-            Pred::SameIndex => Row::new(b"SameIndex", &[Op, Op]),
-            Pred::SameData => Row::new(b"SameData", &[Op, Op]),
-            Pred::DataFromInitialStateAtPA => Row::new(b"DataFromInitialStateAtPA", &[Op]),
-            Pred::DataFromFinalStateAtPA => Row::new(b"DataFromFinalStateAtPA", &[Op]),
-            Pred::HasDependency => Row::new(b"HasDependency", &[Plain, Op, Op]),
-            Pred::EntryOf => Row::new(b"EntryOf", &[Op, Op]),
-            Pred::MapsTagOf => Row::new(b"MapsTagOf", &[Op, Op]),
-            Pred::MarkedAccessed => Row::new(b"MarkedAccessed", &[Op]),
-            Pred::MarkedDirty => Row::new(b"MarkedDirty", &[Op]),
+            Pred::True | Pred::False => &[],
+            Pred::IsAnyRead
+            | Pred::IsAnyWrite
+            | Pred::IsAnyFence
+            | Pred::DataFromInitialStateAtPA
+            | Pred::DataFromFinalStateAtPA
+            | Pred::MarkedAccessed
+            | Pred::MarkedDirty => &[Op],
+            Pred::AccessType => &[Plain, Op],
+            Pred::OnCore => &[Core, Op],
+            Pred::SameCore
+            | Pred::SameThread
+            | Pred::SameMicroop
+            | Pred::SameInstruction
+            | Pred::SameIntra
+            | Pred::ProgramOrder
+            | Pred::SameVirtualAddress
+            | Pred::SamePhysicalAddress
+            | Pred::SameVirtualTag
+            | Pred::SamePhysicalTag
+            | Pred::SameIndex
+            | Pred::SameData
+            | Pred::EntryOf
+            | Pred::MapsTagOf => &[Op, Op],
+            Pred::HasDependency => &[Plain, Op, Op],
         }
+    }
+
+    /// The name. That no other predicate has it is said once, by `name`.
+    fn spelling(self) -> &'static [u8]
+        ensures { result.now ≡ pred_name self }
+    {
+        NAMES[self as usize]
     }
 
     /// The name, as models spell it. No other predicate has it.
@@ -132,7 +149,7 @@ impl Pred {
         ensures value { result.now ≡ pred_name self }
         ensures found { pred_with_name result.now ≡ Some self }
     {
-        self.row().name
+        self.spelling()
     }
 
     /// The predicate that models spell so, if there is one.
@@ -147,7 +164,7 @@ impl Pred {
     pub fn arity(self) -> usize
         ensures { result ≡ length (takes_of self) }
     {
-        self.row().takes.len()
+        self.taken().len()
     }
 
     /// What the predicate takes at the place `k`, from 0.
@@ -155,7 +172,7 @@ impl Pred {
         requires { k < length (takes_of self) }
         ensures { slice_get (takes_of self) k ≡ Some result }
     {
-        self.row().takes[k]
+        self.taken()[k]
     }
 }
 
