@@ -4,3 +4,4 @@ pub mod Laws
 pub mod QueryFaults
 pub mod Renaming
 pub mod Closings
+pub mod PassedFaults

@@ -25,6 +25,7 @@
 
 mod arguments;
 mod closing;
+mod connectives;
 mod fault;
 mod filed;
 mod laws;
