@@ -5,3 +5,4 @@ pub mod QueryFaults
 pub mod Renaming
 pub mod Closings
 pub mod PassedFaults
+pub mod PartsOf

@@ -24,8 +24,8 @@
 #![tactic(auto)]
 
 mod arguments;
+mod closed_parts;
 mod closing;
-mod connectives;
 mod fault;
 mod filed;
 mod laws;

@@ -10,9 +10,7 @@ ghost use Rattle.pc_syntax.specs.Closed.{plain_closed};
 ghost use Rattle.scope_check.specs.QueryFaults.{filed, fault_within, AnswersIn, IsClosingWithin};
 
 use super::arguments::close_values;
-use super::connectives::{
-    binding, conjunction, disjunction, exists, forall, implication, negation,
-};
+use super::closed_parts::{binding, connected, negation, quantified};
 use super::filed::{Filed, in_file};
 use super::nodes::{close_edges, close_nodes};
 use super::scope::Scope;
@@ -57,32 +55,24 @@ fn close_formula<'a>(
 {
     match formula {
         Formula::Not(body) => negation(alloc, close_formula(alloc, stages, file, scope, body)),
-        Formula::And(left, right) => {
-            conjunction(alloc, close_both(alloc, stages, file, scope, left, right))
-        }
-        Formula::Or(left, right) => {
-            disjunction(alloc, close_both(alloc, stages, file, scope, left, right))
-        }
-        Formula::Implies(left, right) => {
-            implication(alloc, close_both(alloc, stages, file, scope, left, right))
+        Formula::And(left, right) | Formula::Or(left, right) | Formula::Implies(left, right) => {
+            let both = close_both(alloc, stages, file, scope, left, right);
+            connected(alloc, formula, both)
         }
         Formula::Forall {
             at,
             sort,
             name,
             body,
-        } => {
-            let body = close_quantified(alloc, stages, file, scope, *at, *sort, name, body);
-            forall(alloc, *sort, body)
         }
-        Formula::Exists {
+        | Formula::Exists {
             at,
             sort,
             name,
             body,
         } => {
             let body = close_quantified(alloc, stages, file, scope, *at, *sort, name, body);
-            exists(alloc, *sort, body)
+            quantified(alloc, formula, body)
         }
         Formula::Static { pred, args } => in_file(file, close_static(alloc, scope, pred, args)),
         Formula::Nodes(nodes) => in_file(file, close_nodes(alloc, stages, scope, nodes)),
