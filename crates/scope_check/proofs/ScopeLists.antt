@@ -1,6 +1,6 @@
 -- The variables of a scope as its bindings.
-use Rattle.std.proofs.Common.{◌≡◌, ℕ, ◌+◌, ◌<◌, ◌≤◌, min, Bool, true, false, List, [], ◌∷◌, ◌++◌, Some, None, length, drop, map, option_map, cond, refl, sym, ap, ◌∙◌, append_assoc, append-nil, length-append, length-drop, arith}
-use Rattle.std.{proofs.lemmas.Bool.Decides.{nat_tests}, specs.List.{find}}
+use Rattle.std.proofs.Common.{◌≡◌, ℕ, suc, ◌+◌, ◌<◌, ◌≤◌, min, Bool, true, false, List, [], ◌∷◌, ◌++◌, Some, None, length, drop, get_or, map, option_map, cond, refl, sym, ap, ◌∙◌, append_assoc, append-nil, add-one, length-append, length-drop, arith}
+use Rattle.std.{proofs.{lemmas.Bool.Decides.{nat_tests}, Math.Seq.{drop-cons}}, specs.List.{find}}
 use Rattle.pc_common.specs.{declared.{place.Place.{Place}, fault.FaultKind.TheVariants.{TooManyVariables}}, Names.{same_name}}
 use Rattle.pc_syntax.specs.{declared.term.Arg.{Arg}, NameFaults.{scope_fault}, Scope.{Binding, Scope, binding_of, sort_of_arg, bindings_from, bound_in}}
 use Rattle.scope_check.{specs.{declared.scope.Variable.{Variable}, Bindings.{binding}}, proofs.Walks.{empty}}
@@ -16,6 +16,27 @@ pub find_is : (vs : List Variable) (name : List ℕ)
     → option_map binding (find (λ w. same_name w.name.now name) vs) ≡ binding_of (map binding vs) name
 find_is [] name = refl
 find_is (v ∷ vs) name = first_or (same_name v.name.now name) v vs name (find_is vs name)
+
+-- the first variable of a name from place k on: the one that stands there, or a later one
+module _ (vs : List Variable) (name : List ℕ) (k : ℕ) (other : Variable) where
+  named_from : (b : Bool) → k < length vs → b ≡ same_name (get_or vs k other).name.now name
+      → find (λ w. same_name w.name.now name) (drop k vs)
+      ≡ cond b (Some (get_or vs k other)) (find (λ w. same_name w.name.now name) (drop (k + 1) vs))
+  named_from b within same =
+      rw add-one
+      (ap (find (λ w. same_name w.name.now name)) (drop-cons vs k other within)
+      ∙ ap (λ c. cond c (Some (get_or vs k other)) (find (λ w. same_name w.name.now name) (drop (suc k) vs))) (sym same))
+
+  pub named_here : k < length vs → true ≡ same_name (get_or vs k other).name.now name
+      → find (λ w. same_name w.name.now name) (drop k vs) ≡ Some (get_or vs k other)
+  named_here within same = named_from true within same
+
+  pub named_later : k < length vs → false ≡ same_name (get_or vs k other).name.now name
+      → find (λ w. same_name w.name.now name) (drop k vs) ≡ find (λ w. same_name w.name.now name) (drop (k + 1) vs)
+  named_later within same = named_from false within same
+
+pub none_named : (vs : List Variable) (name : List ℕ) (k : ℕ) → length vs ≤ k → find (λ w. same_name w.name.now name) (drop k vs) ≡ None
+none_named vs name k past = ap (find (λ w. same_name w.name.now name)) (empty (drop k vs) (omega (arith, length-drop k vs)))
 
 -- no more than 32 variables, or more
 pub scope_within : (at : Place) (scope : Scope) → length scope ≤ 32 → scope_fault at scope ≡ None

@@ -4,3 +4,5 @@ pub mod Laws
 pub mod QueryFaults
 pub mod Renaming
 pub mod Closings
+pub mod PassedFaults
+pub mod PartsOf

@@ -24,6 +24,7 @@
 #![tactic(auto)]
 
 mod arguments;
+mod closed_parts;
 mod closing;
 mod fault;
 mod filed;

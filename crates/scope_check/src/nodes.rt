@@ -5,6 +5,7 @@ ghost use Rattle.pc_syntax.specs.Stages.{stage_number_of};
 ghost use Rattle.pc_syntax.specs.Fault.{Fault, first_fault};
 ghost use Rattle.pc_syntax.specs.StageFaults.{stages_fault};
 ghost use Rattle.pc_syntax.specs.NameFaults.{stage_name_fault, location_fault, node_fault, edge_fault};
+ghost use Rattle.pc_syntax.specs.Closed.{plain_closed, closed_nodes, closed_edges};
 ghost use Rattle.pc_syntax.specs.Closing.{closing_of_value, closing_of_node, closing_of_edge};
 ghost use Rattle.scope_check.specs.FirstFault.{Answers};
 
@@ -13,7 +14,8 @@ use super::fault::NameFault;
 use super::scope::Scope;
 use pc_common::{Listed, Shared};
 use pc_syntax::{
-    Arg, ClosedArg, ClosedEdge, ClosedNode, EdgeTerm, NodeTerm, Sort, StageItem, StageItems, Word,
+    Arg, ClosedArg, ClosedEdge, ClosedFormula, ClosedNode, EdgeTerm, EdgeTerms, NodeTerm,
+    NodeTerms, Sort, StageItem, StageItems, Word,
 };
 use std::alloc::Global;
 
@@ -120,4 +122,36 @@ pub(crate) fn close_list<T: Term>(
         closed.push(term.close(stages, scope)?)?;
     }
     Ok(closed)
+}
+
+/// Some node of a list, as a formula.
+pub(crate) fn close_nodes(
+    alloc: Global,
+    stages: &StageItems,
+    scope: &Scope<'_>,
+    nodes: &NodeTerms,
+) -> Result<ClosedFormula, NameFault>
+    requires { stages_fault [] stages.now ≡ None }
+    ensures ok { let fault = first_fault (node_fault stages.now scope.now) nodes.now in
+        IfOk result (λ f. (fault ≡ None)
+        × (plain_closed f ≡ closed_nodes (map (closing_of_node stages.now scope.now) nodes.now))) }
+    ensures err { IfErr result (Answers (first_fault (node_fault stages.now scope.now) nodes.now)) }
+{
+    Ok(ClosedFormula::Nodes(close_list(alloc, stages, scope, nodes)?))
+}
+
+/// Some edge of a list, as a formula.
+pub(crate) fn close_edges(
+    alloc: Global,
+    stages: &StageItems,
+    scope: &Scope<'_>,
+    edges: &EdgeTerms,
+) -> Result<ClosedFormula, NameFault>
+    requires { stages_fault [] stages.now ≡ None }
+    ensures ok { let fault = first_fault (edge_fault stages.now scope.now) edges.now in
+        IfOk result (λ f. (fault ≡ None)
+        × (plain_closed f ≡ closed_edges (map (closing_of_edge stages.now scope.now) edges.now))) }
+    ensures err { IfErr result (Answers (first_fault (edge_fault stages.now scope.now) edges.now)) }
+{
+    Ok(ClosedFormula::Edges(close_list(alloc, stages, scope, edges)?))
 }

@@ -197,10 +197,13 @@ impl<'a> Scope<'a> {
 fn first_named<'a>(variables: &[Variable<'a>], name: &[u8]) -> Option<Variable<'a>>
     ensures { result ≡ find (λ v. same_name v.name.now name.now) variables.now }
 {
-    variables
-        .iter()
-        .copied()
-        .find(|variable| variable.name == name)
+    for k in 0..variables.len() {
+        let variable = variables[k];
+        if variable.name == name {
+            return Some(variable);
+        }
+    }
+    None
 }
 
 fn too_many_variables(at: Place) -> NameFault

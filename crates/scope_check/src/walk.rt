@@ -1,22 +1,21 @@
 // The walk that closes an axiom of a model and a formula that is asked of one: only the file of their faults differs.
-ghost use Rattle.std.specs.Prelude.{◌≡◌, [], IfOk, IfErr, Ok, None};
+ghost use Rattle.std.specs.Prelude.{◌≡◌, [], IfOk, IfErr, None};
 ghost use Rattle.std.specs.Option.{option_or};
-ghost use Rattle.pc_common.specs.declared.fault.Which.TheVariants.{Query};
 ghost use Rattle.pc_syntax.specs.Scope.{quantified_in};
 ghost use Rattle.pc_syntax.specs.Written.{written, bind_};
 ghost use Rattle.pc_syntax.specs.Expansion.{IsExpanded};
 ghost use Rattle.pc_syntax.specs.StageFaults.{stages_fault};
 ghost use Rattle.pc_syntax.specs.NameFaults.{scope_fault};
 ghost use Rattle.pc_syntax.specs.Closed.{plain_closed};
-ghost use Rattle.scope_check.specs.FirstFault.{name_fault_of};
 ghost use Rattle.scope_check.specs.QueryFaults.{filed, fault_within, AnswersIn, IsClosingWithin};
 
 use super::arguments::close_values;
+use super::closed_parts::{binding, connected, negation, quantified};
 use super::filed::{Filed, in_file};
-use super::nodes::close_list;
+use super::nodes::{close_edges, close_nodes};
 use super::scope::Scope;
 use super::statics::close_static;
-use pc_common::{Memory, Place, Which};
+use pc_common::{Place, Which};
 use pc_syntax::{Args, ClosedFormula, Formula, Name, Names, Sort, StageItems};
 use std::alloc::Global;
 
@@ -55,63 +54,37 @@ fn close_formula<'a>(
         (λ e. AnswersIn (fault_within file stages.now [] scope.now (written formula.now)) e.file e.fault) }
 {
     match formula {
-        Formula::Not(body) => {
-            let body = close_formula(alloc, stages, file, scope, body)?;
-            new_formula(ClosedFormula::negation(alloc, body))
-        }
-        Formula::And(left, right) => {
-            let (left, right) = close_both(alloc, stages, file, scope, left, right)?;
-            new_formula(ClosedFormula::conjunction(alloc, left, right))
-        }
-        Formula::Or(left, right) => {
-            let (left, right) = close_both(alloc, stages, file, scope, left, right)?;
-            new_formula(ClosedFormula::disjunction(alloc, left, right))
-        }
-        Formula::Implies(left, right) => {
-            let (left, right) = close_both(alloc, stages, file, scope, left, right)?;
-            new_formula(ClosedFormula::implication(alloc, left, right))
+        Formula::Not(body) => negation(alloc, close_formula(alloc, stages, file, scope, body)),
+        Formula::And(left, right) | Formula::Or(left, right) | Formula::Implies(left, right) => {
+            let both = close_both(alloc, stages, file, scope, left, right);
+            connected(alloc, formula, both)
         }
         Formula::Forall {
             at,
             sort,
             name,
             body,
-        } => {
-            let body = close_quantified(alloc, stages, file, scope, *at, *sort, name, body)?;
-            new_formula(ClosedFormula::forall(alloc, *sort, body))
         }
-        Formula::Exists {
+        | Formula::Exists {
             at,
             sort,
             name,
             body,
         } => {
-            let body = close_quantified(alloc, stages, file, scope, *at, *sort, name, body)?;
-            new_formula(ClosedFormula::exists(alloc, *sort, body))
+            let body = close_quantified(alloc, stages, file, scope, *at, *sort, name, body);
+            quantified(alloc, formula, body)
         }
         Formula::Static { pred, args } => in_file(file, close_static(alloc, scope, pred, args)),
-        Formula::Nodes(nodes) => {
-            Ok(ClosedFormula::Nodes(in_file(file, close_list(alloc, stages, scope, nodes))?))
-        }
-        Formula::Edges(edges) => {
-            Ok(ClosedFormula::Edges(in_file(file, close_list(alloc, stages, scope, edges))?))
-        }
+        Formula::Nodes(nodes) => in_file(file, close_nodes(alloc, stages, scope, nodes)),
+        Formula::Edges(edges) => in_file(file, close_edges(alloc, stages, scope, edges)),
         Formula::Bind {
             at,
             names,
             args,
             body,
-        } => { close_binding(alloc, stages, file, scope, *at, names, args, body) }
+        } => close_binding(alloc, stages, file, scope, *at, names, args, body),
         Formula::Expand { .. } => unreachable!(),
     }
-}
-
-/// A formula that was made, unless memory was refused.
-fn new_formula(formula: Result<ClosedFormula, Memory>) -> Result<ClosedFormula, Filed>
-    ensures ok { IfOk result (λ closed. formula ≡ Ok closed) }
-    ensures err { IfErr result (λ e. (e.file ≡ Query) × (name_fault_of e.fault ≡ None)) }
-{
-    Ok(formula?)
 }
 
 /// Closes two formulas in a scope, the left one first.
@@ -185,6 +158,6 @@ fn close_binding<'a>(
 {
     let values = in_file(file, close_values(alloc, scope, names, args))?;
     let inside = in_file(file, scope.enter_binding(alloc, at, names, args))?;
-    let body = close_formula(alloc, stages, Which::Model, &inside, body)?;
-    new_formula(ClosedFormula::bind(alloc, values, body))
+    let body = close_formula(alloc, stages, Which::Model, &inside, body);
+    binding(alloc, values, body)
 }
