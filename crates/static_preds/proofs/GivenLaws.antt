@@ -1,11 +1,18 @@
 -- What stands at a place of the arguments that fit a predicate.
-use Rattle.std.proofs.{Common.{◌≡◌, ℕ, zero, suc, ◌<◌, List, [], ◌∷◌, Some, get_or, slice_get, refl, ap, subst, ◌∙◌}, lemmas.Option.{slice_get-map}}
+use Rattle.std.proofs.{Common.{◌≡◌, ℕ, zero, suc, ◌<◌, List, [], ◌∷◌, Some, length, get_or, slice_get, refl, ap, subst, ◌∙◌}, lemmas.Option.{slice_get-map}}
 use Rattle.std.specs.Option.{option_map, option_and_then}
 use Rattle.pc_syntax.specs.declared.{term.Sort.{Sort, TheVariants.{Microop}}, bound.Bound.{Bound}, pred.Takes.{Takes, TheVariants.{Op as takes_op}}}
 use Rattle.pc_syntax.specs.declared.closed_term.ClosedArg.{ClosedArg, TheVariants.{Slot}}
 use Rattle.pc_syntax.specs.{Arguments.{Argument, op_at, core_at, plain_name, place_argument, place_in}, IsClosed.{IsBound, FitsArg, FitArgs}}
 use Rattle.pc_syntax.specs.{Truth.{Meaning, an_op, a_core, op_of}, Closed.{argument_at, value_at}}
 use Rattle.static_preds.specs.Values.{meanings, value_of, values_of, AreOpsBelow}
+
+-- there are as many as are taken
+pub as_many : (scope : List Sort) (ts : List Takes) (args : List ClosedArg) → FitArgs scope ts args → length args ≡ length ts
+as_many scope [] [] fit = refl
+as_many scope [] (a ∷ as_) fit = elim fit [ ]
+as_many scope (t ∷ ts) [] fit = elim fit [ ]
+as_many scope (t ∷ ts) (a ∷ as_) fit = ap suc (as_many scope ts as_ fit.1)
 
 -- there is one where one is taken, of the kind that is taken
 pub fits_at : (scope : List Sort) (ts : List Takes) (args : List ClosedArg) (k : ℕ) (t : Takes) (d : ClosedArg)

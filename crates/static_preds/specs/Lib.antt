@@ -1,3 +1,4 @@
 pub mod Values
 pub mod Slots
 pub mod Given
+pub mod Rows

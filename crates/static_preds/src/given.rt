@@ -1,14 +1,13 @@
 ghost use Rattle.std.specs.Prelude.{◌≡◌, ◌<◌, Some, length, slice_get};
-ghost use Rattle.std.specs.Option.{option_zip, option_map};
-ghost use Rattle.pc_case.specs.Plain.{micro_op, touch_at};
+ghost use Rattle.pc_case.specs.Plain.{micro_op};
 ghost use Rattle.pc_syntax.specs.declared.pred.Takes.TheVariants.{Op as takes_op, Core as takes_core, Plain as takes_plain};
-ghost use Rattle.pc_syntax.specs.Arguments.{place_in, core_in, plain_in, op_in, touch_in};
+ghost use Rattle.pc_syntax.specs.Arguments.{place_in, core_in, plain_in, op_in};
 ghost use Rattle.pc_syntax.specs.Predicates.{takes_of};
 ghost use Rattle.static_preds.specs.Given.{IsGiven};
-ghost use Rattle.static_preds.specs.Values.{values_of, touches_at};
+ghost use Rattle.static_preds.specs.Values.{values_of};
 
 use super::slots::{core_in_slot, op_in_slot};
-use pc_case::{Case, Memop, Op};
+use pc_case::{Case, Op};
 use pc_syntax::{ClosedArg, Env, Pred};
 
 /// The arguments of a predicate in a case, each at its place, from 0.
@@ -22,6 +21,14 @@ pub(crate) struct Given<'a> {
 }
 
 impl<'a> Given<'a> {
+    /// How many there are: as many as the predicate takes.
+    pub(crate) fn len(&self) -> usize
+        requires { IsGiven self.now }
+        ensures { result ≡ length (takes_of self.now.pred) }
+    {
+        self.args.len()
+    }
+
     /// The micro-op at place `k`, by its own place in test order.
     pub(crate) fn place(&self, k: usize) -> usize
         requires given { IsGiven self.now }
@@ -64,27 +71,5 @@ impl<'a> Given<'a> {
             ≡ Some (micro_op result.now) }
     {
         self.case.op(self.place(k))
-    }
-
-    /// What the micro-op at place `k` touches, None of a fence.
-    pub(crate) fn touch(&self, k: usize) -> Option<Memop>
-        requires given { IsGiven self.now }
-        requires taken { slice_get (takes_of self.now.pred) k ≡ Some takes_op }
-        ensures { touch_in self.now.case.now (values_of self.now.env.now.items self.now.args.now) k
-            ≡ option_map touch_at result }
-    {
-        self.op(k).memop
-    }
-
-    /// What the micro-ops at places 0 and 1 touch, None where one is a fence.
-    pub(crate) fn touches(&self) -> Option<(Memop, Memop)>
-        requires given { IsGiven self.now }
-        requires first { slice_get (takes_of self.now.pred) 0 ≡ Some takes_op }
-        requires second { slice_get (takes_of self.now.pred) 1 ≡ Some takes_op }
-        ensures { let values = values_of self.now.env.now.items self.now.args.now in
-            option_zip (touch_in self.now.case.now values 0) (touch_in self.now.case.now values 1)
-            ≡ option_map touches_at result }
-    {
-        self.touch(0).zip(self.touch(1))
     }
 }

@@ -1,4 +1,4 @@
-ghost use Rattle.std.specs.Prelude.{◌≡◌, ◌<◌, ◌≤◌, ◌+◌, ◌++◌, ◌∷◌, [], length, map, take, Some};
+ghost use Rattle.std.specs.Prelude.{◌≡◌, ◌<◌, ◌≤◌, ◌+◌, ◌++◌, ◌∷◌, [], length, map, take, Some, slice_get};
 ghost use Rattle.pc_common.specs.Case.{Case as PlainCase};
 ghost use Rattle.pc_syntax.specs.declared.limits.TheConstants.{MAX_VARIABLES};
 ghost use Rattle.pc_syntax.specs.declared.term.Sort.TheVariants.{Microop};
@@ -11,13 +11,21 @@ ghost use Rattle.static_preds.specs.Slots.{AreInRange, IsInRange};
 
 use pc_syntax::{Bound, ClosedArg, ClosedArgs, Env};
 
+/// What a slot stands for.
+fn value_in_slot(env: &Env, slot: u8) -> Bound
+    requires { slot < length env.now.items }
+    ensures { slice_get env.now.items slot ≡ Some result }
+{
+    env.as_slice()[slot as usize]
+}
+
 /// The micro-op that a slot stands for, by its place in test order.
 pub fn op_in_slot(env: &Env, slot: u8) -> u8
     requires { IsBound (scope_of env.now.items) slot Microop }
     ensures value { op_of (Some (value_at (meanings env.now.items) slot)) ≡ Some result }
     ensures range { (c : PlainCase) → AreInRange c env.now.items → result < length c.ops }
 {
-    match env.as_slice()[slot as usize] {
+    match value_in_slot(env, slot) {
         Bound::Op(place) => place,
         Bound::Core(_) => unreachable!(),
     }
@@ -30,7 +38,7 @@ pub fn core_in_slot(env: &Env, arg: &ClosedArg) -> u8
     ensures range { (c : PlainCase) → AreInRange c env.now.items → result < 64 }
 {
     match arg {
-        ClosedArg::Slot(slot) => match env.as_slice()[*slot as usize] {
+        ClosedArg::Slot(slot) => match value_in_slot(env, *slot) {
             Bound::Core(core) => core,
             Bound::Op(_) => unreachable!(),
         },
@@ -47,7 +55,7 @@ fn value_of(env: &Env, arg: &ClosedArg) -> Bound
     ensures range { (c : PlainCase) → AreInRange c env.now.items → IsInRange c result }
 {
     match arg {
-        ClosedArg::Slot(slot) => env.as_slice()[*slot as usize],
+        ClosedArg::Slot(slot) => value_in_slot(env, *slot),
         ClosedArg::Core(core) => Bound::Core(*core),
         ClosedArg::Plain(_) => unreachable!(),
     }
