@@ -1,10 +1,11 @@
 -- An edge that is entered row by row.
-use Rattle.std.proofs.Common.{◌≡◌, ◌≢◌, ℕ, zero, suc, ◌+◌, ◌*◌, ◌<◌, ◌≤◌, inl, inr, Bool, true, false, ◌&&◌, ◌||◌, ◌==◌, if◌then◌else◌, refl, sym, ◌∙◌, ap, arith, eq-eqb, ne_eqb, not, add-one}
+use Rattle.std.proofs.Common.{◌≡◌, ℕ, zero, suc, ◌+◌, ◌*◌, ◌<◌, ◌≤◌, inl, inr, Bool, true, false, ◌&&◌, ◌||◌, ◌==◌, if◌then◌else◌, refl, sym, ◌∙◌, ap, subst, arith, eq-eqb, ne_eqb, not, add-one}
 use Rattle.std.proofs.lemmas.Bool.{cases_eq, cases_lt, and_parts}
 use Rattle.pc_common.proofs.Bools.{or_false}
-use Rattle.undo_trail.{specs.BitTable.{BitTable, bit_now, Extends, HasSet}, proofs.ExtendsLaws.{extends_then, extends_more}}
-use Rattle.pc_ground.specs.declared.literal.Literal.TheVariants.{Edge}
-use Rattle.order_graph.specs.Rows.{present_row, leads_to, with_edge, gains, words_gained, IsSized, TakesEdge, Enters}
+use Rattle.undo_trail.{specs.BitTable.{BitTable, bit_now, Extends}, proofs.ExtendsLaws.{extends_then, extends_more}}
+use Rattle.std.specs.Bool.{OnTrue}
+use Rattle.order_graph.proofs.EntersBits.{absorbs, extends_same}
+use Rattle.order_graph.specs.Rows.{leads_to, with_edge, gains, words_gained, IsSized, TakesEdge}
 
 -- the rows below k took the edge from a to b
 pub record AreClosedBelow (v w : BitTable) (a b k : ℕ) : Type 0 where
@@ -41,12 +42,6 @@ unreached v a b x y e = ap (λ z. bit_now v x y || (z && leads_to v b y)) e ∙ 
 
 reached : (v : BitTable) (a b x y : ℕ) → leads_to v x a ≡ true → with_edge v a b x y ≡ (bit_now v x y || leads_to v b y)
 reached v a b x y e = ap (λ z. bit_now v x y || (z && leads_to v b y)) e
-
--- what is true where the other is adds nothing to it
-pub absorbs : (b c : Bool) → (c ≡ true → b ≡ true) → b ≡ (b || c)
-absorbs true c f = refl
-absorbs false true f = f refl
-absorbs false false f = refl
 
 gained : (l c : Bool) → (l && not c) ≡ false → l ≡ true → c ≡ true
 gained true true e f = refl
@@ -134,46 +129,19 @@ pub words_joined : (v w : BitTable) (a b each k : ℕ) → AreClosedBelow v w a 
     → gains w a b k ≡ true → words_gained v a b each (k + 1) ≡ words_gained v a b each k + each
 words_joined v w a b each k c kh ah bh there = words_next v a b each k true (sym (same_gains v w a b k c kh ah bh) ∙ there)
 
--- a bit that is set in another row
-other_row : (v w : BitTable) (r c q d : ℕ) → HasSet v w r c → q < v.rows → d < 64 * v.words → q ≢ r → bit_now w q d ≡ bit_now v q d
-other_row v w r c q d is_set qh dh apart =
-    is_set q d qh dh ∙ ap (λ z. if z && (d == c) then true else bit_now v q d) (ne_eqb q r apart)
+-- no row took the edge yet
+pub closing_first : (v : BitTable) (a b : ℕ) → AreClosedBelow v v a b 0
+closing_first v a b = record { new = λ q d h dh. absurd (omega arith); old = λ q d h qh dh. refl; extends = extends_same v (0 * (v.words + 1)) }
 
--- a bit that is set in this row
-same_row : (v w : BitTable) (r c d : ℕ) → HasSet v w r c → r < v.rows → d < 64 * v.words → bit_now w r d ≡ (if d == c then true else bit_now v r d)
-same_row v w r c d is_set rh dh =
-    is_set r d rh dh ∙ ap (λ z. if z && (d == c) then true else bit_now v r d) (eq-eqb r r refl)
+-- the rows below n took it, and n rows can change
+pub closing_last : (v w : BitTable) (a b k n : ℕ) → AreClosedBelow v w a b k → k ≡ n → AreClosedBelow v w a b n
+closing_last v w a b k n c e = let P : ℕ → Type 0 = AreClosedBelow v w a b in subst P e c
 
-set_twice : (bit is_a is_b : Bool) → (if is_b then true else (if is_a then true else bit)) ≡ ((bit || is_a) || is_b)
-set_twice true true true = refl
-set_twice true true false = refl
-set_twice true false true = refl
-set_twice true false false = refl
-set_twice false true true = refl
-set_twice false true false = refl
-set_twice false false true = refl
-set_twice false false false = refl
-
--- once the rows took the edge, its ends are set as present
-pub entered_edge : (n : ℕ) (v w s t : BitTable) (a b most : ℕ) → IsSized n v → Extends v w most → Extends w s 1
-    → ((x y : ℕ) → x < n → y < 64 * v.words → bit_now w x y ≡ with_edge v a b x y)
-    → ((q d : ℕ) → n ≤ q → q < v.rows → d < 64 * v.words → bit_now w q d ≡ bit_now v q d)
-    → HasSet w s (present_row n) a → HasSet s t (present_row n) b → Enters n (Edge a b) v t
-entered_edge n v w s t a b most (rows_are, wide, few) closing first closed others a_set b_set =
-    let rows = closing.same_rows in let words = closing.same_words in
-    let rows_then = first.same_rows in let words_then = first.same_words in
-    let stays : (q d : ℕ) → q < v.rows → d < 64 * v.words → q ≢ 2 * n → bit_now t q d ≡ bit_now w q d = λ q d qh dh apart.
-    other_row s t (2 * n) b q d b_set (omega arith) (omega arith) apart ∙ other_row w s (2 * n) a q d a_set (omega arith) (omega arith) apart in
-    record {
-      reach = λ x y xh yh. stays x y (omega arith) yh (λ e. absurd (omega arith)) ∙ closed x y xh yh;
-      pairs = λ x y xh yh. stays (n + x) y (omega arith) yh (λ e. absurd (omega arith)) ∙ others (n + x) y (omega arith) (omega arith) yh;
-      present = λ x xh.
-          same_row s t (2 * n) b x b_set (omega arith) (omega arith)
-          ∙ ap (λ z. if x == b then true else z) (same_row w s (2 * n) a x a_set (omega arith) (omega arith))
-          ∙ set_twice (bit_now w (2 * n) x) (x == a) (x == b)
-          ∙ ap (λ z. (z || (x == a)) || (x == b)) (others (2 * n) x (omega arith) (omega arith) (omega arith));
-      missing = λ x xh. stays (2 * n + 1) x (omega arith) (omega arith) (λ e. absurd (omega arith))
-          ∙ others (2 * n + 1) x (omega arith) (omega arith) (omega arith);
-      denying = λ x xh. stays (2 * n + 2) x (omega arith) (omega arith) (λ e. absurd (omega arith))
-          ∙ others (2 * n + 2) x (omega arith) (omega arith) (omega arith);
-    }
+-- a sink stays one
+pub sink_stays : (v w : BitTable) (a b k : ℕ) (is_sink : Bool) → AreClosedBelow v w a b k → b < v.rows → leads_to v b a ≡ false
+    → OnTrue is_sink ((d : ℕ) → d < 64 * v.words → bit_now v b d ≡ false) → OnTrue is_sink ((d : ℕ) → d < 64 * w.words → bit_now w b d ≡ false)
+sink_stays v w a b k true c bh apart sink = λ d dh.
+    let words = c.extends.same_words in
+    let inside : d < 64 * v.words = omega arith in
+    end_row v w a b k d c bh apart inside ∙ sink d inside
+sink_stays v w a b k false c bh apart sink = tt

@@ -1,6 +1,6 @@
 use Rattle.std.proofs.Common.{◌+◌, ◌*◌, arith}
 use Rattle.undo_trail.proofs.ExtendsLaws.{extends_then}
-use Rattle.order_graph.proofs.CloseOver.{entered_edge}
+use Rattle.order_graph.proofs.EntersBits.{entered_edge}
 use Rattle.order_graph.proofs.rows.enter_edge_reserved.Goals as goal
 
 pub close_over-requires-clause-sized : goal.close_over-requires-clause-sized
