@@ -1,11 +1,11 @@
 -- What the bit rows tell of one literal more.
-use Rattle.std.proofs.Common.{◌≡◌, ◌↔◌, ℕ, ◌*◌, ◌<◌, ◌≤◌, inl, Bool, true, false, List, refl, arith, MatchBool, MatchOption, Option, Some, None}
-use Rattle.std.{proofs.lemmas.{Bool.{iff_false, both_ways}, List.Elements.{All-contains}}, specs.Prelude.{Contains, All}}
+use Rattle.std.proofs.Common.{◌≡◌, ◌↔◌, ℕ, ◌*◌, ◌<◌, ◌≤◌, inl, inr, ◌+◌, Bool, true, false, List, refl, sym, subst, arith, MatchBool, MatchOption, Option, Some, None}
+use Rattle.std.{proofs.lemmas.{Bool.{iff_false, both_ways, cases_eq}, List.Elements.{All-contains}}, specs.Prelude.{Contains, All}}
 use Rattle.pc_common.specs.Chain.{Chain, Reach}
 use Rattle.pc_ground.specs.{declared.literal.Literal.{Literal, TheVariants.{Node, Edge, NoNode, NoEdge}}, Literals.{Joins, IsPresent, IsConsistent}}
 use Rattle.undo_trail.specs.BitTable.{BitTable, bit_now}
 use Rattle.order_graph.specs.{declared.clash.Clash.{Clash, TheVariants.{Absent}}, Ways.{IsBelow}}
-use Rattle.order_graph.specs.{Rows.{pair_row, present_row, missing_row, Represents, leads_to, IsOver, JoinsDenied, JoinsNoneFrom}, Clashes.{JoinsNone, IsClash}}
+use Rattle.order_graph.specs.{Rows.{pair_row, present_row, missing_row, denier_row, Represents, leads_to, IsOver, JoinsDenied, JoinsNoneFrom}, Clashes.{JoinsNone, IsClash}}
 use Rattle.order_graph.proofs.OneMore.{more, older, edge_chain, consistent_node, consistent_no_node, consistent_no_edge, consistent_edge}
 use Rattle.order_graph.proofs.Represents.{leads_reach}
 
@@ -97,3 +97,14 @@ pairs_told n v ls p q s wide ph qh start end back true (x, y, xh, yh, over, bit)
     over_refutes ls p q x y ((s.pairs x y xh yh).0 bit) both.0 both.1
 pairs_told n v ls p q s wide ph qh start end back false none =
     edge_free n v ls p q s wide ph qh start end back (joins_none n v ls p q s wide ph qh none)
+
+-- one node more
+pub joins_none_more : (n : ℕ) (v : BitTable) (p q i k : ℕ) → JoinsNoneFrom n v p q i k
+    → ((y : ℕ) → y < 64 * v.words → bit_now v (denier_row n) k ≡ true → IsOver v p q k y → bit_now v (pair_row n k) y ≡ false)
+    → JoinsNoneFrom n v p q i (k + 1)
+joins_none_more n v p q i k before here = λ x y low high xh yh denier over. elim (cases_eq x k) [
+  | inl same ↦
+      let P : ℕ → Type 0 = λ z. bit_now v (denier_row n) z ≡ true → IsOver v p q z y → bit_now v (pair_row n z) y ≡ false in
+      (subst P (sym same) (here y yh)) denier over
+  | inr apart ↦ before x y low (omega arith) xh yh denier over
+]

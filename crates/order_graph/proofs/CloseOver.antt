@@ -1,8 +1,10 @@
 -- An edge that is entered row by row.
-use Rattle.std.proofs.Common.{◌≡◌, ℕ, zero, suc, ◌+◌, ◌*◌, ◌<◌, ◌≤◌, inl, inr, Bool, true, false, ◌&&◌, ◌||◌, ◌==◌, if◌then◌else◌, refl, sym, ◌∙◌, ap, arith, eq-eqb, ne_eqb, not, add-one}
+use Rattle.std.proofs.Common.{◌≡◌, ℕ, zero, suc, ◌+◌, ◌*◌, ◌<◌, ◌≤◌, inl, inr, Bool, true, false, ◌&&◌, ◌||◌, ◌==◌, if◌then◌else◌, refl, sym, ◌∙◌, ap, subst, arith, eq-eqb, ne_eqb, not, add-one}
 use Rattle.std.proofs.lemmas.Bool.{cases_eq, cases_lt, and_parts}
 use Rattle.pc_common.proofs.Bools.{or_false}
 use Rattle.undo_trail.{specs.BitTable.{BitTable, bit_now, Extends}, proofs.ExtendsLaws.{extends_then, extends_more}}
+use Rattle.std.specs.Bool.{OnTrue}
+use Rattle.order_graph.proofs.EntersBits.{absorbs, extends_same}
 use Rattle.order_graph.specs.Rows.{leads_to, with_edge, gains, words_gained, IsSized, TakesEdge}
 
 -- the rows below k took the edge from a to b
@@ -40,12 +42,6 @@ unreached v a b x y e = ap (λ z. bit_now v x y || (z && leads_to v b y)) e ∙ 
 
 reached : (v : BitTable) (a b x y : ℕ) → leads_to v x a ≡ true → with_edge v a b x y ≡ (bit_now v x y || leads_to v b y)
 reached v a b x y e = ap (λ z. bit_now v x y || (z && leads_to v b y)) e
-
--- what is true where the other is adds nothing to it
-pub absorbs : (b c : Bool) → (c ≡ true → b ≡ true) → b ≡ (b || c)
-absorbs true c f = refl
-absorbs false true f = f refl
-absorbs false false f = refl
 
 gained : (l c : Bool) → (l && not c) ≡ false → l ≡ true → c ≡ true
 gained true true e f = refl
@@ -132,3 +128,20 @@ words_passed v w a b each k c kh ah bh none =
 pub words_joined : (v w : BitTable) (a b each k : ℕ) → AreClosedBelow v w a b k → k < v.rows → a < 64 * v.words → b < 64 * v.words
     → gains w a b k ≡ true → words_gained v a b each (k + 1) ≡ words_gained v a b each k + each
 words_joined v w a b each k c kh ah bh there = words_next v a b each k true (sym (same_gains v w a b k c kh ah bh) ∙ there)
+
+-- no row took the edge yet
+pub closing_first : (v : BitTable) (a b : ℕ) → AreClosedBelow v v a b 0
+closing_first v a b = record { new = λ q d h dh. absurd (omega arith); old = λ q d h qh dh. refl; extends = extends_same v (0 * (v.words + 1)) }
+
+-- the rows below n took it, and n rows can change
+pub closing_last : (v w : BitTable) (a b k n : ℕ) → AreClosedBelow v w a b k → k ≡ n → AreClosedBelow v w a b n
+closing_last v w a b k n c e = let P : ℕ → Type 0 = AreClosedBelow v w a b in subst P e c
+
+-- a sink stays one
+pub sink_stays : (v w : BitTable) (a b k : ℕ) (is_sink : Bool) → AreClosedBelow v w a b k → b < v.rows → leads_to v b a ≡ false
+    → OnTrue is_sink ((d : ℕ) → d < 64 * v.words → bit_now v b d ≡ false) → OnTrue is_sink ((d : ℕ) → d < 64 * w.words → bit_now w b d ≡ false)
+sink_stays v w a b k true c bh apart sink = λ d dh.
+    let words = c.extends.same_words in
+    let inside : d < 64 * v.words = omega arith in
+    end_row v w a b k d c bh apart inside ∙ sink d inside
+sink_stays v w a b k false c bh apart sink = tt

@@ -350,3 +350,20 @@ searched_all ls target nodes levels nexts queue all s a b has near =
     let P : ℕ → Type 0 = λ x. Contains ls (Edge a x) in
     let q : get_or queue at.0 0 ≡ b = same_read queue at.0 0 b at.1 ∙ at.2 in
     s.closed at.0 a at.1 (subst P (sym q) has)
+
+-- a node in the queue is a node with a level
+pub queued_node : (ls : List (Literal ℕ)) (target nodes h : ℕ) (levels nexts queue : List ℕ) (node : ℕ)
+    → IsSearched ls target nodes h levels nexts queue → h < length queue → node ≡ get_or queue h 0 → (node < nodes) × (get_or levels node 0 ≢ far)
+queued_node ls target nodes h levels nexts queue node s inside is =
+    let P : ℕ → Type 0 = λ x. (x < nodes) × (get_or levels x 0 ≢ far) in
+    subst P (sym is) (s.reached h inside)
+
+-- a node no further away than one in the queue has a level
+pub stops_near : (ls : List (Literal ℕ)) (target nodes h : ℕ) (levels nexts queue : List ℕ) (node from : ℕ)
+    → IsSearched ls target nodes h levels nexts queue → nodes + 2 < far → h < length queue → node ≡ get_or queue h 0
+    → get_or levels from 0 ≤ get_or levels node 0 → get_or levels from 0 ≢ far
+stops_near ls target nodes h levels nexts queue node from s few inside is near =
+    let (node_in, node_near) = queued_node ls target nodes h levels nexts queue node s inside is in
+    let low = s.bounded node node_in node_near in
+    let counted = s.count in
+    (λ f. absurd (omega arith))

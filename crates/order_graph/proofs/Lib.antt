@@ -4,6 +4,7 @@ pub mod Chains
 pub mod OneMore
 pub mod IsClash
 pub mod Represents
+pub mod EntersBits
 pub mod CloseOver
 pub mod ClashOf
 pub mod Results

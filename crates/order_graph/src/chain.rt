@@ -1,4 +1,4 @@
-ghost use Rattle.std.specs.Prelude.{◌≡◌, ◌≢◌, ◌+◌, ◌<◌, ◌≤◌, ℕ, List, [], ◌∷◌, length, slice_index, slice_index_or, replicate, All, IfOk, OnOk};
+ghost use Rattle.std.specs.Prelude.{◌≡◌, ◌≢◌, ◌+◌, ◌<◌, ◌≤◌, ℕ, List, [], ◌∷◌, length, slice_index, slice_index_or, replicate, vec_len, vec_capacity, All, IfOk, OnOk};
 ghost use Rattle.pc_common.specs.Chain.{Reach};
 ghost use Rattle.pc_common.specs.declared.limits.TheConstants.{MAX_NODES};
 ghost use Rattle.order_graph.specs.Ways.{IsBelow, IsWay};
@@ -14,25 +14,19 @@ use std::alloc::Global;
 pub const FAR: u32 = u32::MAX;
 
 /// Puts the literal that comes next on the list of the node that its edge leads to. One that asserts no edge
-/// is on no list.
-fn put_on_list(
-    heads: &mut [usize],
-    links: &mut Vec<usize>,
-    literal: Literal<u32>,
-) -> Result<(), Memory>
-    requires { IsBelow (length heads.old) literal }
-    ensures { OnOk result (HasListed literal heads.old links.old.items heads.new links.new.items) }
+/// is on no list. The links have room for it.
+fn put_on_list(heads: &mut [usize], links: &mut Vec<usize>, literal: Literal<u32>)
+    requires below { IsBelow (length heads.old) literal }
+    requires room { vec_len links.old < vec_capacity links.old }
+    ensures listed { HasListed literal heads.old links.old.items heads.new links.new.items }
+    ensures room { vec_capacity links.new ≡ vec_capacity links.old }
 {
     match literal {
         Literal::Edge(_, to) => {
-            links.push(heads[to as usize])?;
+            links.push_reserved(heads[to as usize]);
             heads[to as usize] = links.len();
-            Ok(())
         }
-        Literal::Node(_) | Literal::NoNode(_) | Literal::NoEdge(_, _) => {
-            links.push(0)?;
-            Ok(())
-        }
+        Literal::Node(_) | Literal::NoNode(_) | Literal::NoEdge(_, _) => links.push_reserved(0),
     }
 }
 
@@ -49,7 +43,7 @@ fn edge_lists(
     let mut heads: Vec<usize> = vec![in alloc; 0; nodes]?;
     let mut links: Vec<usize> = Vec::with_capacity(alloc, literals.len())?;
     for literal in literals {
-        put_on_list(&mut heads, &mut links, *literal)?;
+        put_on_list(&mut heads, &mut links, *literal);
     }
     Ok((heads, links))
 }

@@ -91,9 +91,9 @@ fn keep<L: Ledger>(
     moments.reserve(1)?;
     counts.reserve(1)?;
     enter(table, nodes, literal, steps)?;
-    literals.push(literal)?;
-    moments.push(table.mark())?;
-    counts.push(0)?;
+    literals.push_reserved(literal);
+    moments.push_reserved(table.mark());
+    counts.push_reserved(0);
     Ok(())
 }
 

@@ -1,6 +1,34 @@
-use Rattle.std.proofs.Common.{◌≡◌, ◌+◌, ◌-◌, ℕ, length, subst, arith}
-use Rattle.order_graph.proofs.{OnList.{same_read}, IsSearched.{IsVisiting, visiting_more, visiting_done}}
+use Rattle.std.proofs.Common.{◌≡◌, ◌+◌, ◌-◌, ℕ, length, inl, sym, ◌∙◌, subst, arith}
+use Rattle.order_graph.proofs.{OnList.{same_read}, IsSearched.{IsVisiting, visited, visiting_more, visiting_done}}
 use Rattle.order_graph.proofs.chain.visit.Goals as goal
+
+pub loop-at-init : goal.loop-at-init
+loop-at-init c = record {
+  searched = c.requires.searched;
+  inside = c.requires.node_is.0;
+  node_is = c.requires.node_is.1;
+  at_in = c.requires.head_in;
+  rest = λ k a inside is. inl (c.requires.all k a inside is);
+}
+
+pub follow-requires-clause-below : goal.follow-requires-clause-below
+follow-requires-clause-below c =
+    let positive = c.loop-at-test.true in let at_in = c.loop-at.invariant.at_in in
+    rw c.loop-at.invariant.searched.levels_all (c.requires.below (c.loop-at.at - 1) _ (omega arith))
+
+pub follow-requires-clause-node_in : goal.follow-requires-clause-node_in
+follow-requires-clause-node_in c =
+    rw c.loop-at.invariant.searched.levels_all
+    (visited c.args.literals.now c.args.links.now c.args.target (length c.args.levels.now) c.args.done c.args.node c.loop-at.at c.loop-at.levels c.loop-at.nexts
+    c.loop-at.queue.items c.loop-at.invariant c.requires.few).0
+
+pub follow-requires-clause-all : goal.follow-requires-clause-all
+follow-requires-clause-all c = let s = c.loop-at.invariant.searched in s.nexts_all ∙ sym s.levels_all
+
+pub follow-requires-clause-low : goal.follow-requires-clause-low
+follow-requires-clause-low c =
+    (visited c.args.literals.now c.args.links.now c.args.target (length c.args.levels.now) c.args.done c.args.node c.loop-at.at c.loop-at.levels c.loop-at.nexts
+    c.loop-at.queue.items c.loop-at.invariant c.requires.few).2
 
 pub loop-at-preserved : goal.loop-at-preserved
 loop-at-preserved c =

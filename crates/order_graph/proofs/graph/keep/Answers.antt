@@ -2,14 +2,14 @@ use Rattle.std.proofs.Common.{◌∙◌, ◌∷◌, ◌++◌, [], ap}
 use Rattle.order_graph.proofs.graph.keep.Goals as goal
 
 pub returns-clause-literals : goal.returns-clause-literals
-returns-clause-literals g c = c.in_ok-push.ensures.items ∙ ap (λ ls. ls ++ c.args.literal ∷ []) c.in_ok-reserve.ensures.items
+returns-clause-literals g c = c.push_reserved.ensures.items ∙ ap (λ ls. ls ++ c.args.literal ∷ []) c.in_ok-reserve.ensures.items
 
 pub returns-clause-moments : goal.returns-clause-moments
 returns-clause-moments g c =
-    c.in_ok-push-2.ensures.items ∙ (λ i. c.in_ok-reserve-2.ensures.items i ++ c.mark.ensures.last i ∷ [])
+    c.push_reserved-2.ensures.items ∙ (λ i. c.in_ok-reserve-2.ensures.items i ++ c.mark.ensures.last i ∷ [])
 
 pub returns-clause-counts : goal.returns-clause-counts
-returns-clause-counts g c = c.in_ok-push-3.ensures.items ∙ ap (λ ns. ns ++ 0 ∷ []) c.in_ok-reserve-3.ensures.items
+returns-clause-counts g c = c.push_reserved-3.ensures.items ∙ ap (λ ns. ns ++ 0 ∷ []) c.in_ok-reserve-3.ensures.items
 
 pub returns-clause-entered : goal.returns-clause-entered
 returns-clause-entered g c = c.in_ok-enter.ensures.entered

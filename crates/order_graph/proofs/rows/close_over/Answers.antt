@@ -1,6 +1,6 @@
 use Rattle.std.proofs.Common.{◌≡◌, ◌∙◌, ◌+◌, ◌-◌, ◌≤◌, ℕ, Bool, true, false, if◌then◌else◌, sym, ap, arith}
 use Rattle.undo_trail.specs.BitTable.{BitTable}
-use Rattle.order_graph.{specs.Rows.{row_words, words_gained}, proofs.CloseOver.{closing_passed, closing_joined, words_passed, words_joined, words_rise}}
+use Rattle.order_graph.{specs.Rows.{row_words, words_gained}, proofs.CloseOver.{closing_first, closing_last, sink_stays, closing_passed, closing_joined, words_passed, words_joined, words_rise}}
 use Rattle.order_graph.proofs.rows.close_over.Goals.{then-gains, else-gains}
 use Rattle.order_graph.proofs.rows.close_over.Goals as goal
 
@@ -10,6 +10,15 @@ low_words v false = omega arith
 
 same_row : (v w : BitTable) (is_sink : Bool) → w.words ≡ v.words → row_words w is_sink ≡ row_words v is_sink
 same_row v w is_sink e = ap (λ (n : ℕ). if is_sink then 1 else n + 1) e
+
+pub loop-x-init : goal.loop-x-init
+loop-x-init g c = record { closing = closing_first c.args.table.now c.args.a c.args.b; room = omega arith; cost = omega arith }
+
+pub join_row-requires-clause-sink : goal.join_row-requires-clause-sink
+join_row-requires-clause-sink g c =
+    let rows = c.requires.sized.0 in let b_in = c.requires.b_in in
+    sink_stays c.args.table.now c.loop-x.table c.args.a c.args.b c.loop-x.x c.args.is_sink c.loop-x.invariant.closing (omega arith)
+    c.requires.takes.no_cycle c.requires.sink
 
 pub join_row-requires-clause-room : goal.join_row-requires-clause-room
 join_row-requires-clause-room g c =
@@ -57,3 +66,18 @@ loop-x-preserved g c =
             cost = (let steps = j.steps-is in omega arith);
           }
     ]
+
+pub returns-clause-closed : goal.returns-clause-closed
+returns-clause-closed g c =
+    let ended = c.loop-x-test.false in let low = c.loop-x.auto.x-end in
+    (closing_last c.args.table.now c.loop-x.table c.args.a c.args.b c.loop-x.x c.args.nodes c.loop-x.invariant.closing (omega arith)).new
+
+pub returns-clause-others : goal.returns-clause-others
+returns-clause-others g c =
+    let ended = c.loop-x-test.false in let low = c.loop-x.auto.x-end in
+    (closing_last c.args.table.now c.loop-x.table c.args.a c.args.b c.loop-x.x c.args.nodes c.loop-x.invariant.closing (omega arith)).old
+
+pub returns-clause-trail : goal.returns-clause-trail
+returns-clause-trail g c =
+    let ended = c.loop-x-test.false in let low = c.loop-x.auto.x-end in
+    (closing_last c.args.table.now c.loop-x.table c.args.a c.args.b c.loop-x.x c.args.nodes c.loop-x.invariant.closing (omega arith)).extends
