@@ -1,6 +1,7 @@
 -- What the expanded axioms of a model are, and that expansion keeps truth.
 use Rattle.std.proofs.Common.{◌≡◌, ℕ, ◌<◌, List, [], ◌∷◌, length, map, reverse, get_or, slice_get, option_map, ◌&&◌, Some, None, All, refl, sym, ap, subst, ◌∙◌, arith}
-use Rattle.std.proofs.lemmas.{List.{take_all, get_or-map, length-map, Elements.{All-nil, All-cons}}, Option.{get_or_from_slice_get, slice_get-map}}
+use Rattle.std.proofs.lemmas.List.{take_all, get_or-map, length-map, Elements.{All-nil, All-cons}}
+use Rattle.std.proofs.lemmas.Option.{get_or_from_slice_get, slice_get-map, slice_get_within}
 use Rattle.std.specs.List.{flat_map}
 use Rattle.pc_syntax.specs.declared.{model.{ModelFile.{ModelFile}, Item.{Item}}, expanded.Expanded.{Expanded}}
 use Rattle.pc_syntax.specs.Written.{Written, MacroAt, WrittenItem, axiom_, macro_, written_item, WrittenModel, written_model}
@@ -17,6 +18,13 @@ pub parameter_names_at : (ms : List MacroAt) (names : List (List (List ℕ))) (k
 parameter_names_at ms names k m other are here =
     get_or_from_slice_get names k (parameter_names m) other
     (ap (λ xs. slice_get xs k) are ∙ slice_get-map parameter_names ms k ∙ ap (option_map parameter_names) here)
+
+-- each macro's names are there
+pub names_within : (ms : List MacroAt) (names : List (List (List ℕ))) (k : ℕ) (m : MacroAt) → names ≡ map parameter_names ms → slice_get ms k ≡ Some m
+    → k < length names
+names_within ms names k m are here =
+    let long : length names ≡ length ms = ap length are ∙ length-map ms parameter_names in
+    omega (arith, long, slice_get_within ms k m here)
 
 pub latest_first : (ms : List Macro) → before (plain_macros ms) (length ms) ≡ reverse (plain_macros ms)
 latest_first ms = ap reverse (take_all (length ms) (plain_macros ms) (omega (arith, length-map ms macro_at)))

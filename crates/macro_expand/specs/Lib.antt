@@ -1,3 +1,4 @@
+pub mod Connectives
 pub mod Faults
 pub mod Tables
 pub mod Measures

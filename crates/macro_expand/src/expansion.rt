@@ -1,12 +1,15 @@
 ghost use Rattle.std.specs.Prelude.{◌≡◌, All, IfOk, map};
 ghost use Rattle.pc_syntax.specs.Written.{written, written_item, bind_};
 ghost use Rattle.pc_syntax.specs.Expansion.{parameter_names, IsExpanded};
+ghost use Rattle.macro_expand.specs.Connectives.{joined_by, bound_by};
 ghost use Rattle.macro_expand.specs.Tables.{plain_macros, expansion_by, expansion_by_all, AreAxiomsExpanded, OfAxiom};
 
+use super::connective::Connective;
 use super::macros::Macros;
 use super::parameter_names::names_of_macros;
+use super::quantifier::Quantifier;
 use pc_common::{Memory, Place};
-use pc_syntax::{Args, Expanded, Formula, Item, Names};
+use pc_syntax::{Args, Expanded, Formula, Item, Name, Names, Sort};
 use std::alloc::Global;
 
 /// What expands formulas: the macros of a file, and the names of each macro's parameters.
@@ -30,38 +33,23 @@ impl<'a> Expander<'a> {
     {
         match formula {
             Formula::Not(body) => { Formula::negation(self.alloc, self.expansion(earlier, body)?) }
-            Formula::And(left, right) => {
-                let (left, right) = self.expansions(earlier, left, right)?;
-                Formula::conjunction(self.alloc, left, right)
-            }
-            Formula::Or(left, right) => {
-                let (left, right) = self.expansions(earlier, left, right)?;
-                Formula::disjunction(self.alloc, left, right)
-            }
+            Formula::And(left, right) => self.joined(earlier, Connective::And, left, right),
+            Formula::Or(left, right) => self.joined(earlier, Connective::Or, left, right),
             Formula::Implies(left, right) => {
-                let (left, right) = self.expansions(earlier, left, right)?;
-                Formula::implication(self.alloc, left, right)
+                self.joined(earlier, Connective::Implies, left, right)
             }
             Formula::Forall {
                 at,
                 sort,
                 name,
                 body,
-            } => {
-                let name = name.share()?;
-                let body = self.expansion(earlier, body)?;
-                Formula::forall(self.alloc, *at, *sort, name, body)
-            }
+            } => { self.quantified(earlier, Quantifier::Forall, *at, *sort, name, body) }
             Formula::Exists {
                 at,
                 sort,
                 name,
                 body,
-            } => {
-                let name = name.share()?;
-                let body = self.expansion(earlier, body)?;
-                Formula::exists(self.alloc, *at, *sort, name, body)
-            }
+            } => { self.quantified(earlier, Quantifier::Exists, *at, *sort, name, body) }
             Formula::Bind {
                 at,
                 names,
@@ -83,23 +71,43 @@ impl<'a> Expander<'a> {
         }
     }
 
-    /// The same of two formulas.
+    /// The same of two formulas, joined.
     #[cycle(walk)]
-    fn expansions(
+    fn joined(
         &self,
         earlier: usize,
+        connective: Connective,
         left: &Formula,
         right: &Formula,
-    ) -> Result<(Formula, Formula), Memory>
+    ) -> Result<Formula, Memory>
         requires { self.now.names.now ≡ map parameter_names (plain_macros self.now.macros.now) }
-        ensures first { IfOk result
-            (λ both. written both.0 ≡ expansion_by self.now.macros.now earlier (written left.now)) }
-        ensures second { IfOk result
-            (λ both. written both.1 ≡ expansion_by self.now.macros.now earlier (written right.now)) }
+        ensures { IfOk result (λ f. written f ≡ joined_by connective
+            (expansion_by self.now.macros.now earlier (written left.now))
+            (expansion_by self.now.macros.now earlier (written right.now))) }
     {
         let left = self.expansion(earlier, left)?;
         let right = self.expansion(earlier, right)?;
-        Ok((left, right))
+        connective.join(self.alloc, left, right)
+    }
+
+    /// The same of a formula in which a quantifier binds a name, which the copy shares.
+    #[cycle(walk)]
+    fn quantified(
+        &self,
+        earlier: usize,
+        quantifier: Quantifier,
+        at: Place,
+        sort: Sort,
+        name: &Name,
+        body: &Formula,
+    ) -> Result<Formula, Memory>
+        requires { self.now.names.now ≡ map parameter_names (plain_macros self.now.macros.now) }
+        ensures { IfOk result (λ f. written f ≡ bound_by quantifier at sort name.now
+            (expansion_by self.now.macros.now earlier (written body.now))) }
+    {
+        let name = name.share()?;
+        let body = self.expansion(earlier, body)?;
+        quantifier.bind(self.alloc, at, sort, name, body)
     }
 
     /// A binding over the copy of a formula, which shares its names and arguments.

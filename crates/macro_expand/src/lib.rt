@@ -24,6 +24,7 @@
 #![tactic(auto)]
 
 mod calls;
+mod connective;
 mod expansion;
 mod fault;
 mod items;
@@ -32,6 +33,7 @@ mod macros;
 mod measure;
 mod parameter_names;
 mod parameters;
+mod quantifier;
 mod sizes;
 mod stages;
 mod top;

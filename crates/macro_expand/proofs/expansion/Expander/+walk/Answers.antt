@@ -1,8 +1,20 @@
 use Rattle.std.proofs.{Common.{◌≡◌, ◌<◌, ◌+◌, ◌*◌, get_or, sym, ap, ◌∙◌, arith}, lemmas.Result.{IfOk-weaker}}
 use Rattle.pc_syntax.specs.{Written.{written, bind_}, Sizes.{expanded_height}, Expansion.{expansion_of}}
-use Rattle.macro_expand.{specs.Tables.{callee_of, before, plain_macros, macro_at}, proofs.Expansions.{parameter_names_at}}
+use Rattle.macro_expand.{specs.Tables.{callee_of, before, plain_macros, macro_at}, proofs.Expansions.{parameter_names_at, names_within}}
 use Rattle.macro_expand.proofs.MeasureLaws.{lower, expansion_found, expansion_not_found}
 use Rattle.macro_expand.proofs.expansion.Expander.+walk.Goals as goal
+
+pub expansion-bounds-self-callee : goal.expansion-bounds-self-callee
+expansion-bounds-self-callee t c =
+    let callee = c.in-Some.callee in
+    names_within (plain_macros c.args.self.now.macros.now) c.args.self.now.names.now callee.number (macro_at callee) c.requires c.in-Some.ensures.1
+
+pub expansion-offset_bounds-self-callee : goal.expansion-offset_bounds-self-callee
+expansion-offset_bounds-self-callee t c =
+    let callee = c.in-Some.callee in
+    let within =
+    names_within (plain_macros c.args.self.now.macros.now) c.args.self.now.names.now callee.number (macro_at callee) c.requires c.in-Some.ensures.1 in
+    omega (arith, within)
 
 pub expansion-binding-requires-in-Some : goal.expansion-binding-requires-in-Some
 expansion-binding-requires-in-Some t c =
