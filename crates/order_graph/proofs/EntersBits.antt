@@ -1,10 +1,10 @@
 -- Literals that are entered bit by bit.
-use Rattle.std.proofs.Common.{◌≡◌, ◌≢◌, ℕ, ◌+◌, ◌*◌, ◌<◌, ◌≤◌, inl, inr, Bool, true, false, ◌&&◌, ◌||◌, ◌==◌, if◌then◌else◌, [], ◌∷◌, ◌++◌, length, take, refl, sym, ◌∙◌, ap, subst, arith, eq-eqb, ne_eqb}
+use Rattle.std.proofs.Common.{◌≡◌, ◌≢◌, ℕ, zero, suc, ◌+◌, ◌*◌, ◌<◌, ◌≤◌, inl, inr, Bool, true, false, ◌&&◌, ◌||◌, ◌==◌, if◌then◌else◌, length, refl, sym, ◌∙◌, ap, subst, arith, eq-eqb, ne_eqb}
 use Rattle.std.proofs.lemmas.{Bool.{cases_eq, and_parts, or_cases, eqb-true}, List.{take_all, length_push}}
 use Rattle.pc_common.proofs.Bools.{or_true}
 use Rattle.undo_trail.specs.BitTable.{BitTable, bit_now, tables, Extends, HasSet, IsSameTable}
-use Rattle.pc_ground.specs.declared.literal.Literal.{Literal, TheVariants.{Node, Edge, NoNode, NoEdge}}
-use Rattle.order_graph.specs.Rows.{pair_row, present_row, missing_row, denier_row, leads_to, with_edge, IsSized, TakesEdge, Enters}
+use Rattle.pc_ground.specs.declared.literal.Literal.{TheVariants.{Node, Edge, NoNode, NoEdge}}
+use Rattle.order_graph.specs.Rows.{pair_row, present_row, missing_row, denier_row, leads_to, with_edge, gains, words_gained, IsSized, TakesEdge, Enters}
 
 pub extends_same : (v : BitTable) (n : ℕ) → Extends v v n
 extends_same v n =
@@ -34,6 +34,12 @@ pub same_takes : (n : ℕ) (v u : BitTable) (a b : ℕ) → IsSameTable v u → 
 same_takes n v u a b same takes =
     let P : BitTable → Type 0 = λ x. TakesEdge n x a b in
     subst P (sym same) record { no_cycle = takes.no_cycle; transitive = takes.transitive; ends = takes.ends }
+
+pub same_gained : (v u : BitTable) (a b each n : ℕ) → IsSameTable v u → words_gained u a b each n ≡ words_gained v a b each n
+same_gained v u a b each zero same = refl
+same_gained v u a b each (suc k) same =
+    ap (λ z. z + (if gains u a b k then each else 0)) (same_gained v u a b each k same)
+    ∙ ap (λ (x : BitTable). words_gained v a b each k + (if gains x a b k then each else 0)) same
 
 -- a bit that is set in another row
 other_row : (v w : BitTable) (r c q d : ℕ) → HasSet v w r c → q < v.rows → d < 64 * v.words → q ≢ r → bit_now w q d ≡ bit_now v q d
@@ -109,8 +115,10 @@ entered_known n v a b ah bh wide t known = record {
     twice_none false true d f g = f refl
     twice_none false false true f g = g refl
     twice_none false false false f g = refl
+
     at_end : (x p : ℕ) → x ≡ p → bit_now v (present_row n) p ≡ true → bit_now v (present_row n) x ≡ true
     at_end x p e h = ap (bit_now v (present_row n)) e ∙ h
+
     to_end : (x : ℕ) → x < n → leads_to v x a ≡ true → bit_now v x b ≡ true
     to_end x xh leads = elim (or_cases (x == a) (bit_now v x a) leads) [
       | inl same ↦ ap (λ z. bit_now v z b) (eqb-true x a same) ∙ known

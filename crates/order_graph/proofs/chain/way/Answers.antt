@@ -1,4 +1,4 @@
-use Rattle.std.proofs.Common.{◌≡◌, ◌∙◌, List, ℕ, length, sym, arith}
+use Rattle.std.proofs.Common.{◌≡◌, ◌∙◌, length, sym, arith}
 use Rattle.order_graph.proofs.chain.way.Goals as goal
 
 pub way_back-requires-clause-few : goal.way_back-requires-clause-few

@@ -1,4 +1,4 @@
-use Rattle.std.proofs.{Common.{◌≡◌, ◌∙◌, inl, inr, get_or, sym, ap, arith}, lemmas.Bool.{cases_eq}}
+use Rattle.std.proofs.{Common.{◌∙◌, inl, inr, get_or, sym, ap, arith}, lemmas.Bool.{cases_eq}}
 use Rattle.pc_ground.specs.declared.literal.Literal.TheVariants.{Node, NoEdge}
 use Rattle.order_graph.proofs.OnList.{same_read}
 use Rattle.order_graph.proofs.clashes.first_joined_pair.Goals as goal

@@ -1,4 +1,4 @@
-use Rattle.std.proofs.{Common.{◌≡◌, ◌∙◌, ◌+◌, ◌*◌, ◌/◌, get_or, sym, ap, arith}, lemmas.Bool.{both_ways, MatchBool-at_false}}
+use Rattle.std.proofs.{Common.{◌≡◌, ◌∙◌, ◌*◌, ◌/◌, get_or, sym, ap, arith}, lemmas.Bool.{both_ways, MatchBool-at_false}}
 use Rattle.undo_trail.{specs.BitTable.{bit_now}, proofs.BitWords.{column-clear}}
 use Rattle.order_graph.{specs.Rows.{denier_row, leads_to, IsDeniedPast, IsDeniedNowherePast}, proofs.ClashOf.{joins_none_more}}
 use Rattle.order_graph.proofs.clashes.word_joins_denied.Goals.{else-is_denier-via-then-is_denier+then-leads_to+else-is_denied_past, else-is_denier-via-then-is_denier+else-leads_to, else-is_denier-via-else-is_denier}

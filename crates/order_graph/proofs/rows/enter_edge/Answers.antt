@@ -1,5 +1,6 @@
-use Rattle.std.proofs.Common.{◌+◌, ◌*◌, sym, ◌∙◌}
-use Rattle.order_graph.proofs.EntersBits.{entered_known, extends_same, same_edge, same_extends, same_takes}
+use Rattle.std.proofs.Common.{◌≡◌, ◌+◌, ◌*◌, sym, ◌∙◌, ap}
+use Rattle.undo_trail.specs.BitTable.{BitTable}
+use Rattle.order_graph.{specs.Rows.{words_gained, row_words}, proofs.EntersBits.{entered_known, extends_same, same_edge, same_extends, same_gained, same_takes}}
 use Rattle.order_graph.proofs.rows.enter_edge.Goals as goal
 
 pub returns-then-reaches-clause-entered : goal.returns-then-reaches-clause-entered
@@ -21,3 +22,23 @@ pub returns-clause-entered : goal.returns-clause-entered
 returns-clause-entered g c =
     same_edge c.args.nodes c.args.table.now c.reserve_gained.new.table c.enter_edge_reserved.new.table c.args.a c.args.b
     c.reserve_gained.ensures.same c.enter_edge_reserved.ensures.entered
+
+pub enter_edge_reserved-requires-clause-room : goal.enter_edge_reserved-requires-clause-room
+enter_edge_reserved-requires-clause-room g c =
+    let v = c.args.table.now in let u = c.reserve_gained.new.table in
+    let n = c.args.nodes in let a = c.args.a in let b = c.args.b in
+    let same = c.reserve_gained.ensures.same in let is_sink = c.is_sink-is_sink.result in
+    let each : row_words u is_sink ≡ c.row_words-each.result = ap (λ (x : BitTable). row_words x is_sink) same ∙ sym c.row_words-each.ensures.value in
+    let words : words_gained u a b (row_words u is_sink) n ≡ words_gained v a b c.row_words-each.result n =
+    same_gained v u a b (row_words u is_sink) n same ∙ ap (λ z. words_gained v a b z n) each in
+    rw words c.in_ok-reserve_gained.ensures.room
+
+pub returns-clause-trail : goal.returns-clause-trail
+returns-clause-trail g c =
+    let v = c.args.table.now in let u = c.reserve_gained.new.table in
+    let words : u.words ≡ v.words = ap (λ (x : BitTable). x.words) c.reserve_gained.ensures.same in
+    rw words at (same_extends v u c.enter_edge_reserved.new.table (c.args.nodes * (u.words + 1) + 2) c.reserve_gained.ensures.same
+    c.enter_edge_reserved.ensures.trail)
+
+pub returns-clause-cost : goal.returns-clause-cost
+returns-clause-cost g c = c.enter_edge_reserved.ensures.cost
