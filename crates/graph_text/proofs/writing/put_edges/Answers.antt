@@ -1,7 +1,12 @@
-use Rattle.std.proofs.Common.{refl}
+use Rattle.std.proofs.Common.{refl, sym, subst}
 use Rattle.pc_common.proofs.RoomPieces.{puts_next, puts_failed}
-use Rattle.graph_text.specs.Graphs.{edge_line_text}
+use Rattle.graph_text.specs.Graphs.{edge_line_text, IsEdgeIn}
 use Rattle.graph_text.proofs.writing.put_edges.Goals as goal
+
+pub put_edge_line-requires : goal.put_edge_line-requires
+put_edge_line-requires g c =
+    let ends = subst (IsEdgeIn c.args.names.now) (sym c.ends-item.is) (c.requires c.loop-ends.ends-index c.ends-item.result c.loop-ends-test.true) in
+    record { from = ends.0; to = ends.1 }
 
 pub returns-in_err-put_edge_line : goal.returns-in_err-put_edge_line
 returns-in_err-put_edge_line g c =

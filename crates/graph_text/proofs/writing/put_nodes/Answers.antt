@@ -1,7 +1,11 @@
-use Rattle.std.proofs.Common.{refl}
+use Rattle.std.proofs.Common.{refl, sym, subst}
 use Rattle.pc_common.proofs.RoomPieces.{puts_next, puts_failed}
-use Rattle.graph_text.specs.Graphs.{node_line_text}
+use Rattle.graph_text.specs.Graphs.{node_line_text, IsKeyIn}
 use Rattle.graph_text.proofs.writing.put_nodes.Goals as goal
+
+pub put_node_line-requires : goal.put_node_line-requires
+put_node_line-requires g c =
+    subst (IsKeyIn c.args.names.now) (sym c.key-item.is) (c.requires c.loop-key.key-index c.key-item.result c.loop-key-test.true)
 
 pub returns-in_err-put_node_line : goal.returns-in_err-put_node_line
 returns-in_err-put_node_line g c =
