@@ -1,11 +1,9 @@
 //! How the command ends without an answer: words, faults of the three files, and calls that fail.
 use super::texts::{DEEP, MACROS, NO_AXIOMS};
 use example_texts::ONE;
-use memory_runs::ends_over;
+use memory_runs::{Failed, USAGE, first_other_of_three, first_taken, first_wrong_failure};
 use pc_common::Status;
 use std::test::Fail;
-
-const USAGE: &str = "pipecheck: bad command line\n";
 
 const NO_COMMANDS: &[&'static str] = &[
     "ask",
@@ -18,14 +16,7 @@ const NO_COMMANDS: &[&'static str] = &[
 
 #[test]
 fn words_of_no_command_are_told_so(rt: HostRuntime) -> Result<(), Fail> {
-    for command in NO_COMMANDS {
-        let contents = &[("model", NO_AXIOMS), ("test", ONE), ("query", "True")];
-        let end = (Status::Usage, USAGE);
-        assert!(rt;
-            ends_over(rt.alloc(), command, contents, (&[], &[]), end)?,
-            "{command}"
-        );
-    }
+    assert_eq!(rt; first_taken(rt.alloc(), NO_COMMANDS)?, None);
     Ok(())
 }
 
@@ -160,32 +151,14 @@ const REFUSED: &[(&'static str, &'static str, &'static str, &'static str)] = &[
 
 #[test]
 fn the_first_fault_of_the_three_files_is_told(rt: HostRuntime) -> Result<(), Fail> {
-    for (model, test, query, text) in REFUSED {
-        let contents = &[("model", *model), ("test", *test), ("query", *query)];
-        let end = (Status::Refused, *text);
-        assert!(rt;
-            ends_over(
-                rt.alloc(),
-                "ask model test query",
-                contents,
-                (&[], &[]),
-                end
-            )?,
-            "{query}: {text}"
-        );
-    }
+    let wrong = first_other_of_three(rt.alloc(), "ask model test query", Status::Refused, REFUSED)?;
+    assert_eq!(rt; wrong, None);
     Ok(())
 }
 
 /// The command, the calls of the files and of the sink that fail, and how it ends over the files `model`, `test`, `query`
 /// and `bad`, which no reader takes.
-const FAILS: &[(
-    &'static str,
-    &'static [u64],
-    &'static [u64],
-    Status,
-    &'static str,
-)] = &[
+const FAILS: &[Failed<'static>] = &[
     ("ask none test query", &[], &[], Status::ReadFault, ""),
     ("ask model none query", &[], &[], Status::ReadFault, ""),
     ("ask model test none", &[], &[], Status::ReadFault, ""),
@@ -219,19 +192,12 @@ const FAILS: &[(
 
 #[test]
 fn a_failed_call_is_told_by_the_status(rt: HostRuntime) -> Result<(), Fail> {
-    for (command, read_fails, write_fails, status, text) in FAILS {
-        let contents = &[
-            ("model", NO_AXIOMS),
-            ("test", ONE),
-            ("query", "True"),
-            ("bad", NO_TEXT),
-        ];
-        let end = (*status, *text);
-        let fails = (*read_fails, *write_fails);
-        assert!(rt;
-            ends_over(rt.alloc(), command, contents, fails, end)?,
-            "{command}: {text}"
-        );
-    }
+    let contents = &[
+        ("model", NO_AXIOMS),
+        ("test", ONE),
+        ("query", "True"),
+        ("bad", NO_TEXT),
+    ];
+    assert_eq!(rt; first_wrong_failure(rt.alloc(), contents, FAILS)?, None);
     Ok(())
 }

@@ -1,6 +1,6 @@
 //! Files at their limits: the bytes of a query, and the size of the axioms with a query's denial.
 use example_texts::{EMPTY, ONE};
-use memory_runs::{ends_in, ends_over, hold_files, words};
+use memory_runs::{ends_in, ends_on, hold_files, words};
 use pc_common::{Bytes, Calls, HeldFile, MemFiles, Memory, Status};
 use std::alloc::Global;
 use std::test::Fail;
@@ -59,20 +59,8 @@ fn axioms_of_a_thousand(alloc: Global, count: usize) -> Result<String, Memory> {
 #[test]
 fn the_denial_counts_among_the_axioms(rt: HostRuntime) -> Result<(), Fail> {
     let model = axioms_of_a_thousand(rt.alloc(), 999)?;
-    let contents = &[
-        ("model", model.as_str()),
-        ("test", EMPTY),
-        ("query", "ExpandMacro k"),
-    ];
+    let contents = &[model.as_str(), EMPTY, "ExpandMacro k"];
     let end = (Status::Refused, "refused query too-big at 1:1\n");
-    assert!(rt;
-        ends_over(
-            rt.alloc(),
-            "ask model test query",
-            contents,
-            (&[], &[]),
-            end
-        )?
-    );
+    assert!(rt; ends_on(rt.alloc(), "ask model test query", contents, end)?);
     Ok(())
 }

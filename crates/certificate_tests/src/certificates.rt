@@ -8,10 +8,13 @@ use pc_common::Memory;
 use pc_front::front;
 use pc_ground::Front;
 use std::alloc::Global;
-use std::test::Fail;
 
-/// A model and a test, a text, and what the text is to them.
-pub(crate) type Row = (&'static str, &'static str, &'static str, Checked);
+/// A model and a test, and texts, each with what it is to them.
+pub(crate) type Judged = (
+    &'static str,
+    &'static str,
+    &'static [(&'static str, Checked)],
+);
 
 pub(crate) const REFUTED: &str = "unobservable
 test forbidden: ok
@@ -21,95 +24,87 @@ path 1.0@0:S 0.0@0:S 0.0@0:T
 end
 ";
 
-pub(crate) const JUDGED: &[Row] = &[
-    (EITHER_ORDER, TWO_FORBIDDEN, REFUTED, Checked::Unobservable),
-    // the last line comes with a branch open
+pub(crate) const JUDGED: &[Judged] = &[
     (
         EITHER_ORDER,
         TWO_FORBIDDEN,
-        "unobservable\ntest forbidden: ok\nsplit 1\npath 0.0@0:S 1.0@0:S\nend\n",
-        Checked::Refused(5),
-    ),
-    // that edge is asserted on the other branch alone
-    (
-        EITHER_ORDER,
-        TWO_FORBIDDEN,
-        "unobservable\ntest forbidden: ok\nsplit 1\npath 0.0@0:S 1.0@0:S\npath 0.0@0:S 1.0@0:S\nend\n",
-        Checked::Refused(5),
-    ),
-    // the text goes on after its end
-    (
-        EITHER_ORDER,
-        TWO_FORBIDDEN,
-        "unobservable\ntest forbidden: ok\nsplit 1\npath 0.0@0:S 1.0@0:S\npath 1.0@0:S 0.0@0:S 0.0@0:T\nend\nend\n",
-        Checked::Refused(7),
-    ),
-    (EITHER_ORDER, TWO_FORBIDDEN, "", Checked::Refused(1)),
-    // a node of no micro-op, and two spaces
-    (
-        EITHER_ORDER,
-        TWO_FORBIDDEN,
-        "unobservable\ntest forbidden: ok\nsplit 1\nabsent 9.0@0:S\npath 1.0@0:S 0.0@0:S 0.0@0:T\nend\n",
-        Checked::Refused(4),
-    ),
-    (
-        EITHER_ORDER,
-        TWO_FORBIDDEN,
-        "unobservable\ntest forbidden: ok\nsplit 1\npath  0.0@0:S 1.0@0:S\npath 1.0@0:S 0.0@0:S 0.0@0:T\nend\n",
-        Checked::Refused(4),
-    ),
-    // a leading zero, and no position of the tree
-    (
-        EITHER_ORDER,
-        TWO_FORBIDDEN,
-        "unobservable\ntest forbidden: ok\nsplit 01\npath 0.0@0:S 1.0@0:S\npath 1.0@0:S 0.0@0:S 0.0@0:T\nend\n",
-        Checked::Refused(3),
-    ),
-    (
-        EITHER_ORDER,
-        TWO_FORBIDDEN,
-        "unobservable\ntest forbidden: ok\nsplit 99\npath 0.0@0:S 1.0@0:S\npath 1.0@0:S 0.0@0:S 0.0@0:T\nend\n",
-        Checked::Refused(3),
-    ),
-    // the second line of the other expectation
-    (
-        EITHER_ORDER,
-        TWO_FORBIDDEN,
-        "unobservable\ntest permitted: stricter\nsplit 1\n",
-        Checked::Refused(2),
-    ),
-    // without the edge an axiom is false
-    (
-        ORDERED,
-        TWO,
-        "observable\ntest permitted: ok\nnode 0.0@0:S\nnode 1.0@0:S\nend\n",
-        Checked::Refused(5),
-    ),
-    // an end on no node line, a node line after an edge line, and a cycle
-    (
-        ORDERED,
-        TWO,
-        "observable\ntest permitted: ok\nnode 0.0@0:S\nedge 0.0@0:S 1.0@0:S\nend\n",
-        Checked::Refused(4),
+        &[
+            (REFUTED, Checked::Unobservable),
+            // the last line comes with a branch open
+            (
+                "unobservable\ntest forbidden: ok\nsplit 1\npath 0.0@0:S 1.0@0:S\nend\n",
+                Checked::Refused(5),
+            ),
+            // that edge is asserted on the other branch alone
+            (
+                "unobservable\ntest forbidden: ok\nsplit 1\npath 0.0@0:S 1.0@0:S\npath 0.0@0:S 1.0@0:S\nend\n",
+                Checked::Refused(5),
+            ),
+            // the text goes on after its end
+            (
+                "unobservable\ntest forbidden: ok\nsplit 1\npath 0.0@0:S 1.0@0:S\npath 1.0@0:S 0.0@0:S 0.0@0:T\nend\nend\n",
+                Checked::Refused(7),
+            ),
+            ("", Checked::Refused(1)),
+            // a node of no micro-op, and two spaces
+            (
+                "unobservable\ntest forbidden: ok\nsplit 1\nabsent 9.0@0:S\npath 1.0@0:S 0.0@0:S 0.0@0:T\nend\n",
+                Checked::Refused(4),
+            ),
+            (
+                "unobservable\ntest forbidden: ok\nsplit 1\npath  0.0@0:S 1.0@0:S\npath 1.0@0:S 0.0@0:S 0.0@0:T\nend\n",
+                Checked::Refused(4),
+            ),
+            // a leading zero, and no position of the tree
+            (
+                "unobservable\ntest forbidden: ok\nsplit 01\npath 0.0@0:S 1.0@0:S\npath 1.0@0:S 0.0@0:S 0.0@0:T\nend\n",
+                Checked::Refused(3),
+            ),
+            (
+                "unobservable\ntest forbidden: ok\nsplit 99\npath 0.0@0:S 1.0@0:S\npath 1.0@0:S 0.0@0:S 0.0@0:T\nend\n",
+                Checked::Refused(3),
+            ),
+            // the second line of the other expectation
+            (
+                "unobservable\ntest permitted: stricter\nsplit 1\n",
+                Checked::Refused(2),
+            ),
+        ],
     ),
     (
         ORDERED,
         TWO,
-        "observable\ntest permitted: ok\nnode 0.0@0:S\nnode 1.0@0:S\nedge 0.0@0:S 1.0@0:S\nnode 0.0@0:S\nend\n",
-        Checked::Refused(6),
+        &[
+            // without the edge an axiom is false
+            (
+                "observable\ntest permitted: ok\nnode 0.0@0:S\nnode 1.0@0:S\nend\n",
+                Checked::Refused(5),
+            ),
+            // an end on no node line, a node line after an edge line, and a cycle
+            (
+                "observable\ntest permitted: ok\nnode 0.0@0:S\nedge 0.0@0:S 1.0@0:S\nend\n",
+                Checked::Refused(4),
+            ),
+            (
+                "observable\ntest permitted: ok\nnode 0.0@0:S\nnode 1.0@0:S\nedge 0.0@0:S 1.0@0:S\nnode 0.0@0:S\nend\n",
+                Checked::Refused(6),
+            ),
+            (
+                "observable\ntest permitted: ok\nnode 0.0@0:S\nnode 1.0@0:S\nedge 0.0@0:S 1.0@0:S\nedge 1.0@0:S 0.0@0:S\nend\n",
+                Checked::Refused(7),
+            ),
+        ],
     ),
-    (
-        ORDERED,
-        TWO,
-        "observable\ntest permitted: ok\nnode 0.0@0:S\nnode 1.0@0:S\nedge 0.0@0:S 1.0@0:S\nedge 1.0@0:S 0.0@0:S\nend\n",
-        Checked::Refused(7),
-    ),
-    // edges in another order, and one of them twice
     (
         STORE_BUFFER,
         STORE_BUFFERING,
-        "observable\ntest forbidden: BUG\nnode 0.0@0:Exec\nnode 0.0@0:Mem\nnode 2.0@1:Exec\nnode 2.0@1:Mem\nnode 1.0@0:Exec\nnode 3.0@1:Exec\nedge 3.0@1:Exec 0.0@0:Mem\nedge 3.0@1:Exec 0.0@0:Mem\nedge 1.0@0:Exec 2.0@1:Mem\nedge 2.0@1:Exec 3.0@1:Exec\nedge 0.0@0:Exec 1.0@0:Exec\nedge 2.0@1:Exec 2.0@1:Mem\nedge 0.0@0:Exec 0.0@0:Mem\nend\n",
-        Checked::Observable,
+        &[
+            // edges in another order, and one of them twice
+            (
+                "observable\ntest forbidden: BUG\nnode 0.0@0:Exec\nnode 0.0@0:Mem\nnode 2.0@1:Exec\nnode 2.0@1:Mem\nnode 1.0@0:Exec\nnode 3.0@1:Exec\nedge 3.0@1:Exec 0.0@0:Mem\nedge 3.0@1:Exec 0.0@0:Mem\nedge 1.0@0:Exec 2.0@1:Mem\nedge 2.0@1:Exec 3.0@1:Exec\nedge 0.0@0:Exec 1.0@0:Exec\nedge 2.0@1:Exec 2.0@1:Mem\nedge 0.0@0:Exec 0.0@0:Mem\nend\n",
+                Checked::Observable,
+            ),
+        ],
     ),
 ];
 
@@ -132,22 +127,25 @@ fn is_always(alloc: Global, front: &Front, text: &[u8], checked: Checked) -> boo
         && in_pieces(alloc, front, text, 7) == Ok(checked)
 }
 
-/// The same of the front of the row's model and test.
-fn is_checked(alloc: Global, (model, test, text, checked): Row) -> bool {
+/// The first text that is something else to the model and the test.
+fn first_wrong(alloc: Global, (model, test, texts): Judged) -> Option<&'static str> {
     if model.len() > 10_000 || test.len() > 10_000 {
-        return false;
+        return Some(model);
     }
-    match front(alloc, model.as_bytes(), test.as_bytes()) {
-        Ok(front) => is_always(alloc, &front, text.as_bytes(), checked),
-        Err(_) => false,
+    let Ok(front) = front(alloc, model.as_bytes(), test.as_bytes()) else {
+        return Some(model);
+    };
+    for (text, checked) in texts {
+        if !is_always(alloc, &front, text.as_bytes(), *checked) {
+            return Some(*text);
+        }
     }
+    None
 }
 
 #[test]
 fn a_text_is_the_same_however_it_is_cut(rt: HostRuntime) {
-    for rows in [JUDGED, SIGNED] {
-        for row in rows {
-            assert!(rt; is_checked(rt.alloc(), *row), "{}", row.2);
-        }
+    for judged in JUDGED.iter().chain(SIGNED) {
+        assert_eq!(rt; first_wrong(rt.alloc(), *judged), None);
     }
 }

@@ -4,7 +4,7 @@ use example_texts::{
     LAST_WRITE, MESSAGE_PASSING, NO_EDGES, ONE, ORDERED, SOME_OP, STORE_BUFFER, STORE_BUFFERING,
     TURNED_BACK, TWO, TWO_CORES, TWO_FORBIDDEN, UNORDERED,
 };
-use memory_runs::ends_over;
+use memory_runs::{Failed, TwoFiles, ends_on, first_wrong_failure, first_wrong_of_two};
 use pc_common::Status;
 use std::test::Fail;
 
@@ -52,7 +52,7 @@ Axiom \"x\": forall microops \"i\",
 ";
 
 /// A model and a test, and how a check of them ends.
-const VERDICTS: &[(&'static str, &'static str, Status, &'static str)] = &[
+const VERDICTS: &[TwoFiles<'static>] = &[
     (
         "",
         EMPTY,
@@ -193,14 +193,10 @@ const VERDICTS: &[(&'static str, &'static str, Status, &'static str)] = &[
 
 #[test]
 fn a_verdict_comes_with_its_certificate(rt: HostRuntime) -> Result<(), Fail> {
-    for (model, test, status, text) in VERDICTS {
-        let contents = &[("model", *model), ("test", *test)];
-        let end = (*status, *text);
-        assert!(rt;
-            ends_over(rt.alloc(), "check model test", contents, (&[], &[]), end)?,
-            "{text}"
-        );
-    }
+    assert_eq!(rt;
+        first_wrong_of_two(rt.alloc(), "check model test", VERDICTS)?,
+        None
+    );
     Ok(())
 }
 
@@ -214,20 +210,29 @@ fn a_split_is_left_out_in_version_2_too(rt: HostRuntime) -> Result<(), Fail> {
         "unobservable\ntest unstated\nversion 2\nsplit 5\nsplit 8\ncycle 0.0@0:S 0.0@0:T\ncycle 0.0@0:S 0.0@0:T 0.0@0:U\nsplit 8\ncycle 0.0@0:S 0.0@0:U\ncycle 0.0@0:S 0.0@0:U\nend\n",
     );
     for model in SIGNED {
-        let contents = &[("model", *model), ("test", ONE)];
-        assert!(rt; ends_over(rt.alloc(), "check2 model test", contents, (&[], &[]), end)?);
+        assert!(rt; ends_on(rt.alloc(), "check2 model test", &[*model, ONE], end)?);
     }
     Ok(())
 }
 
-/// Which call of the sink fails, and what it holds then: the verdict line, the second line, the body and the
-/// last line are a call each.
-const CALLS: &[(u64, &'static str)] = &[
-    (1, ""),
-    (2, "observable\n"),
-    (3, "observable\ntest permitted: ok\n"),
+const CHECK: &str = "check model test";
+
+/// The verdict line, the second line, the body and the last line are a call each.
+const CUT_SHORT: &[Failed<'static>] = &[
+    (CHECK, &[], &[1], Status::WriteFault, ""),
+    (CHECK, &[], &[2], Status::WriteFault, "observable\n"),
     (
-        4,
+        CHECK,
+        &[],
+        &[3],
+        Status::WriteFault,
+        "observable\ntest permitted: ok\n",
+    ),
+    (
+        CHECK,
+        &[],
+        &[4],
+        Status::WriteFault,
         "observable\ntest permitted: ok\nnode 0.0@0:S\nnode 1.0@0:S\nedge 0.0@0:S 1.0@0:S\n",
     ),
 ];
@@ -235,18 +240,6 @@ const CALLS: &[(u64, &'static str)] = &[
 #[test]
 fn each_line_before_and_behind_the_body_is_one_piece(rt: HostRuntime) -> Result<(), Fail> {
     let contents = &[("model", ORDERED), ("test", TWO)];
-    for (call, text) in CALLS {
-        let end = (Status::WriteFault, *text);
-        assert!(rt;
-            ends_over(
-                rt.alloc(),
-                "check model test",
-                contents,
-                (&[], &[*call]),
-                end
-            )?,
-            "call {call}"
-        );
-    }
+    assert_eq!(rt; first_wrong_failure(rt.alloc(), contents, CUT_SHORT)?, None);
     Ok(())
 }

@@ -1,6 +1,9 @@
 //! The command check: from words and files to a status and a text.
 use example_texts::{BOTH_ORDERS, EMPTY, ITSELF, ONE, ORDERED, TWO, TWO_FORBIDDEN, TWO_IN_ORDER};
-use memory_runs::{Plan, are_failures_reported, ends_in, ends_over, hold_files, words};
+use memory_runs::{
+    Failed, Plan, TwoFiles, USAGE, ends_in, ends_on, first_taken, first_unreported,
+    first_wrong_failure, first_wrong_of_two, hold_files, words,
+};
 use pc_common::{Bytes, Calls, Held, HeldFile, MemFiles, Memory, Status, SureFiles, SureSink};
 use pipecheck_run::run;
 use std::alloc::Global;
@@ -19,7 +22,7 @@ end
 ";
 
 /// A model and a test, and how a check of them ends.
-const CHECKS: &[(&'static str, &'static str, Status, &'static str)] = &[
+const CHECKS: &[TwoFiles<'static>] = &[
     (
         "",
         EMPTY,
@@ -58,14 +61,10 @@ const CHECKS: &[(&'static str, &'static str, Status, &'static str)] = &[
 
 #[test]
 fn a_check_ends_with_its_status_and_its_text(rt: HostRuntime) -> Result<(), Fail> {
-    for (model, test, status, text) in CHECKS {
-        let contents = &[("model", *model), ("test", *test)];
-        let end = (*status, *text);
-        assert!(rt;
-            ends_over(rt.alloc(), "check model test", contents, (&[], &[]), end)?,
-            "{text}"
-        );
-    }
+    assert_eq!(rt;
+        first_wrong_of_two(rt.alloc(), "check model test", CHECKS)?,
+        None
+    );
     Ok(())
 }
 
@@ -105,17 +104,17 @@ const REFUSED: &[(&'static str, &'static str)] = &[
 #[test]
 fn a_test_is_refused_at_its_first_fault(rt: HostRuntime) -> Result<(), Fail> {
     for (test, text) in REFUSED {
-        let contents = &[("model", ""), ("test", *test)];
         let end = (Status::Refused, *text);
+        let contents = &["", *test];
         assert!(rt;
-            ends_over(rt.alloc(), "check model test", contents, (&[], &[]), end)?,
+            ends_on(rt.alloc(), "check model test", contents, end)?,
             "{text}"
         );
     }
     Ok(())
 }
 
-const USAGE: &str = "pipecheck: bad command line\n";
+const CHECK: &str = "check model test";
 
 const NO_COMMANDS: &[&'static str] = &[
     "",
@@ -131,46 +130,27 @@ const NO_COMMANDS: &[&'static str] = &[
 
 #[test]
 fn words_of_no_command_are_told_so(rt: HostRuntime) -> Result<(), Fail> {
-    for command in NO_COMMANDS {
-        let contents = &[("model", ORDERED), ("test", TWO)];
-        let end = (Status::Usage, USAGE);
-        assert!(rt;
-            ends_over(rt.alloc(), command, contents, (&[], &[]), end)?,
-            "{command}"
-        );
-    }
+    assert_eq!(rt; first_taken(rt.alloc(), NO_COMMANDS)?, None);
     Ok(())
 }
 
 /// The command, the calls of the files and of the sink that fail, and how it ends over the files `model`,
 /// `test` and `bad`. A line that is the whole answer is written in one call.
-const FAILS: &[(
-    &'static str,
-    &'static [u64],
-    &'static [u64],
-    Status,
-    &'static str,
-)] = &[
+const FAILS: &[Failed<'static>] = &[
     // a missing name; `opening` counts what is opened
     ("check model none", &[], &[], Status::ReadFault, ""),
     ("check none test", &[], &[], Status::ReadFault, ""),
     ("check none bad", &[], &[], Status::ReadFault, ""),
     // the start of the model, its first read, and the read that would see its end
-    ("check model test", &[1], &[], Status::ReadFault, ""),
-    ("check model test", &[2], &[], Status::ReadFault, ""),
-    ("check model test", &[3], &[], Status::ReadFault, ""),
+    (CHECK, &[1], &[], Status::ReadFault, ""),
+    (CHECK, &[2], &[], Status::ReadFault, ""),
+    (CHECK, &[3], &[], Status::ReadFault, ""),
     // the start of the test
-    ("check model test", &[4], &[], Status::ReadFault, ""),
+    (CHECK, &[4], &[], Status::ReadFault, ""),
     // the words are no command, and the call of the files that would fail is never made
     ("check model", &[1], &[], Status::Usage, USAGE),
-    ("check model test", &[], &[1], Status::WriteFault, ""),
-    (
-        "check model test",
-        &[],
-        &[2],
-        Status::WriteFault,
-        "observable\n",
-    ),
+    (CHECK, &[], &[1], Status::WriteFault, ""),
+    (CHECK, &[], &[2], Status::WriteFault, "observable\n"),
     ("check model bad", &[], &[1], Status::WriteFault, ""),
     (
         "check model bad",
@@ -187,15 +167,8 @@ const FAILS: &[(
 
 #[test]
 fn a_failed_call_is_told_by_the_status(rt: HostRuntime) -> Result<(), Fail> {
-    for (command, read_fails, write_fails, status, text) in FAILS {
-        let contents = &[("model", ORDERED), ("test", TWO), ("bad", "t")];
-        let end = (*status, *text);
-        let fails = (*read_fails, *write_fails);
-        assert!(rt;
-            ends_over(rt.alloc(), command, contents, fails, end)?,
-            "{command}: {text}"
-        );
-    }
+    let contents = &[("model", ORDERED), ("test", TWO), ("bad", "t")];
+    assert_eq!(rt; first_wrong_failure(rt.alloc(), contents, FAILS)?, None);
     Ok(())
 }
 
@@ -219,9 +192,7 @@ const PLANS: &[Plan<'static>] = &[
 fn a_failed_read_writes_nothing_and_a_failed_write_cuts_the_text(
     rt: HostRuntime,
 ) -> Result<(), Fail> {
-    for plan in PLANS {
-        assert!(rt; are_failures_reported(rt.alloc(), *plan)?, "{}", plan.2.1);
-    }
+    assert_eq!(rt; first_unreported(rt.alloc(), PLANS)?, None);
     Ok(())
 }
 

@@ -1,7 +1,7 @@
 //! Questions that need many splits where the search does not follow what failed: their verdicts in both versions, with
 //! certificates that `verify` takes.
 use example_texts::{LOCK_OF_FOUR, ONE_MEMORY, RUN_OF_TWENTY_FOUR};
-use memory_runs::{End, ends_over, output_of};
+use memory_runs::{End, ends_on, output_of};
 use pc_common::{Memory, Status};
 use std::alloc::Global;
 use std::test::Fail;
@@ -42,8 +42,7 @@ fn is_taken<'a>(
     text: &'a str,
     end: End<'_>,
 ) -> Result<bool, Memory> {
-    let contents = &[("model", model), ("test", test), ("text", text)];
-    ends_over(alloc, "verify model test text", contents, (&[], &[]), end)
+    ends_on(alloc, "verify model test text", &[model, test, text], end)
 }
 
 /// Whether the command writes a text that begins so, and `verify` ends so with that text.

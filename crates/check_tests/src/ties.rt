@@ -1,6 +1,6 @@
 //! Which of several answers comes, where the verdict leaves a choice.
 use example_texts::ONE;
-use memory_runs::ends_over;
+use memory_runs::ends_on;
 use pc_common::Status;
 use std::test::Fail;
 
@@ -84,10 +84,10 @@ const TIES: &[(&'static str, Status, &'static str)] = &[
 #[test]
 fn a_tie_is_decided_by_order(rt: HostRuntime) -> Result<(), Fail> {
     for (model, status, text) in TIES {
-        let contents = &[("model", *model), ("test", ONE)];
         let end = (*status, *text);
+        let contents = &[*model, ONE];
         assert!(rt;
-            ends_over(rt.alloc(), "check model test", contents, (&[], &[]), end)?,
+            ends_on(rt.alloc(), "check model test", contents, end)?,
             "{text}"
         );
     }

@@ -1,5 +1,5 @@
 //! Tests with page-table entries: a walk before the access that it translates, and the faults of the second format.
-use memory_runs::ends_over;
+use memory_runs::ends_on;
 use pc_common::Status;
 use std::test::Fail;
 
@@ -72,10 +72,10 @@ Microop 0 0 0 1 (Write (VA 3 0) (PA 7 0) (Data 1)).
 #[test]
 fn a_walk_reads_the_entry_of_the_access(rt: HostRuntime) -> Result<(), Fail> {
     for (test, status, text) in WALKS {
-        let contents = &[("model", WALK), ("test", *test)];
         let end = (*status, *text);
+        let contents = &[WALK, *test];
         assert!(rt;
-            ends_over(rt.alloc(), "check model test", contents, (&[], &[]), end)?,
+            ends_on(rt.alloc(), "check model test", contents, end)?,
             "{text}"
         );
     }

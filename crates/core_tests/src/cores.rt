@@ -1,9 +1,9 @@
 //! Which axioms forbid the outcome, with the certificates, line by line.
-use super::rows::{Row, first_wrong};
 use example_texts::{
     BOTH_ORDERS, EITHER_ORDER, EMPTY, IN_ORDER, MESSAGE_PASSING, ONE, ORDERED, SOME_OP, TWO,
     TWO_FORBIDDEN,
 };
+use memory_runs::first_other_of_two;
 use pc_common::Status;
 use std::test::Fail;
 
@@ -58,7 +58,7 @@ Axiom \"self\": forall microops \"i\", ExpandMacro before_itself i.
 ";
 
 /// A model and a test, and the text of their core.
-const CORES: &[Row] = &[
+const CORES: &[(&'static str, &'static str, &'static str)] = &[
     // no axioms
     (
         "",
@@ -136,8 +136,7 @@ const CORES: &[Row] = &[
 
 #[test]
 fn a_core_comes_with_its_certificates(rt: HostRuntime) -> Result<(), Fail> {
-    if let Some(text) = first_wrong(rt.alloc(), CORES, Status::Done)? {
-        panic!(rt; "{text}");
-    }
+    let wrong = first_other_of_two(rt.alloc(), "core model test", Status::Done, CORES)?;
+    assert_eq!(rt; wrong, None);
     Ok(())
 }

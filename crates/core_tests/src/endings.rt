@@ -1,11 +1,8 @@
 //! How the command ends without a core: words, faults of the two files, and calls that fail.
-use super::rows::{Row, first_wrong};
 use example_texts::{BOTH_ORDERS, ORDERED, TWO, TWO_FORBIDDEN};
-use memory_runs::ends_over;
+use memory_runs::{Failed, USAGE, first_other_of_two, first_wrong_failure};
 use pc_common::Status;
 use std::test::Fail;
-
-const USAGE: &str = "pipecheck: bad command line\n";
 
 /// The first axiom forbids every outcome, and the second, which would be no part of a core, has a fault.
 const NEVER_AND_UNBOUND: &str = "Axiom \"never\": False.
@@ -13,7 +10,7 @@ Axiom \"n\": NodeExists (i, S).
 ";
 
 /// A model and a test, and the line that refuses them.
-const REFUSED: &[Row] = &[
+const REFUSED: &[(&'static str, &'static str, &'static str)] = &[
     ("True.", TWO, "refused model syntax at 1:1\n"),
     ("Axiom \"a: True.", TWO, "refused model lexical at 1:7\n"),
     (NEVER_AND_UNBOUND, TWO, "refused model unbound at 2:24\n"),
@@ -31,21 +28,14 @@ const REFUSED: &[Row] = &[
 
 #[test]
 fn a_fault_of_the_two_files_comes_before_all(rt: HostRuntime) -> Result<(), Fail> {
-    if let Some(text) = first_wrong(rt.alloc(), REFUSED, Status::Refused)? {
-        panic!(rt; "{text}");
-    }
+    let wrong = first_other_of_two(rt.alloc(), "core model test", Status::Refused, REFUSED)?;
+    assert_eq!(rt; wrong, None);
     Ok(())
 }
 
 /// The command, the calls of the files and of the sink that fail, and how it ends over the files `model` and
 /// `test`.
-const FAILS: &[(
-    &'static str,
-    &'static [u64],
-    &'static [u64],
-    Status,
-    &'static str,
-)] = &[
+const FAILS: &[Failed<'static>] = &[
     ("core none test", &[], &[], Status::ReadFault, ""),
     ("core model none", &[], &[], Status::ReadFault, ""),
     ("core model test", &[1], &[], Status::ReadFault, ""),
@@ -91,14 +81,7 @@ const FAILS: &[(
 fn words_of_no_command_and_failed_calls_are_told_by_the_status(
     rt: HostRuntime,
 ) -> Result<(), Fail> {
-    for (command, read_fails, write_fails, status, text) in FAILS {
-        let contents = &[("model", BOTH_ORDERS), ("test", TWO_FORBIDDEN)];
-        let end = (*status, *text);
-        let fails = (*read_fails, *write_fails);
-        assert!(rt;
-            ends_over(rt.alloc(), command, contents, fails, end)?,
-            "{command}: {text}"
-        );
-    }
+    let contents = &[("model", BOTH_ORDERS), ("test", TWO_FORBIDDEN)];
+    assert_eq!(rt; first_wrong_failure(rt.alloc(), contents, FAILS)?, None);
     Ok(())
 }

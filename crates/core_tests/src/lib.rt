@@ -14,5 +14,3 @@ mod laws;
 mod many;
 #[cfg(test)]
 mod parts;
-#[cfg(test)]
-mod rows;

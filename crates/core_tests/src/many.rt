@@ -1,6 +1,6 @@
 //! Two hundred axioms, of which two matter.
 use example_texts::TWO_FORBIDDEN;
-use memory_runs::{ends_over, join_pieces};
+use memory_runs::{ends_on, join_pieces};
 use pc_common::Status;
 use std::test::Fail;
 
@@ -52,8 +52,14 @@ end
 #[test]
 fn two_of_two_hundred_axioms_matter(rt: HostRuntime) -> Result<(), Fail> {
     let model = join_pieces(rt.alloc(), TWO_HUNDRED)?;
-    let contents = &[("model", model.as_str()), ("test", TWO_FORBIDDEN)];
-    let end = (Status::Done, CORE);
-    assert!(rt; ends_over(rt.alloc(), "core model test", contents, (&[], &[]), end)?);
+    let contents = &[model.as_str(), TWO_FORBIDDEN];
+    assert!(rt;
+        ends_on(
+            rt.alloc(),
+            "core model test",
+            contents,
+            (Status::Done, CORE)
+        )?
+    );
     Ok(())
 }

@@ -2,14 +2,12 @@
 ghost use Rattle.std.specs.Prelude.{◌≤◌};
 
 use cert_check::{Checked, check_text};
-use memory_runs::{are_failures_reported, ends_over, output_of};
+use memory_runs::{USAGE, are_failures_reported, ends_over, output_of};
 use pc_common::{Memory, Status};
 use pc_ground::Front;
 use pipecheck_run::{front, gen_texts};
 use std::alloc::Global;
 use std::test::Fail;
-
-const USAGE: &str = "pipecheck: bad command line\n";
 
 const TWO_REPORTED: &str = "gen 2\nunobservable\nnodes 4\nsplits 2\nleaves 3\nend\n";
 

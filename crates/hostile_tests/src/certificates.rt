@@ -1,6 +1,6 @@
 //! Certificates that are made to break the judge: each beginning of one, a million splits, and one byte too many.
 use example_texts::{EITHER_ORDER, TWO_FORBIDDEN};
-use memory_runs::{ends_in, ends_over, hold_files, output_of, words};
+use memory_runs::{ends_in, ends_on, hold_files, output_of, words};
 use pc_common::{Bytes, Calls, Held, HeldFile, MemFiles, Memory, Status};
 use std::alloc::Global;
 use std::test::Fail;
@@ -12,19 +12,9 @@ fn is_refused(alloc: Global, text: &[u8], line: u64) -> Result<bool, Memory> {
     let Ok(text) = str::from_utf8(text) else {
         return Ok(false);
     };
-    let contents = &[
-        ("model", EITHER_ORDER),
-        ("test", TWO_FORBIDDEN),
-        ("certificate", text),
-    ];
+    let contents = &[EITHER_ORDER, TWO_FORBIDDEN, text];
     let answer = format!(in alloc; "certificate refused at line {line}\n")?;
-    ends_over(
-        alloc,
-        WORDS,
-        contents,
-        (&[], &[]),
-        (Status::CertRefused, &answer),
-    )
+    ends_on(alloc, WORDS, contents, (Status::CertRefused, &answer))
 }
 
 /// Whether each beginning of the text is refused at the line in which it ends.

@@ -1,6 +1,6 @@
 //! Models that `check` refuses, and models at a limit, by the written line.
 use example_texts::EMPTY;
-use memory_runs::{End, ends_over, join_pieces};
+use memory_runs::{End, ends_on, join_pieces};
 use pc_common::{Memory, Status};
 use std::alloc::Global;
 use std::test::Fail;
@@ -80,8 +80,7 @@ fn ends_with_the_empty_test(
     end: End<'_>,
 ) -> Result<bool, Memory> {
     let model = join_pieces(alloc, pieces)?;
-    let contents = &[("model", model.as_str()), ("test", EMPTY)];
-    ends_over(alloc, "check model test", contents, (&[], &[]), end)
+    ends_on(alloc, "check model test", &[model.as_str(), EMPTY], end)
 }
 
 #[test]

@@ -1,6 +1,6 @@
 //! Answers over 300 nodes: a body that gives `Memory` from some size on fails here.
 use example_texts::ONE;
-use memory_runs::ends_over;
+use memory_runs::ends_on;
 use pc_common::{Memory, Status};
 use std::alloc::Global;
 use std::test::Fail;
@@ -131,12 +131,15 @@ fn is_judged<'a>(
     text: &'a str,
     verified: (Status, &str),
 ) -> Result<bool, Memory> {
-    let files = &[("model", model), ("test", ONE)];
-    if !ends_over(alloc, command, files, (&[], &[]), (verified.0, text))? {
-        return Ok(false);
-    }
-    let files = &[("model", model), ("test", ONE), ("text", text)];
-    ends_over(alloc, "verify model test text", files, (&[], &[]), verified)
+    Ok(
+        ends_on(alloc, command, &[model, ONE], (verified.0, text))?
+            && ends_on(
+                alloc,
+                "verify model test text",
+                &[model, ONE, text],
+                verified,
+            )?,
+    )
 }
 
 /// The commands, and the third line of their refutations where there is one.

@@ -1,15 +1,14 @@
 //! Models and tests that are made to break their readers: long chains of macros, 200 names with a long one, 40,000
 //! edges of one axiom, and one micro-op too many.
 use example_texts::{EMPTY, ONE};
-use memory_runs::{End, ends_over, join_pieces};
+use memory_runs::{End, ends_on, join_pieces};
 use pc_common::{Memory, Status};
 use std::alloc::Global;
 use std::test::Fail;
 
 /// Whether the check of the two ends so.
 fn is_end(alloc: Global, model: &str, test: &str, end: End<'_>) -> Result<bool, Memory> {
-    let contents = &[("model", model), ("test", test)];
-    ends_over(alloc, "check model test", contents, (&[], &[]), end)
+    ends_on(alloc, "check model test", &[model, test], end)
 }
 
 /// How a macro of a chain expands the one before it.

@@ -1,6 +1,6 @@
 //! The command lift: a certificate of version 1 made into a lifted refutation, or refused at its line.
 use example_texts::{BOTH_ORDERS, EITHER_ORDER, EMPTY, ORDERED, SOME_OP, TWO, TWO_FORBIDDEN};
-use memory_runs::{Plan, are_failures_reported, ends_over, output_of};
+use memory_runs::{Plan, ThreeFiles, ends_on, first_unreported, first_wrong_of_three, output_of};
 use pc_common::{Memory, Status};
 use std::alloc::Global;
 use std::test::Fail;
@@ -45,13 +45,11 @@ fn is_verified<'a>(
     let Ok(text) = str::from_utf8(text) else {
         return Ok(false);
     };
-    let contents = &[("model", model), ("test", test), ("lifted", text)];
     let end = (Status::Unobservable, "verified unobservable\n");
-    ends_over(
+    ends_on(
         alloc,
         "verify-lifted model test lifted",
-        contents,
-        (&[], &[]),
+        &[model, test, text],
         end,
     )
 }
@@ -74,13 +72,7 @@ fn a_lifted_refutation_is_verified(rt: HostRuntime) -> Result<(), Fail> {
 }
 
 /// A model and a test, a text, and how the command ends.
-const ENDS: &[(
-    &'static str,
-    &'static str,
-    &'static str,
-    Status,
-    &'static str,
-)] = &[
+const ENDS: &[ThreeFiles<'static>] = &[
     // one axiom is refuted by one line, on the tree as on the axioms
     (
         SOME_OP,
@@ -145,18 +137,7 @@ const ENDS: &[(
 
 #[test]
 fn a_certificate_is_lifted_or_told(rt: HostRuntime) -> Result<(), Fail> {
-    for (model, test, certificate, status, text) in ENDS {
-        let contents = &[
-            ("model", *model),
-            ("test", *test),
-            ("certificate", *certificate),
-        ];
-        let end = (*status, *text);
-        assert!(rt;
-            ends_over(rt.alloc(), WORDS, contents, (&[], &[]), end)?,
-            "{certificate}"
-        );
-    }
+    assert_eq!(rt; first_wrong_of_three(rt.alloc(), WORDS, ENDS)?, None);
     Ok(())
 }
 
@@ -173,8 +154,6 @@ const PLANS: &[Plan<'static>] = &[(
 
 #[test]
 fn a_failed_call_cuts_lift_short(rt: HostRuntime) -> Result<(), Fail> {
-    for plan in PLANS {
-        assert!(rt; are_failures_reported(rt.alloc(), *plan)?, "{}", plan.2.1);
-    }
+    assert_eq!(rt; first_unreported(rt.alloc(), PLANS)?, None);
     Ok(())
 }

@@ -1,6 +1,8 @@
 //! The command verify-lifted: a text judged against a model and a test.
 use example_texts::{BOTH_ORDERS, EMPTY, SOME_OP, TWO_FORBIDDEN};
-use memory_runs::{Plan, are_failures_reported, ends_over};
+use memory_runs::{
+    Failed, Plan, ThreeFiles, USAGE, first_unreported, first_wrong_failure, first_wrong_of_three,
+};
 use pc_common::Status;
 use std::test::Fail;
 
@@ -9,13 +11,7 @@ const WORDS: &str = "verify-lifted model test certificate";
 const VERIFIED: &str = "verified unobservable\n";
 
 /// A model and a test, a text, and how the command ends.
-const ENDS: &[(
-    &'static str,
-    &'static str,
-    &'static str,
-    Status,
-    &'static str,
-)] = &[
+const ENDS: &[ThreeFiles<'static>] = &[
     (
         BOTH_ORDERS,
         TWO_FORBIDDEN,
@@ -101,29 +97,12 @@ const ENDS: &[(
 
 #[test]
 fn a_text_is_verified_or_refused_at_its_line(rt: HostRuntime) -> Result<(), Fail> {
-    for (model, test, certificate, status, text) in ENDS {
-        let contents = &[
-            ("model", *model),
-            ("test", *test),
-            ("certificate", *certificate),
-        ];
-        let end = (*status, *text);
-        assert!(rt;
-            ends_over(rt.alloc(), WORDS, contents, (&[], &[]), end)?,
-            "{certificate}"
-        );
-    }
+    assert_eq!(rt; first_wrong_of_three(rt.alloc(), WORDS, ENDS)?, None);
     Ok(())
 }
 
 /// Words, which call of the files and of the sink fails, and how the run ends.
-const EARLY: &[(
-    &'static str,
-    &'static [u64],
-    &'static [u64],
-    Status,
-    &'static str,
-)] = &[
+const EARLY: &[Failed<'static>] = &[
     (WORDS, &[], &[], Status::Unobservable, VERIFIED),
     // a name that is missing; a fault of the model or of the test is named before the third file is come to
     (
@@ -161,41 +140,28 @@ const EARLY: &[(
     // the answer is one piece
     (WORDS, &[], &[1], Status::WriteFault, ""),
     (WORDS, &[], &[2], Status::Unobservable, VERIFIED),
-    (
-        "verify-lifted model test",
-        &[1],
-        &[],
-        Status::Usage,
-        "pipecheck: bad command line\n",
-    ),
+    ("verify-lifted model test", &[1], &[], Status::Usage, USAGE),
     (
         "Verify-lifted model test certificate",
         &[1],
         &[],
         Status::Usage,
-        "pipecheck: bad command line\n",
+        USAGE,
     ),
 ];
 
 #[test]
 fn a_run_that_ends_early_says_why(rt: HostRuntime) -> Result<(), Fail> {
-    for (command, read_fails, write_fails, status, text) in EARLY {
-        let contents = &[
-            ("model", SOME_OP),
-            ("test", EMPTY),
-            (
-                "certificate",
-                "unobservable\ntest unstated\nlifted\nfalse 0\nend\n",
-            ),
-            ("bad", "t"),
-        ];
-        let end = (*status, *text);
-        let fails = (*read_fails, *write_fails);
-        assert!(rt;
-            ends_over(rt.alloc(), command, contents, fails, end)?,
-            "{command}: {text}"
-        );
-    }
+    let contents = &[
+        ("model", SOME_OP),
+        ("test", EMPTY),
+        (
+            "certificate",
+            "unobservable\ntest unstated\nlifted\nfalse 0\nend\n",
+        ),
+        ("bad", "t"),
+    ];
+    assert_eq!(rt; first_wrong_failure(rt.alloc(), contents, EARLY)?, None);
     Ok(())
 }
 
@@ -215,8 +181,6 @@ const PLANS: &[Plan<'static>] = &[(
 fn a_failed_read_writes_nothing_and_a_failed_write_cuts_the_line(
     rt: HostRuntime,
 ) -> Result<(), Fail> {
-    for plan in PLANS {
-        assert!(rt; are_failures_reported(rt.alloc(), *plan)?, "{}", plan.2.1);
-    }
+    assert_eq!(rt; first_unreported(rt.alloc(), PLANS)?, None);
     Ok(())
 }

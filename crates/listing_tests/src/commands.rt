@@ -3,7 +3,10 @@ use example_texts::{
     IN_ORDER, LAST_WRITE, LISTED_AS_FORBIDDEN, LISTED_STORE_BUFFERING, LISTED_WITH_AN_OPEN_LOAD,
     STORE_BUFFER,
 };
-use memory_runs::{Plan, are_failures_reported, ends_over};
+use memory_runs::{
+    Failed, Plan, ThreeFiles, TwoFiles, USAGE, first_unreported, first_wrong_failure,
+    first_wrong_of_three, first_wrong_of_two,
+};
 use pc_common::Status;
 use std::test::Fail;
 
@@ -65,7 +68,7 @@ Axiom \"fence\": forall microops \"i\", AccessType MFENCE i => AddEdge ((i, S), 
 ";
 
 /// A model and a listing, and how a check of them ends.
-const CHECKS: &[(&'static str, &'static str, Status, &'static str)] = &[
+const CHECKS: &[TwoFiles<'static>] = &[
     (
         STORE_BUFFER,
         LISTED_STORE_BUFFERING,
@@ -178,31 +181,15 @@ const CHECKS: &[(&'static str, &'static str, Status, &'static str)] = &[
 
 #[test]
 fn a_check_ends_with_its_status_and_its_text(rt: HostRuntime) -> Result<(), Fail> {
-    for (model, listing, status, text) in CHECKS {
-        let contents = &[("model", *model), ("listing", *listing)];
-        let end = (*status, *text);
-        assert!(rt;
-            ends_over(
-                rt.alloc(),
-                "check86 model listing",
-                contents,
-                (&[], &[]),
-                end
-            )?,
-            "{text}"
-        );
-    }
+    assert_eq!(rt;
+        first_wrong_of_two(rt.alloc(), "check86 model listing", CHECKS)?,
+        None
+    );
     Ok(())
 }
 
 /// A model, a listing and a text, and how a verify of them ends.
-const VERIFIES: &[(
-    &'static str,
-    &'static str,
-    &'static str,
-    Status,
-    &'static str,
-)] = &[
+const VERIFIES: &[ThreeFiles<'static>] = &[
     (
         STORE_BUFFER,
         LISTED_STORE_BUFFERING,
@@ -244,37 +231,15 @@ const VERIFIES: &[(
 
 #[test]
 fn a_text_is_verified_or_refused_at_its_line(rt: HostRuntime) -> Result<(), Fail> {
-    for (model, listing, certificate, status, text) in VERIFIES {
-        let contents = &[
-            ("model", *model),
-            ("listing", *listing),
-            ("text", *certificate),
-        ];
-        let end = (*status, *text);
-        assert!(rt;
-            ends_over(
-                rt.alloc(),
-                "verify86 model listing text",
-                contents,
-                (&[], &[]),
-                end
-            )?,
-            "{text}"
-        );
-    }
+    assert_eq!(rt;
+        first_wrong_of_three(rt.alloc(), "verify86 model listing text", VERIFIES)?,
+        None
+    );
     Ok(())
 }
 
-const USAGE: &str = "pipecheck: bad command line\n";
-
 /// Words, which call of the files and of the sink fails, and how the run ends.
-const ENDS: &[(
-    &'static str,
-    &'static [u64],
-    &'static [u64],
-    Status,
-    &'static str,
-)] = &[
+const ENDS: &[Failed<'static>] = &[
     // a name that is missing
     ("check86 none listing", &[], &[], Status::ReadFault, ""),
     ("check86 model none", &[], &[], Status::ReadFault, ""),
@@ -340,20 +305,13 @@ const ENDS: &[(
 
 #[test]
 fn a_run_that_ends_early_says_why(rt: HostRuntime) -> Result<(), Fail> {
-    for (command, read_fails, write_fails, status, text) in ENDS {
-        let contents = &[
-            ("model", STORE_BUFFER),
-            ("listing", LISTED_STORE_BUFFERING),
-            ("text", SAW_NEITHER),
-            ("bad", "t"),
-        ];
-        let end = (*status, *text);
-        let fails = (*read_fails, *write_fails);
-        assert!(rt;
-            ends_over(rt.alloc(), command, contents, fails, end)?,
-            "{command}: {text}"
-        );
-    }
+    let contents = &[
+        ("model", STORE_BUFFER),
+        ("listing", LISTED_STORE_BUFFERING),
+        ("text", SAW_NEITHER),
+        ("bad", "t"),
+    ];
+    assert_eq!(rt; first_wrong_failure(rt.alloc(), contents, ENDS)?, None);
     Ok(())
 }
 
@@ -373,8 +331,6 @@ const PLANS: &[Plan<'static>] = &[(
 fn a_failed_read_writes_nothing_and_a_failed_write_cuts_the_line(
     rt: HostRuntime,
 ) -> Result<(), Fail> {
-    for plan in PLANS {
-        assert!(rt; are_failures_reported(rt.alloc(), *plan)?, "{}", plan.2.1);
-    }
+    assert_eq!(rt; first_unreported(rt.alloc(), PLANS)?, None);
     Ok(())
 }

@@ -2,7 +2,7 @@
 ghost use Rattle.std.specs.Prelude.{◌<◌};
 
 use super::outside::{files, sink};
-use super::runs::{End, words};
+use super::runs::{End, name_contents, words};
 use pc_common::{MemFiles, MemSink, Memory, Status};
 use std::alloc::Global;
 use top_call::run;
@@ -154,19 +154,6 @@ fn is_cut_short_by_each_step(
         is_cut_short_by_each(alloc, whole, pieces)?
             && is_cut_short_by_each(alloc, by_bytes, end.1.len() as u64)?,
     )
-}
-
-/// The words after the first, each with what the file of that name holds.
-fn name_contents<'a>(
-    alloc: Global,
-    words: &'a [String],
-    contents: &[&'a str],
-) -> Result<Vec<(&'a str, &'a str)>, Memory> {
-    let mut named = Vec::new(alloc);
-    for (word, content) in words.iter().skip(1).zip(contents) {
-        named.push((word.as_str(), *content))?;
-    }
-    Ok(named)
 }
 
 /// Whether each call that the command makes of the files and of the sink cuts it short where it fails, both where a

@@ -6,9 +6,14 @@
 mod failing;
 mod outside;
 mod runs;
+mod tables;
 mod texts;
 
 pub use failing::{Plan, are_failures_reported};
 pub use outside::{calls, files, hold_files, sink};
-pub use runs::{End, ends_in, ends_over, output_of, words};
+pub use runs::{End, ends_in, ends_on, ends_over, output_of, words};
+pub use tables::{
+    Failed, ThreeFiles, TwoFiles, USAGE, first_other_of_three, first_other_of_two, first_taken,
+    first_unreported, first_wrong_failure, first_wrong_of_three, first_wrong_of_two,
+};
 pub use texts::join_pieces;

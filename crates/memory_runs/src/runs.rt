@@ -18,6 +18,19 @@ pub fn words(alloc: Global, command: &str) -> Result<Vec<String>, Memory> {
     Ok(words)
 }
 
+/// The words after the first, each with what the file of that name holds.
+pub(crate) fn name_contents<'a>(
+    alloc: Global,
+    words: &'a [String],
+    contents: &[&'a str],
+) -> Result<Vec<(&'a str, &'a str)>, Memory> {
+    let mut named = Vec::new(alloc);
+    for (word, content) in words.iter().skip(1).zip(contents) {
+        named.push((word.as_str(), *content))?;
+    }
+    Ok(named)
+}
+
 /// Whether the run ends so.
 fn ends(
     alloc: Global,
@@ -53,6 +66,19 @@ pub fn ends_over(
     let words = words(alloc, command)?;
     let mut files = files(alloc, contents, fails.0)?;
     ends_in(alloc, &words, &mut files, fails.1, end)
+}
+
+/// The same over files that hold these, in the order in which the command's words name them. No call fails.
+pub fn ends_on(
+    alloc: Global,
+    command: &str,
+    contents: &[&str],
+    end: End<'_>,
+) -> Result<bool, Memory> {
+    let words = words(alloc, command)?;
+    let contents = name_contents(alloc, &words, contents)?;
+    let mut files = files(alloc, &contents, &[])?;
+    ends_in(alloc, &words, &mut files, &[], end)
 }
 
 /// What the command writes over files of these names and contents.

@@ -1,10 +1,10 @@
 //! How the command ends without rows: words, faults of the model, and calls that fail.
 use example_texts::{ORDERED, TWO};
-use memory_runs::{Plan, are_failures_reported, ends_over};
+use memory_runs::{
+    Failed, Plan, USAGE, first_other_of_two, first_taken, first_unreported, first_wrong_failure,
+};
 use pc_common::Status;
 use std::test::Fail;
-
-const USAGE: &str = "pipecheck: bad command line\n";
 
 const NO_COMMANDS: &[&'static str] = &[
     "sweep",
@@ -17,14 +17,7 @@ const NO_COMMANDS: &[&'static str] = &[
 
 #[test]
 fn words_of_no_command_are_told_so(rt: HostRuntime) -> Result<(), Fail> {
-    for command in NO_COMMANDS {
-        let contents = &[("model", ORDERED), ("test", TWO)];
-        let end = (Status::Usage, USAGE);
-        assert!(rt;
-            ends_over(rt.alloc(), command, contents, (&[], &[]), end)?,
-            "{command}"
-        );
-    }
+    assert_eq!(rt; first_taken(rt.alloc(), NO_COMMANDS)?, None);
     Ok(())
 }
 
@@ -44,26 +37,14 @@ const REFUSED: &[(&'static str, &'static str, &'static str)] = &[
 
 #[test]
 fn a_fault_of_the_model_comes_first(rt: HostRuntime) -> Result<(), Fail> {
-    for (model, pattern, text) in REFUSED {
-        let contents = &[("model", *model), ("test", *pattern)];
-        let end = (Status::Refused, *text);
-        assert!(rt;
-            ends_over(rt.alloc(), "sweep model test", contents, (&[], &[]), end)?,
-            "{text}"
-        );
-    }
+    let wrong = first_other_of_two(rt.alloc(), "sweep model test", Status::Refused, REFUSED)?;
+    assert_eq!(rt; wrong, None);
     Ok(())
 }
 
 /// The command, the calls of the files and of the sink that fail, and how it ends over the files `model` and
 /// `test`.
-const FAILS: &[(
-    &'static str,
-    &'static [u64],
-    &'static [u64],
-    Status,
-    &'static str,
-)] = &[
+const FAILS: &[Failed<'static>] = &[
     ("sweep none test", &[], &[], Status::ReadFault, ""),
     ("sweep model none", &[], &[], Status::ReadFault, ""),
     ("sweep model test", &[1], &[], Status::ReadFault, ""),
@@ -77,15 +58,8 @@ const FAILS: &[(
 
 #[test]
 fn a_failed_call_is_told_by_the_status(rt: HostRuntime) -> Result<(), Fail> {
-    for (command, read_fails, write_fails, status, text) in FAILS {
-        let contents = &[("model", ORDERED), ("test", TWO)];
-        let end = (*status, *text);
-        let fails = (*read_fails, *write_fails);
-        assert!(rt;
-            ends_over(rt.alloc(), command, contents, fails, end)?,
-            "{command}: {text}"
-        );
-    }
+    let contents = &[("model", ORDERED), ("test", TWO)];
+    assert_eq!(rt; first_wrong_failure(rt.alloc(), contents, FAILS)?, None);
     Ok(())
 }
 
@@ -104,8 +78,6 @@ const PLANS: &[Plan<'static>] = &[(
 fn a_failed_read_writes_nothing_and_a_failed_write_cuts_the_text(
     rt: HostRuntime,
 ) -> Result<(), Fail> {
-    for plan in PLANS {
-        assert!(rt; are_failures_reported(rt.alloc(), *plan)?, "{}", plan.2.1);
-    }
+    assert_eq!(rt; first_unreported(rt.alloc(), PLANS)?, None);
     Ok(())
 }

@@ -1,5 +1,5 @@
 //! The faults of patterns, which are those of tests, at the same places.
-use memory_runs::ends_over;
+use memory_runs::ends_on;
 use pc_common::Status;
 use std::test::Fail;
 
@@ -72,10 +72,10 @@ Microop 0 0 0 0 (Read (VA 0 0) (PA 0 0) (Data Any)).
 #[test]
 fn a_pattern_has_the_faults_of_a_test(rt: HostRuntime) -> Result<(), Fail> {
     for (pattern, text) in REFUSED {
-        let contents = &[("model", ""), ("test", *pattern)];
         let end = (Status::Refused, *text);
+        let contents = &["", *pattern];
         assert!(rt;
-            ends_over(rt.alloc(), "sweep model test", contents, (&[], &[]), end)?,
+            ends_on(rt.alloc(), "sweep model test", contents, end)?,
             "{text}"
         );
     }

@@ -1,5 +1,5 @@
 //! Many open reads: how many rows they have, and when these are too many.
-use memory_runs::{calls, ends_over, files, words};
+use memory_runs::{calls, ends_on, files, words};
 use pc_common::{MemFiles, MemSink, Memory, Status};
 use std::alloc::Global;
 use std::test::Fail;
@@ -118,9 +118,12 @@ const TOO_MANY: &[(&'static str, u32, &'static str, &'static str)] = &[
 
 /// Whether a sweep of the pattern, with a model without axioms, is refused so.
 fn is_refused(alloc: Global, pattern: &str, text: &str) -> Result<bool, Memory> {
-    let contents: &[(&str, &str)] = &[("model", ""), ("test", pattern)];
-    let end = (Status::Refused, text);
-    ends_over(alloc, "sweep model test", contents, (&[], &[]), end)
+    ends_on(
+        alloc,
+        "sweep model test",
+        &["", pattern],
+        (Status::Refused, text),
+    )
 }
 
 #[test]

@@ -1,6 +1,6 @@
 //! Which rows are observable.
 use example_texts::{EMPTY, IN_ORDER, ORDERED, SOME_OP, STORE_BUFFER, TWO};
-use memory_runs::ends_over;
+use memory_runs::first_other_of_two;
 use pc_common::Status;
 use std::test::Fail;
 
@@ -97,13 +97,7 @@ const SWEEPS: &[(&'static str, &'static str, &'static str)] = &[
 
 #[test]
 fn each_row_has_its_verdict(rt: HostRuntime) -> Result<(), Fail> {
-    for (model, pattern, text) in SWEEPS {
-        let contents = &[("model", *model), ("test", *pattern)];
-        let end = (Status::Done, *text);
-        assert!(rt;
-            ends_over(rt.alloc(), "sweep model test", contents, (&[], &[]), end)?,
-            "{text}"
-        );
-    }
+    let wrong = first_other_of_two(rt.alloc(), "sweep model test", Status::Done, SWEEPS)?;
+    assert_eq!(rt; wrong, None);
     Ok(())
 }

@@ -1,5 +1,5 @@
 //! The values of open reads: which they are, each once, and in which order the rows have them.
-use memory_runs::ends_over;
+use memory_runs::ends_on;
 use pc_common::Status;
 use std::test::Fail;
 
@@ -134,10 +134,10 @@ end
 #[test]
 fn open_reads_have_their_values(rt: HostRuntime) -> Result<(), Fail> {
     for (pattern, text) in VALUES {
-        let contents = &[("model", ""), ("test", *pattern)];
         let end = (Status::Done, *text);
+        let contents = &["", *pattern];
         assert!(rt;
-            ends_over(rt.alloc(), "sweep model test", contents, (&[], &[]), end)?,
+            ends_on(rt.alloc(), "sweep model test", contents, end)?,
             "{text}"
         );
     }
