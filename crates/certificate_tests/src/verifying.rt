@@ -15,13 +15,17 @@ const REFUTATION_VERIFIED: End<'static> = (Status::Unobservable, "verified unobs
 const GRAPH_VERIFIED: End<'static> = (Status::Observable, "verified observable\n");
 
 /// Whether verify names this line as the refused one.
-fn is_refused_at(alloc: Global, contents: &[&str], line: u64) -> Result<bool, Memory> {
+fn is_refused_at<'a>(alloc: Global, contents: &'a [&'a str], line: u64) -> Result<bool, Memory> {
     let text = format!(in alloc; "certificate refused at line {line}\n")?;
     ends_on(alloc, WORDS, contents, (Status::CertRefused, &text))
 }
 
 /// Whether verify answers so to a model, a test and a text.
-fn is_answered(alloc: Global, contents: &[&str], checked: Checked) -> Result<bool, Memory> {
+fn is_answered<'a>(
+    alloc: Global,
+    contents: &'a [&'a str],
+    checked: Checked,
+) -> Result<bool, Memory> {
     match checked {
         Checked::Observable => ends_on(alloc, WORDS, contents, GRAPH_VERIFIED),
         Checked::Unobservable => ends_on(alloc, WORDS, contents, REFUTATION_VERIFIED),

@@ -69,10 +69,10 @@ pub fn ends_over(
 }
 
 /// The same over files that hold these, in the order in which the command's words name them. No call fails.
-pub fn ends_on(
+pub fn ends_on<'a>(
     alloc: Global,
     command: &str,
-    contents: &[&str],
+    contents: &'a [&'a str],
     end: End<'_>,
 ) -> Result<bool, Memory> {
     let words = words(alloc, command)?;
