@@ -13,6 +13,7 @@ one way:
     verdict  searching.py   some world makes the tree true, or none does
     text     positions.py   the tree with numbered positions
              answering.py   the program's own choices in the search, which give the certificate
+             conflicts.py   what such a search learns of its failures
     judge    evaluating.py  the written axioms, evaluated in a given world, without the tree
              judging.py     a certificate, line by line
              lifted.py      a lifted refutation, line by line, on the axioms as they are written

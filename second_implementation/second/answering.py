@@ -9,15 +9,17 @@ which refutation. The choices are these.
    ends of a denied edge, the first denied one of several. A chain is a shortest one, and of several, read from their
    start, the one with the lowest node number where they first differ.
 3. A pending disjunction is a candidate where the world of the asserted literals does not make it true. The first
-   candidate in position order is split that has a member which clashes by itself; where there is none, the first
-   candidate. The left member is searched first. Without a candidate the outcome is observable.
+   candidate in position order is split that has a member which clashes by itself; where there is none, the one that
+   failures ask for (`conflicts.py`), and before any failure the first. A failure that is replayed comes before all of
+   this. The left member is searched first. Without a candidate the outcome is observable.
 
 In version 2 positions have signs, as in `judging.py`. The right side of a split asserts first that the left member does not
 hold, in the trials of rule 3 too. A denied conjunction is a choice as a disjunction is one, and a candidate where the world
-makes it true.
+makes it true. A candidate both of whose sides clash comes before one with one such side.
 """
 from dataclasses import dataclass
 
+from .conflicts import Failures
 from .judging import Signed
 from .positions import Inner, Leaf, Positions
 
@@ -49,28 +51,30 @@ def answer(positions: Positions, version: int = 1) -> Graph | list[Step]:
     steps: list[Step] = []
     # the right sides of the splits above, the nearest one last
     waiting: list[tuple[Branch, list[Signed]]] = []
+    failures = Failures()
     branch = Branch(positions, version)
-    clash = branch.assert_side([(0, False)])
+    clash = branch.assert_side([(0, False)], 0)
     while True:
         if clash is not None:
             steps.append(clash)
             if not waiting:
                 return steps
+            failures.learn(branch.levels_of(clash))
             branch, side = waiting.pop()
-            clash = branch.assert_side(side)
+            clash = branch.assert_side(side, failures.level)
             continue
-        chosen = branch.candidate()
+        chosen = branch.choice(failures)
         if chosen is None:
             return branch.graph()
         steps.append(chosen)
-        branch.pending.remove(chosen)
+        failures.split(chosen, branch.pending.pop(chosen))
         left, right = branch.sides(chosen)
         waiting.append((branch.copy(), right))
-        clash = branch.assert_side(left)
+        clash = branch.assert_side(left, failures.level)
 
 
 class Branch:
-    """What is asserted on a branch, and the order that it generates; sets of nodes are bit sets."""
+    """What is asserted on a branch, at which levels, and the order that it generates; sets of nodes are bit sets."""
 
     def __init__(self, positions: Positions, version: int) -> None:
         self.positions = positions
@@ -79,17 +83,20 @@ class Branch:
         self.before = [0] * len(positions.nodes)
         self.present = 0
         self.absent = 0
-        self.denied: list[tuple[int, int]] = []
-        self.edges: dict[tuple[int, int], None] = {}
-        self.pending: list[Signed] = []
+        # denied edges and edges with the levels at which they were asserted first, and nodes with the level of what says
+        # first whether they are there
+        self.denied: dict[tuple[int, int], int] = {}
+        self.edges: dict[tuple[int, int], int] = {}
+        self.told: dict[int, int] = {}
+        self.pending: dict[Signed, int] = {}
 
     def copy(self) -> "Branch":
         """A branch that begins with all of this one."""
         other = Branch(self.positions, self.version)
         other.after, other.before = self.after[:], self.before[:]
         other.present, other.absent = self.present, self.absent
-        other.denied, other.edges = self.denied[:], dict(self.edges)
-        other.pending = self.pending[:]
+        other.denied, other.edges, other.told = dict(self.denied), dict(self.edges), dict(self.told)
+        other.pending = dict(self.pending)
         return other
 
     def graph(self) -> Graph:
@@ -105,38 +112,39 @@ class Branch:
         not_left = [(row.left, not is_denied)] if self.version == 2 else []
         return [(row.left, is_denied)], [*not_left, (row.right, is_denied)]
 
-    def assert_side(self, side: list[Signed]) -> Clash | None:
-        """Asserts all that these positions assert, in preorder, up to the first clash."""
+    def assert_side(self, side: list[Signed], level: int) -> Clash | None:
+        """Asserts all that these positions assert, in preorder, at this level, up to the first clash."""
         waiting = side[::-1]
         while waiting:
             here, is_denied = waiting.pop()
             row = self.positions.rows[here]
             if isinstance(row, Leaf):
-                clash = self.assert_literal(Leaf(row.start, row.end, row.wanted is not is_denied))
+                clash = self.assert_literal(Leaf(row.start, row.end, row.wanted is not is_denied), level)
                 if clash is not None:
                     return clash
             elif row.is_disjunction is not is_denied:
-                self.pending.append((here, is_denied))
+                self.pending[here, is_denied] = level
             else:
                 waiting += [(row.right, is_denied), (row.left, is_denied)]
         return None
 
-    def assert_literal(self, leaf: Leaf) -> Clash | None:
+    def assert_literal(self, leaf: Leaf, level: int) -> Clash | None:
         """Asserts a literal, where it does not clash."""
         if leaf.end is None:
-            return self.assert_node(leaf)
+            return self.assert_node(leaf, level)
         clash = self.clash_of_edge(leaf.start, leaf.end, leaf.wanted)
         if clash is None and leaf.wanted:
-            self.join(leaf.start, leaf.end)
+            self.join(leaf.start, leaf.end, level)
         elif clash is None:
-            self.denied.append((leaf.start, leaf.end))
+            self.denied.setdefault((leaf.start, leaf.end), level)
         return clash
 
-    def assert_node(self, leaf: Leaf) -> Clash | None:
+    def assert_node(self, leaf: Leaf, level: int) -> Clash | None:
         """Asserts that a node is there, or that it is not."""
         against = self.absent if leaf.wanted else self.present
         if against >> leaf.start & 1:
             return Clash("absent", [leaf.start])
+        self.told.setdefault(leaf.start, level)
         if leaf.wanted:
             self.present |= 1 << leaf.start
         else:
@@ -159,9 +167,21 @@ class Branch:
                 return Clash("path", self.chain(first, start) + self.chain(end, last))
         return None
 
-    def join(self, start: int, end: int) -> None:
+    def levels_of(self, clash: Clash) -> set[int]:
+        """The levels of the literals that clash, but for that of the one that was not asserted."""
+        if clash.word == "absent":
+            return {self.told[clash.nodes[0]]} if clash.nodes[0] in self.told else set()
+        chain = list(zip(clash.nodes, clash.nodes[1:]))
+        ends = clash.nodes[0], clash.nodes[-1]
+        if clash.word == "path":
+            return {self.edges[edge] for edge in chain if edge in self.edges} | {self.denied.get(ends, 0)}
+        return {self.edges[edge] for edge in [*chain, ends[::-1]] if edge in self.edges}
+
+    def join(self, start: int, end: int, level: int) -> None:
         """Puts the end, and all after it, after the start and all before it."""
-        self.edges.setdefault((start, end))
+        self.edges.setdefault((start, end), level)
+        self.told.setdefault(start, level)
+        self.told.setdefault(end, level)
         self.present |= 1 << start | 1 << end
         earlier, later = self.before[start] | 1 << start, self.after[end] | 1 << end
         for node in range(len(self.after)):
@@ -198,12 +218,24 @@ class Branch:
 
     def clashes(self, side: list[Signed]) -> bool:
         """Whether asserting a side alone closes the branch."""
-        return self.copy().assert_side(side) is not None
+        return self.copy().assert_side(side, 0) is not None
 
-    def candidate(self) -> Signed | None:
+    def is_candidate(self, choice: Signed) -> bool:
+        """Whether a pending choice is not decided by the world of the asserted literals."""
+        return choice in self.pending and self.is_true(choice[0]) is choice[1]
+
+    def choice(self, failures: Failures) -> Signed | None:
         """The choice that is split next; None where none is a candidate."""
-        candidates = [choice for choice in sorted(self.pending) if self.is_true(choice[0]) is choice[1]]
+        if failures.guide is not None and self.is_candidate(failures.guide.choice):
+            return failures.guide.choice
+        candidates = [choice for choice in sorted(self.pending) if self.is_candidate(choice)]
+        one_sided = None
         for choice in candidates:
-            if any(self.clashes(side) for side in self.sides(choice)):
+            closed = [self.clashes(side) for side in self.sides(choice)]
+            if all(closed) or (self.version == 1 and any(closed)):
                 return choice
-        return candidates[0] if candidates else None
+            if any(closed) and one_sided is None:
+                one_sided = choice
+        if one_sided is not None:
+            return one_sided
+        return failures.newest(candidates) if candidates else None
