@@ -13,6 +13,7 @@ from second.answers import AnswerRefused, Core, read_answer
 from second.explaining_files import contents
 from second.models import Axiom
 from second.naming import line_and_column
+from second.quoting import shown
 from second.scopes import read_model
 from second.standard_output import FAILED, status_of
 from second.tokens import Fault, tokens
@@ -26,13 +27,13 @@ def of_core(model_path: str, answer_path: str) -> Iterator[str]:
     axioms: list[Axiom] = model.axioms
     for number in answer.kept or [] if isinstance(answer, Core) else []:
         place = line_and_column(text, axioms[number].at)
-        yield f'{model_path}:{place}: axiom {number}: "{axioms[number].title}"'
+        yield f'{shown(model_path)}:{place}: axiom {number}: "{axioms[number].title}"'
 
 
 def of_query(model_path: str, query_path: str) -> Iterator[str]:
     """What the query is in both models."""
     number, query = len(read_model(contents(model_path)).axioms), contents(query_path)
-    place = f"{query_path}:{line_and_column(query, tokens(query)[0].at)}"
+    place = f"{shown(query_path)}:{line_and_column(query, tokens(query)[0].at)}"
     yield f"{place}: axiom {number} of `with`: the query"
     yield f"{place}: axiom {number} of `against`: the denial of the query"
 

@@ -16,15 +16,15 @@
     pipecheck_second.py smt MODEL TEST           the question for an SMT solver
 
 The modules are in second/. All text goes to standard output, in the lines and with the exit statuses that the program
-has: 0 observable, 1 unobservable, 2 words that are no command, 3 a file with a fault, 4 a file that cannot be read, 6
-a refused certificate; of `core` and `ask` 0 where no file has a fault. The verdict of `check`, `check2` and `check86`
+has: 0 observable, 1 unobservable, 2 words that are no command, 3 a file with a fault, 4 a file that cannot be read, 5
+standard output that fails, 6 a refused certificate; of `core` and `ask` 0 where no file has a fault; and 125 where this
+program itself fails, say since two ways to a verdict do not agree. The verdict of `check`, `check2` and `check86`
 is found in two ways, by a search of its own and by one that makes the program's choices and gives the text;
 they have to agree, and the certificate is judged before it is written. So is each certificate of `core` and of `ask`.
 `verify` and `verify86` judge certificates of version 1 and of version 2; `verify-lifted` judges lifted refutations, on
 the axioms as they are written. `sweep` ends with 0 and takes its own search alone; the witness of an
 observable row is judged by the written axioms.
 """
-import signal
 import sys
 from typing import Callable, TextIO, TypeVar
 
@@ -47,6 +47,7 @@ from second.scopes import read_model
 from second.searching import search
 from second.shortening import shortened
 from second.smtlib import write_smtlib
+from second.standard_output import status_of
 from second.tokens import Fault
 
 Read = TypeVar("Read", Model, Case, Pattern)
@@ -261,7 +262,4 @@ def run(words: list[str], out: TextIO) -> int:
 
 
 if __name__ == "__main__":
-    sys.setrecursionlimit(20_000)
-    # a reader that goes away ends this program quietly, as other filters do
-    signal.signal(signal.SIGPIPE, signal.SIG_DFL)
-    sys.exit(run(sys.argv[1:], sys.stdout))
+    sys.exit(status_of(lambda *words: run(list(words), sys.stdout), sys.argv[1:]))

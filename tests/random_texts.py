@@ -1,4 +1,4 @@
-"""Random models, tests, queries and certificates, and changes of them, for tests/hostile.
+"""Random models, tests, queries and certificates, and changes of them, for tests/hostile and others.
 
 What is made here is well-formed, and may mean anything. A change may spoil a text or not: what the answer has to be is
 said by the second implementation, which reads the changed text too. Rewritings of certificates keep them right.
@@ -31,7 +31,9 @@ PREDICATES = {
     SameVirtualTag SamePhysicalTag SameIndex SameData EntryOf MapsTagOf""".split(),
     [OP, OP],
 )
-NUMBERS = ("0", "1", "2", "00", "63", "64", "65", "007", "18446744073709551615", "18446744073709551616", "9" * 40)
+NUMBERS = (
+    "0", "1", "2", "00", "63", "64", "65", "0" * 5_000 + "7", "18446744073709551615", "18446744073709551616", "9" * 5_000
+)
 PIECE = re.compile(rb'\s+|"[^"\n]*"|[A-Za-z0-9_\']+|/\\|\\/|=>|->|.', re.DOTALL)
 
 # the variables in scope, each with what it stands for

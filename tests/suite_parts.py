@@ -24,13 +24,14 @@ sys.path[0] = os.path.join(TOP, "second_implementation")
 
 # pylint: disable=wrong-import-position
 from second.memory_models import memory_model_of
+from second.quoting import quoted
 from second.scopes import read_model
 from suite.axioms import without
 from suite.files import File, model_file, test_file
 from suite.keeping import Folder, State, write_anew
 from suite.pairs import Found
 from suite.programs import command_of
-from suite.refusing import Refusal, quoted
+from suite.refusing import Refusal
 from suite.tables import table_of_models
 
 SUITE = os.path.join(TOP, "examples", "suite")

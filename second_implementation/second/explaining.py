@@ -58,7 +58,7 @@ def key(case: Case, names: Names) -> Iterator[str]:
         else:
             doing = f"{op.access.lower()}s {names.page(op.pa)} = {op.value}{f' ({types[1:]})' if types else ''}"
         yield f"  {names.microop(k)} core {op.core} {doing}"
-    for kind, start, end in sorted(case.dependencies, key=lambda one: one[1:]):
+    for kind, start, end in sorted(case.dependencies, key=lambda one: (*one[1:], one[0])):
         yield f"  {kind} dependency from {names.microop(start)} to {names.microop(end)}"
     for word, values in (("at the start", case.initial), ("at the end", case.final)):
         for page, value in values.items():

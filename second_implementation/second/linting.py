@@ -82,7 +82,8 @@ class Linter:
         yield from self.bindings.model_slips()
         yield from stage_slips(self.path, self.model, self.asked.bodies)
         yield from missing_names(self.path, self.asked, self.tests, self.meant)
-        yield from self.idle.true_slips([*self.cases, *self.made])
+        if self.made:
+            yield from self.idle.true_slips([*self.cases, *self.made])
         if not self.tests:
             yield from self.free_nodes.of_made(self.made)
 
@@ -113,7 +114,8 @@ class Linter:
         yield from query_edge_slips(query.path, self.model, query.formula)
         yield from self.bindings.query_slips(query.path, query.formula)
         yield from query_stage_slips(query.path, query.formula, self.asked.bodies)
-        yield from self.idle.query_slips(query, [*self.cases, *self.made])
+        if self.made:
+            yield from self.idle.query_slips(query, [*self.cases, *self.made])
 
 
 def test_slips(test: TestFile) -> Iterator[Slip]:

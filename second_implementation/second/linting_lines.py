@@ -3,6 +3,8 @@ import re
 from bisect import bisect_right
 from functools import lru_cache
 
+from .quoting import shown
+
 
 @lru_cache(maxsize=None)
 def line_starts(text: bytes) -> list[int]:
@@ -14,4 +16,4 @@ def line_of(path: str, text: bytes, at: int, rest: str) -> str:
     """A line about a place, which is a number of bytes."""
     starts = line_starts(text)
     line = bisect_right(starts, at)
-    return f"{path}:{line}:{at - starts[line - 1] + 1}: {rest}"
+    return f"{shown(path)}:{line}:{at - starts[line - 1] + 1}: {rest}"

@@ -16,6 +16,8 @@ ENTRY_PREDICATES = {"EntryOf", "MapsTagOf", "MarkedAccessed", "MarkedDirty"}
 DEPENDENTS = {"addr": {"Read", "Write"}, "data": {"Write"}, "ctrl": {"Read", "Write", "Fence"}}
 # with more of them the micro-ops of one instruction have the same types, or one of them has none
 MOST_TYPES_IN_PAIRS = 12
+# for a model that asks for more types, or for more kinds of dependencies, no test is made
+MOST_NAMES = 256
 
 Types = frozenset[str]
 PLAIN: Types = frozenset()
@@ -36,7 +38,9 @@ Choice = TypeVar("Choice")
 
 def made_tests(asked: Asked) -> list[Case]:
     """The tests for what a model asks: each has accesses without a type, two instructions of one micro-op and one of
-    several, until each of these stood in two tests."""
+    several, until each of these stood in two tests. There are none for more names than MOST_NAMES."""
+    if max(len(asked.types), len(asked.kinds)) > MOST_NAMES:
+        return []
     source = random.Random(0)
     types = type_sets(asked)
     singles = [(Part(access, names),) for access in ("Read", "Write", "Fence") for names in types]

@@ -61,7 +61,7 @@ def unless_meant(meant: Meant, found: Iterable[Slip]) -> Iterator[Slip]:
 
 def word_of(title: str) -> str:
     """The title of an axiom as one word of a comment."""
-    return title.replace(" ", "-")
+    return re.sub("[ ,*]", "-", title)
 
 
 def counted(count: int, noun: str) -> str:

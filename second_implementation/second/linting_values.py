@@ -29,7 +29,7 @@ def value_slips(test: TestFile) -> Iterator[Slip]:
         elif isinstance(item, ValueItem) and item.word == "Final" and (item.pa, item.value) not in writes:
             # without a write the value at the start stays
             if item.pa in pages or test.case.initial_at(item.pa) != item.value:
-                sentence = f"no write of {item.pa} has the value {item.value}, so that no axiom can see this"
+                sentence = f"no write of {item.pa} has the value {item.value}, so that no axiom about writes can see this"
                 yield Slip(test.path, item.at, "final-unwritten", "", sentence)
 
 

@@ -9,10 +9,9 @@ from dataclasses import dataclass
 from .cases import Case
 from .grounding import Conjunction, Disjunction, Literal, Node, Tree, ground_nested
 from .models import NAME, Model
-from .tokens import GREATEST_NUMBER
+from .tokens import GREATEST_NUMBER, MOST_DIGITS
 
 GREATEST_CORE = 63
-MOST_DIGITS = len(str(GREATEST_NUMBER))
 
 
 @dataclass(frozen=True)

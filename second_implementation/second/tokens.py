@@ -3,6 +3,7 @@ import re
 from dataclasses import dataclass
 
 GREATEST_NUMBER = (1 << 64) - 1
+MOST_DIGITS = len(str(GREATEST_NUMBER))
 
 # Each piece is the longest that begins at its place. A text that is not closed in its line, or a block comment that
 # is not closed at all, begins none.
@@ -28,7 +29,7 @@ class Fault(Exception):
 
 @dataclass(frozen=True)
 class Token:
-    """A piece that counts. `kind` is name, number, text, symbol, or end after the last one."""
+    """A piece that counts, a number without zeros in front. `kind` is name, number, text, symbol, or end after the last one."""
 
     kind: str
     piece: str
@@ -46,10 +47,16 @@ def tokens(data: bytes, piece: re.Pattern[bytes] = PIECE, start: int = 0) -> lis
     at = start
     while at < len(data):
         match = piece.match(data, at)
-        if match is None or (match.lastgroup == "number" and int(match.group()) > GREATEST_NUMBER):
+        if match is None:
             raise Fault("lexical", at)
+        text = match.group()
+        if match.lastgroup == "number":
+            # Python takes 4,300 digits for a number, with the zeros in front
+            text = text.lstrip(b"0") or b"0"
+            if len(text) > MOST_DIGITS or int(text) > GREATEST_NUMBER:
+                raise Fault("lexical", at)
         if match.lastgroup not in ("blank", "comment"):
-            found.append(Token(str(match.lastgroup), match.group().decode("ascii"), at))
+            found.append(Token(str(match.lastgroup), text.decode("ascii"), at))
         at = match.end()
     return found + [Token("end", "", len(data))]
 

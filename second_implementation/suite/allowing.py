@@ -5,9 +5,10 @@ import sys
 from typing import NamedTuple
 
 from second.memory_models import FORM, memory_model_of
+from second.quoting import quoted, shown
 
 from .files import File
-from .refusing import Refusal, quoted, shown
+from .refusing import Refusal
 
 # a file of tests/machines that is a machine
 MACHINE = re.compile(r"^def outcomes\(", re.MULTILINE)

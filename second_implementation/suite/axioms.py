@@ -7,6 +7,7 @@ from functools import partial
 from typing import Sequence
 
 from second.models import Axiom
+from second.quoting import shown
 from second.scopes import read_model
 from second.tokens import Fault, tokens
 
@@ -15,7 +16,7 @@ from .counting import Progress
 from .files import File
 from .keeping import new_file
 from .pairs import FAULT, TIME, Checker, Found
-from .refusing import Refusal, shown
+from .refusing import Refusal
 from .tables import aligned
 
 # what begins a part of a model

@@ -6,10 +6,11 @@ import time
 from dataclasses import dataclass
 from typing import Sequence
 
+from second.quoting import shown
+
 from .allowing import Machines
 from .calling import Calls, free_memory
 from .files import File
-from .refusing import shown
 
 LINT_SECONDS = 60.0
 # the statuses of lint that come with all its lines

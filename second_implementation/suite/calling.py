@@ -13,7 +13,9 @@ import threading
 from contextlib import suppress
 from typing import IO, Callable, Sequence, TypeVar
 
-from .refusing import Refusal, quoted
+from second.quoting import quoted
+
+from .refusing import Refusal
 
 # What the limits need is done by a shell that becomes the program. Where a limit of file size is passed, a write fails,
 # in place of a signal that ends the program. The limit of processor time is for a call whose suite was ended by force.

@@ -4,7 +4,9 @@ import os
 import stat
 from dataclasses import dataclass
 
-from .refusing import CONTROL, Refusal, quoted, shown
+from second.quoting import CONTROL, quoted, shown
+
+from .refusing import Refusal
 
 # the program refuses longer files, whatever stands behind
 LIMIT = 1_048_576
@@ -13,6 +15,8 @@ TEST_ENDING = ".test"
 PATTERN_ENDING = ".pattern"
 # the rows of the last table stand beside the folders of the models
 CELLS = "cells"
+# how the name of a file ends until it is whole
+PART = ".part"
 
 
 @dataclass(frozen=True)
@@ -99,7 +103,7 @@ def file_at(kind: str, path: str, name: str) -> File:
 
 def judge_name(kind: str, name: str) -> None:
     """Refuses what would stand outside the folder, or would not be one cell of a table."""
-    if name in ("", CELLS) or name.startswith((".", "-")) or CONTROL.search(name):
+    if name in ("", CELLS, CELLS + PART) or name.startswith((".", "-")) or CONTROL.search(name):
         raise Refusal(f"no {kind} may be named {quoted(name)}")
 
 

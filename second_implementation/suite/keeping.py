@@ -9,12 +9,13 @@ import os
 from contextlib import contextmanager, suppress
 from typing import IO, Iterator
 
-from .files import CELLS, File, contents, digest_of
+from second.quoting import shown
+
+from .files import CELLS, PART, File, contents, digest_of
 from .pairs import STATUSES, Found
-from .refusing import Refusal, shown
+from .refusing import Refusal
 from .telling import tell
 
-PART = ".part"
 CERTIFICATE, ROWS = ".certificate", ".rows"
 # other files of such a folder may end in .part, too
 PARTS = (CERTIFICATE + PART, ROWS + PART)

@@ -6,13 +6,15 @@ import traceback
 from types import FrameType
 from typing import Mapping, Sequence
 
+from second.quoting import shown
+
 from .allowing import Machines, Rows
 from .axioms import Axioms, run_axioms
 from .beside import Lint
 from .calling import Calls
 from .keeping import Folder, State
 from .programs import checker_of, program_digest
-from .refusing import Interrupted, Refusal, shown
+from .refusing import Interrupted, Refusal
 from .running import Suite, run_suite
 from .tables import width_of_terminal
 from .telling import Unread, open_streams, put, tell

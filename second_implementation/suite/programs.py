@@ -5,10 +5,12 @@ import shutil
 import tempfile
 from typing import Mapping
 
+from second.quoting import quoted, shown
+
 from .calling import Calls, memory_limit, side_by_side
 from .files import digest_of
 from .pairs import Checker
-from .refusing import Refusal, quoted, shown
+from .refusing import Refusal
 
 # the script's own way to the program; it says on standard error what there is to say
 BUILD = 'top=$1; . "$top/script/program" && ensure_built >&2 && printf %s "$program"'

@@ -3,6 +3,8 @@ import time
 from functools import partial
 from typing import Callable, Iterator, Mapping, Sequence
 
+from second.quoting import shown
+
 from .allowing import Machines, MemoryModels, Rows
 from .beside import Answer, Judges, Lint
 from .calling import Calls, side_by_side
@@ -11,7 +13,6 @@ from .files import File
 from .keeping import State, new_file, take_place
 from .pairs import FAULT, OBSERVABLE, OK, SWEPT, TIME, UNNAMED, UNOBSERVABLE, UNWRITTEN
 from .pairs import Checker, Found, cell_of, cell_of_rows, remove
-from .refusing import shown
 from .tables import table_of_models
 from .telling import tell
 from .words import Words

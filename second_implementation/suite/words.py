@@ -4,8 +4,10 @@ import re
 from dataclasses import dataclass, field
 from typing import Mapping, Sequence
 
+from second.quoting import quoted, shown
+
 from .files import KINDS, MODEL_ENDING, File, ending_of, is_test, judge_distinct, judge_present, model_file, test_file
-from .refusing import Refusal, quoted, shown
+from .refusing import Refusal
 
 SECONDS = re.compile(r"[0-9]{1,9}(\.[0-9]+)?", re.ASCII)
 JOBS = re.compile(r"[0-9]{1,4}", re.ASCII)

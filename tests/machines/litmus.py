@@ -90,8 +90,8 @@ class Test:
 
     @property
     def memory(self) -> Memory:
-        """The memory at the start: each address in use with its value."""
-        addresses = sorted({op.address for op in self.ops if op.kind != "Fence"})
+        """The memory at the start: each address in use with its value. One that only a final value names keeps its own."""
+        addresses = sorted({*(op.address for op in self.ops if op.kind != "Fence"), *self.final})
         return tuple((address, self.initial.get(address, default_at(address))) for address in addresses)
 
     @property
@@ -117,7 +117,8 @@ class Test:
 
 def read_test(path: str) -> Test:
     """The test of a file."""
-    with open(path, encoding="ascii") as file:
+    # a comment may have any bytes, and ends with its line by LF alone
+    with open(path, encoding="latin-1", newline="\n") as file:
         text = COMMENT.sub(" ", file.read())
     found = MICROOP.findall(text)
     threads = sorted({(int(core), int(thread)) for _, core, thread, *_ in found})

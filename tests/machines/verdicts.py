@@ -59,11 +59,11 @@ def value_of(value: ReadValue | None) -> Value:
 
 
 def is_alike(test: Test, case: Case) -> bool:
-    """Whether both readings have the same micro-ops, and as many dependencies and final values."""
+    """Whether both readings have the same micro-ops, and as many dependencies, initial and final values."""
     here = [(op.instruction, op.kind, op.types, op.value) for op in test.ops]
     there = [(op.g, op.access, op.types, value_of(op.value)) for op in case.ops]
-    counts = (len(test.dependencies), len(test.final)), (len(case.dependencies), len(case.final))
-    return here == there and counts[0] == counts[1]
+    read = len(test.dependencies), len(test.initial), len(test.final)
+    return here == there and read == (len(case.dependencies), len(case.initial), len(case.final))
 
 
 def main(name: str, path: str) -> int:
