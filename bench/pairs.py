@@ -1,7 +1,7 @@
 """The shipped models and tests of 28 November 2026: nine models by 110 tests.
 
-Bars of this folder that speak of shipped pairs were set on these. Models and tests that came later are no part of them,
-so that a figure of then and one of now speak of the same.
+Bars of bench/same and bench/signs that speak of shipped pairs were set on these. Models and tests that came later are no
+part of them, so that a figure of then and one of now speak of the same.
 """
 import os
 
