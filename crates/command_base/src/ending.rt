@@ -13,7 +13,7 @@ pub enum Ending {
     ReadFault,
     /// Memory was refused.
     Memory,
-    /// A file has a fault, the first of the two.
+    /// A file has a fault: the first of all files.
     Refused(Refusal),
 }
 

@@ -22,7 +22,7 @@
 //! fault; `read_parts` does so without a ground tree. The form of the second file is a `SecondFile`: a test is a
 //! `TestFile`, and a listing of herd's for X86 a `ListingFile`. A command that is written for any form, as `check` and
 //! `verify` are, takes a listing in place of a test. The order of faults is the same: the model's, and where it has
-//! none, the second file's. `two_files` reads the two and judges neither, and `unread_ending`, `place_fault` and
+//! none, the second file's. `two_files` reads the two and judges their sizes alone; `unread_ending`, `place_fault` and
 //! `bytes_of` make the ending of a command that judges files in its own way.
 //!
 //! A third file is started by the command itself, after these two are judged or before. `feed_rest` feeds a checker, a

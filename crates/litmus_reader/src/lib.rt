@@ -33,8 +33,8 @@
 //! ```rust
 //! let case = read_case(alloc, b"Litmus \"d\".\nMicroop 0 0 0 0 (Fence).\nPermitted.")?;
 //! assert!(rt; case.ops() == 1 && case.expect() == Expect::Permitted);
-//! let at = Place { offset: 6 };
-//! assert!(rt; read_case(alloc, b"Litmus").err() == Some(CaseFault::Syntax(at)));
+//! let refused = read_case(alloc, b"Litmus");
+//! assert!(rt; matches!(refused, Err(CaseFault::Syntax(Place { offset: 6 }))));
 //! ```
 #![tactic(auto)]
 

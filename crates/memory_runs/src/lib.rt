@@ -1,6 +1,6 @@
 //! Runs of the top call over files and sinks in memory, for the crates of tests.
 //!
-//! Each of those crates has the tests of one family of commands, so that they are proved side by side.
+//! Each of those crates, but `hostile_tests`, has the tests of one family of commands: they are proved side by side.
 #![tactic(auto)]
 
 mod failing;

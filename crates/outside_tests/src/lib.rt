@@ -1,4 +1,4 @@
-//! Tests of the adapters: files and a writer of a real system.
+//! Tests of the adapters: files of the system, and a writer that has little room or cannot flush.
 //!
 //! They stand in a crate beside the others of tests, so that the adapters are proved once.
 #![tactic(auto)]

@@ -7,7 +7,7 @@ use pc_common::{Memory, Place};
 use std::alloc::Global;
 use uspec_lexer::{Tokens, is_spelled};
 
-/// An open value: where its `Any` is_spelled_at, and its micro-op, by place in test order.
+/// An open value: where its `Any` stands, and its micro-op, by place in test order.
 #[derive(Clone, Copy)]
 pub(crate) struct Open {
     pub(crate) at: Place,

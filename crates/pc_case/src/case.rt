@@ -209,8 +209,8 @@ impl Case {
     }
 
     /// Whether a dependency of this kind goes from the micro-op at place `i` to that at place `j`,
-    /// false where there is no such place. A look-up of the places, then one of the kind's length, then
-    /// one of the kind, each only where the one before finds something; takes no memory.
+    /// false where there is no such place. A look-up of the places, then of the kind, whose length comes first where
+    /// it has more than 15 bytes, each only where the one before finds something; takes no memory.
     pub fn depends(&self, kind: &[u8], i: usize, j: usize) -> bool
         ensures value { result ≡ depends_by self.now.dependencies kind.now i j }
         ensures within { AreWithin (length self.now.ops) self.now.dependencies }

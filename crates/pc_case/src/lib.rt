@@ -14,7 +14,7 @@
 //!
 //! It takes lists in test order (micro-ops, dependencies, stated initial and final values) and the
 //! expectation, and answers by place, by address, by kind and by name. Addresses, kinds and type names
-//! are looked up by hash, so that no question walks the test; of a kind or a type name of more than 15
+//! are looked up by hash, so that no question about them walks the test; of a kind or a type name of more than 15
 //! bytes the length is looked up first, so that it is read only where the test has one as long. The
 //! readers take no memory.
 //! A physical address is a page or the page-table entry of a virtual tag, and a value is a number or

@@ -6,8 +6,8 @@ use std::marker::Model;
 
 /// A list that grows at its end and that contracts see as a plain list.
 ///
-/// It keeps the allocator that it was made with. It is the list of all signatures: a plain `Vec`
-/// as a field would bring its capacity and address into what contracts compare.
+/// It keeps the allocator that it was made with. It is the list that contracts compare: a plain `Vec`
+/// as a field would bring its capacity and address in.
 #[derive(Drop)]
 pub struct Listed<T> {
     items: Vec<T>,

@@ -7,7 +7,7 @@
 //!
 //! let model = b"Axiom \"x\": exists microop \"i\", True.";
 //! let front = front(alloc, model, b"Litmus \"e\".")?;
-//! assert!(rt; front.tree.len() == 1 && front.tree.row(0).kind == RowKind::False);
+//! assert!(rt; front.tree.len() == 1 && matches!(front.tree.row(0).kind, RowKind::False));
 //! ```
 //!
 //! `read_model` joins the readers of a whole model: tokens, tree, stages, macros, names. `parse_bytes` and

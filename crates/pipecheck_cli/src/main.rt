@@ -3,7 +3,7 @@
 //!
 //! Clause: none says what `main` does; `tests/program` shows that it ends with the number of the status of `run`.
 //!
-//! Where the words themselves can't be had nothing is written, and the number is of this crate: 7
+//! Where the words themselves can't be had nothing is written, and the number is that of `number_without`: 7
 //! where memory for them was refused, as for any want of memory, and 8 for any other cause.
 #![tactic(auto)]
 

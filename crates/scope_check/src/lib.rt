@@ -11,8 +11,8 @@
 //! let text = b"Axiom \"x\": forall microop \"i\", IsAnyRead j.";
 //! let model = parse_model(alloc, &tokens(alloc, text)?)?;
 //! let axioms = expand(alloc, &model)?;
-//! let at = Place { offset: 41 };
-//! assert!(rt; close(alloc, &model, &axioms[0]).err() == Some(NameFault::Unbound { at }));
+//! let refused = close(alloc, &model, &axioms[0]);
+//! assert!(rt; matches!(refused, Err(NameFault::Unbound { at: Place { offset: 41 } })));
 //! ```
 //!
 //! `close` walks the formula once, outside before inside and left before right, with the variables that

@@ -1,4 +1,4 @@
-//! What slots and arguments of a closed formula stand for, and whether a predicate holds of them. Both walks over
+//! What slots and arguments of a closed formula stand for, and whether a predicate holds of them. The walks over
 //! closed formulas use it.
 //!
 //! Clause: `holds` returns what the table of predicates says (its clause).

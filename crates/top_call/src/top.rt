@@ -253,7 +253,7 @@ fn tell<K: Sink>(out: &mut K, answer: &Answer) -> Status
 /// - `sweep MODEL PATTERN` writes the verdict on each row of a pattern.
 /// - `verify-lifted MODEL TEST CERT` does what `verify` does, of lifted refutations.
 /// - `ask MODEL TEST QUERY` reads a third file before it judges any, at most 1,048,576 bytes too. It writes whether the
-///   formula in it holds always, sometimes or never, with certificates.
+///   formula in it holds always, sometimes or never, or that there is no world, with certificates.
 /// - `lift MODEL TEST CERT` reads as `verify` does, and writes the lifted refutation of a refutation of version 1.
 /// - `gen N`, with N from 2 to 16 in decimal, makes the two texts of the ring of N cores, searches as `check` does,
 ///   and writes N, the verdict, and how many nodes, splits and leaves there are, or the first fault of the two texts.
@@ -267,7 +267,7 @@ fn tell<K: Sink>(out: &mut K, answer: &Answer) -> Status
 /// Clauses on what is answered apply if the command reads no file, or the files' contents are known.
 ///
 /// - `idle`: `gen`, and words that are no command, leave the files as they are, and never end with `ReadFault`.
-/// - `usage` to `usage_text`: `Usage` comes exactly on words that are no command, whatever the memory.
+/// - `usage` to `usage_text`: on words that are no command `Usage` or `WriteFault` comes, and `Usage` on no others.
 /// - `read_cause` to `read_due`: `ReadFault` comes only where a call of the files failed. Where only missing names
 ///   fail it comes exactly where a name that is not held is come to: the model's, then the test's, then the
 ///   query's; and of a third file that is a certificate where these two have no fault.

@@ -15,8 +15,8 @@
 //! what it held. A mark is a length of the trail, and `undo` puts the words after it back, the newest
 //! first. The trail's room is taken before a word changes, so a refusal of memory changes nothing.
 //!
-//! `or_words` and `meets_words` are the two loops over words that a closure over bit rows needs, and `Steps`
-//! counts them without a cost.
+//! `or_words` and `meets_words` are plain loops over words. `Steps` counts the rows that are joined and the words
+//! that are put back, without a cost.
 #![tactic(auto)]
 
 mod kernels;

@@ -7,8 +7,8 @@ use std::fmt;
 use thiserror::Error;
 use uspec_lexer::LexFault;
 
-/// Why a listing says no case: its first fault. A fault of the header comes before the lexical ones, these
-/// before those of syntax, and these before those of content, which are in the order of the text.
+/// Why a listing says no case: its first fault. A fault of the header comes before the lexical ones, these before those
+/// of syntax, and these before those of content, which are in the order of the text, but that `X86Open` comes last.
 #[derive(Clone, Copy, Error)]
 pub enum X86Fault {
     /// No token, blank or comment begins here, or the one that begins can't be completed.

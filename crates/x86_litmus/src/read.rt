@@ -21,8 +21,8 @@ use uspec_lexer::{Tokens, tokens_from};
 /// The case that a listing says.
 ///
 /// A fault of the header comes before the lexical ones, these before those of syntax, and these before those of
-/// content, which are in the order of the text. Takes time linear in the bytes, and memory for the tokens and
-/// for what the listing says. The condition is met by every file of fewer than 2^32 bytes.
+/// content, which are in the order of the text, but that `X86Open` comes last. Takes time linear in the bytes, and
+/// memory for the tokens and for what the listing says. The condition is met by every file of fewer than 2^32 bytes.
 pub fn read_x86(alloc: Global, bytes: &[u8]) -> Result<Case, X86Fault>
     requires { length bytes.now < 2 ^ 32 }
     ensures ok { IfOk result (CaseOf bytes.now) }
