@@ -4,6 +4,7 @@ from typing import Iterator, Sequence
 from .cases import DependencyItem, Entry, OpItem, ValueItem
 from .linting_slips import Meant, Slip, TestFile, allowed, unless_meant
 from .models import Expand, Formula, Model, Number, Static
+from .quoting import shown
 from .scopes import parts
 
 
@@ -69,7 +70,7 @@ def missing_names(path: str, asked: Asked, tests: list[TestFile], meant: Meant) 
 
 def not_asked(model_path: str, asked: Asked, test: TestFile) -> Iterator[Slip]:
     """Types, dependency kinds and values of the test that no axiom asks for."""
-    rest = f"no axiom of {model_path} asks for it"
+    rest = f"no axiom of {shown(model_path)} asks for it"
     of_reads = {"SameData", "DataFromInitialStateAtPA"}
     of_entries = {"MapsTagOf", "MarkedAccessed", "MarkedDirty"}
     of_state = {"Init": "DataFromInitialStateAtPA", "Final": "DataFromFinalStateAtPA"}

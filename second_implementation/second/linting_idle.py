@@ -6,6 +6,7 @@ from .cases import Case, OpItem
 from .linting_slips import QueryFile, Slip, TestFile, word_of
 from .linting_truth import OutOfSteps, Settling, Steps, Truth
 from .models import Axiom, Binary, Formula, Model, Quantified, Static, Word
+from .quoting import shown
 
 # A model that needs more steps is not looked at further: so many for each of the two questions.
 STEPS = 1_000_000
@@ -43,7 +44,7 @@ class Idle:
         try:
             for axiom in self.may_be_false if test.case.ops else self.axioms:
                 if truth.is_sure(axiom.body, {}, False):
-                    yield self.slip(axiom, f"is False by what the test says alone, of {test.path}")
+                    yield self.slip(axiom, f"is False by what the test says alone, of {shown(test.path)}")
         except OutOfSteps:
             return
 

@@ -14,6 +14,7 @@ from .linting_slips import Slip, TestFile
 from .linting_truth import OutOfSteps, Steps
 from .models import Axiom, Binary, Edges, Expand, Formula, Model, NodeTerm, Nodes, Not, Quantified, Static
 from .predicates import PREDICATES, argument_of
+from .quoting import shown
 
 Node = tuple[int, int, int]
 
@@ -35,7 +36,7 @@ class FreeNodes:
     def of_test(self, test: TestFile) -> Iterator[Slip]:
         """A line for each free node in a test."""
         for op, term in self.found(test.case):
-            yield self.slip(term, f"the {op.access.lower()} {op.g}.{op.n} of {test.path}")
+            yield self.slip(term, f"the {op.access.lower()} {op.g}.{op.n} of {shown(test.path)}")
 
     def of_made(self, cases: list[Case]) -> Iterator[Slip]:
         """A line for each stage of a free node in one of these cases, which have no names."""
