@@ -66,7 +66,7 @@ WasRead holds name = (bytes : List ℕ) × IsRead holds name bytes
 abbrev pub LacksAskedFile : Contents → Inputs → List ℕ → Type 0
 LacksAskedFile holds i query = LacksInput holds i ⊎ (WasRead holds i.model × WasRead holds i.test × (holds query ≡ None))
 
--- what is asked of a model and a case, which (view files).modelled say; (view files).only_missing_fail hold all names
+-- what is asked of a model and a case, which modelled files say; files that fail only at missing names hold all names
 pub record HasInquiry {F : Type 0} (view : F → FilesView) (i : Inputs) (query : List ℕ) (old new : F)
     (asked : Inquiry) : Type 0 where
   pub keeps : Reads view old new
@@ -81,7 +81,7 @@ pub record HasInquiry {F : Type 0} (view : F → FilesView) (i : Inputs) (query 
   pub held : IsTrue (view old).only_missing_fail → LacksAskedFile (view old).holds i query → ⊥
 
 module _ {F : Type 0} (view : F → FilesView) (i : Inputs) (query : List ℕ) where
-  -- the ending of the command at its files: over (view files).modelled a refusal, if it is no fault of the outside
+  -- the ending of the command at its files: over modelled files a refusal, if it is no fault of the outside
   abbrev pub IsFilesEnding : F → F → Ending → Type 0
   IsFilesEnding old new e =
       IsOutcome view ⊥ (IsTrue (view old).modelled) (LacksAskedFile (view old).holds i query)

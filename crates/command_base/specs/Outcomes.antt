@@ -9,14 +9,14 @@ use Rattle.pc_front.specs.{declared.limits.TheConstants.{MAX_FILE}, Front.{IsFro
 use Rattle.command_base.specs.{declared.ending.Ending.{Ending}, Fronts.{front_of_parts}, Inputs.{Inputs, Contents, IsRead, Says, LacksInput}}
 use Rattle.command_base.specs.{SecondFiles.{AnyCase, NoFault}, Refusals.{IsInputRefusal}, Endings.{ending_status, ending_text}, FileAnswers.{AnswersFiles}}
 
--- the bytes of the two files, of at most the limit, which (view files).modelled hold
+-- the bytes of the two files, each of at most the limit; modelled files hold them
 pub record HasBytes {F : Type 0} (view : F → FilesView) (i : Inputs) (old new : F) (model second : List ℕ) : Type 0 where
   pub keeps : Reads view old new
   pub model_short : length model ≤ MAX_FILE
   pub second_short : length second ≤ MAX_FILE
   pub read : IsTrue (view old).modelled → IsRead (view old).holds i.model model × IsRead (view old).holds i.test second
 
--- the front of a model and a case, which (view files).modelled say; (view files).only_missing_fail hold both names
+-- the front of a model and a case, which modelled files say; files that fail only at missing names hold both names
 pub record HasFront {F : Type 0} (view : F → FilesView)
     (case_of : List ℕ → Case → Type 0) (i : Inputs) (old new : F) (front : Front) : Type 0 where
   pub keeps : Reads view old new
@@ -49,8 +49,8 @@ pub record LacksThirdFile (case_of : List ℕ → Case → Type 0) (holds : Cont
 
 module _ {F : Type 0} (view : F → FilesView)
     (case_of : List ℕ → Case → Type 0) (first_fault : List ℕ → List ℕ → InputFault → Type 0) (i : Inputs) where
-  -- the ending of a command at its two files: over (view files).modelled a refusal, beside which they say nothing, if
-  -- it is no fault of the outside
+  -- the ending of a command at its two files: over modelled files a refusal, beside which they say nothing, if it is no
+  -- fault of the outside
   abbrev pub IsInputsEnding : F → F → Ending → Type 0
   IsInputsEnding old new e =
       IsOutcome view ⊥ (IsTrue (view old).modelled) (LacksInput (view old).holds i)
@@ -81,8 +81,8 @@ module _ {F : Type 0} (view : F → FilesView)
       (LacksInput (view old).holds i ⊎ LacksThirdFile case_of (view old).holds i third)
       (AnswersFiles case_of first_fault (view old).holds i finds) old new status text
 
--- the ending where one of the two files could not be read whole: over (view files).modelled a refusal for its size, if it
--- is no fault of the outside
+-- the ending where one of the two files could not be read whole: over modelled files a refusal for its size, if it is no
+-- fault of the outside
 abbrev pub IsUnreadEnding : {F : Type 0} → (F → FilesView) → Inputs → F → F → Ending → Type 0
 IsUnreadEnding view i old new e = IsInputsEnding view AnyCase NoFault i old new e
 

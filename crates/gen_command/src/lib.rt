@@ -13,9 +13,10 @@
 //! core reads the value of the first. The outcome is forbidden, and no execution shows it: each write would be before
 //! the next one in a cycle. The model is the same for every n.
 //!
-//! The command reads no file. It makes the two texts of the ring by `gen_texts`, and searches as `check` does. It returns
-//! a `Report`, whose text has six lines and whose status is `Done`; or the refusal of the first fault of the two texts, or
-//! `Memory`.
+//! The command reads no file. It makes the two texts of the ring by `gen_texts`, and searches them by `solve`. What it
+//! counts are the splits and leaves of the refutation that the search found, which `check` shortens before it writes
+//! one. It returns a `Report`, whose text has six lines and whose status is `Done`; or the refusal of the first fault of
+//! the two texts, or `Memory`.
 #![tactic(auto)]
 
 mod command;

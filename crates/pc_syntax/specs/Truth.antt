@@ -1,4 +1,7 @@
--- The truth of a written formula, in a setting and an environment.
+-- The truth of a written formula, in a setting and an environment. Read it from the end, where `is_true` has a line for
+-- each connective and quantifier, and `are_true` says it of all axioms. Before it stand, in this order: what a name stands
+-- for (`Environment`); the node that a term names (`node_of`), and whether a world has it, or an edge (`node_holds`,
+-- `edge_holds`); predicates at their arguments (`static_holds`); and what a quantifier ranges over (`range_of`).
 use Rattle.std.specs.Prelude.{ℕ, Bool, false, not, List, [], ◌∷◌, ◌++◌, Option, Some, None, length, map, slice_get, ◌&&◌, ◌||◌, if◌then◌else◌}
 use Rattle.std.specs.List.{list_any, list_all, range_with_len}
 use Rattle.pc_common.specs.{Case.{MicroOp, Case, cores_of}, World.{Node, World, has_node, has_edge}, Names.{same_name}}

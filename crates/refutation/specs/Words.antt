@@ -1,4 +1,4 @@
--- The line_words of a line, which stand between its spaces.
+-- The words of a line, which stand between its spaces.
 use Rattle.std.specs.{Prelude.{ℕ, List, ◌++◌, ◌==◌, codes}, List.{flat_map, count_by}}
 
 -- each word after a space

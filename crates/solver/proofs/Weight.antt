@@ -36,7 +36,7 @@ sides_more ps qs p r w e =
       | inr h ↦ or_right (is_on qs p) (is_on qs r) (on_more ps qs r w (or_second (is_on ps p) (is_on ps r) h e))
     ]
 
--- with more positions no more Ors are pending_ors
+-- with more positions no more Ors are pending
 pub pending_more : {N : Type 0} (t : Tree N) (p : ℕ) (ps qs : List ℕ) → IsWithin ps qs → pending_ors t p qs ≤ pending_ors t p ps
 pending_more always p ps qs w = omega arith
 pending_more never p ps qs w = omega arith

@@ -255,8 +255,9 @@ fn tell<K: Sink>(out: &mut K, answer: &Answer) -> Status
 /// - `ask MODEL TEST QUERY` reads a third file before it judges any, at most 1,048,576 bytes too. It writes whether the
 ///   formula in it holds always, sometimes or never, or that there is no world, with certificates.
 /// - `lift MODEL TEST CERT` reads as `verify` does, and writes the lifted refutation of a refutation of version 1.
-/// - `gen N`, with N from 2 to 16 in decimal, makes the two texts of the ring of N cores, searches as `check` does,
-///   and writes N, the verdict, and how many nodes, splits and leaves there are, or the first fault of the two texts.
+/// - `gen N`, with N from 2 to 16 in decimal, makes the two texts of the ring of N cores and searches them. It writes N,
+///   the verdict, how many nodes there are, and how many splits and leaves the search made (`check` leaves out those
+///   that a refutation does not need), or the first fault of the two texts.
 ///
 /// Other words are no command, and that is written.
 ///
