@@ -2,11 +2,12 @@
 
 An installation is a folder, its tree, PREFIX/lib/pipecheck.1 or PREFIX/lib/pipecheck.2. The link PREFIX/lib/pipecheck
 leads to the tree that is in use, and each command, page and completion is a link through that one. The file `installed`
-of a tree lists these links, and the folders that were made for them.
+of a tree lists these links, and the folders that were made for them, also those around the prefix (`..`, `../..`).
 
 In the former layout the tree was PREFIX/lib/pipecheck itself, and the man page and the completion were files.
 """
 import os
+import unicodedata
 from dataclasses import dataclass
 
 IN_USE = "lib/pipecheck"
@@ -43,10 +44,13 @@ class Listing:
     def __or__(self, other: "Listing") -> "Listing":
         return Listing(self.files | other.files, self.folders | other.folders)
 
-    def text(self, tree: str) -> str:
-        """The list as it is kept; older installers know `file` and `tree`."""
+    def text(self, tree: str, prefix: str) -> str:
+        """The list as it is kept; older installers know `file` and `tree`. A folder around the prefix has its whole
+        path, so that none is taken for it where the prefix was moved."""
         lines = [f"file {name}" for name in sorted(self.files)] + [f"tree {tree}"]
-        return "".join(line + "\n" for line in lines + [f"made {name}" for name in sorted(self.folders)])
+        lines += [f"made {name}" for name in sorted(self.folders) if is_below(name)]
+        lines += [f"folder {whole_path(prefix, name)}" for name in sorted(self.folders) if is_around(name)]
+        return "".join(line + "\n" for line in lines)
 
 
 def parents(name: str) -> list[str]:
@@ -64,6 +68,16 @@ def is_below(name: str) -> bool:
     return name != "" and not os.path.isabs(name) and ".." not in name.split("/")
 
 
+def is_around(name: str) -> bool:
+    """Whether a path from the prefix leads to a folder around it."""
+    return set(name.split("/")) == {".."}
+
+
+def whole_path(prefix: str, name: str) -> str:
+    """The whole path of what has this path from the prefix."""
+    return os.path.normpath(os.path.join(prefix, name))
+
+
 class Prefix:
     """A folder that is installed under. Names of files are paths from it."""
 
@@ -77,10 +91,15 @@ class Prefix:
             raise Refused(
                 "no folder is taken whose path is not UTF-8: the program could not be called there"
             ) from error
+        if any(unicodedata.category(it) == "Cc" for it in self.path):
+            raise Refused("no folder is taken whose path has a control character")
+        depth = len([part for part in self.path.split("/") if part])
+        # the folders around the prefix, the outer ones first
+        self.around = ["/".join([".."] * steps) for steps in range(depth, 0, -1)]
 
     def at(self, name: str) -> str:
         """The whole path."""
-        return os.path.normpath(os.path.join(self.path, name))
+        return whole_path(self.path, name)
 
     def part(self, name: str) -> str:
         """Where something is made before a rename gives it this name, or goes to after one took it."""
@@ -96,7 +115,7 @@ class Prefix:
         ]
 
     def listing(self, tree: str) -> Listing:
-        """What the list of a tree says; of the former layout the folders are whole paths."""
+        """What the list of a tree says; of the former layout all folders are whole paths."""
         files, folders = set(), set()
         with open(os.path.join(self.at(tree), LIST), encoding="utf-8", errors="surrogateescape") as file:
             for line in file.read().split("\n"):
@@ -105,7 +124,7 @@ class Prefix:
                     kind, name = "made", os.path.relpath(os.path.realpath(name), self.path)
                 if is_below(name) and kind == "file":
                     files.add(name)
-                elif is_below(name) and kind == "made" and not name.startswith(IN_USE):
+                elif kind == "made" and (is_around(name) or is_below(name) and not name.startswith(IN_USE)):
                     folders.add(name)
         return Listing(frozenset(files), frozenset(folders))
 
@@ -149,7 +168,7 @@ class Prefix:
 
     def refuse_foreign(self) -> None:
         """Refuses where something that is not of an installation stands in the way."""
-        for folder in FOLDERS:
+        for folder in (*self.around, *FOLDERS):
             path = self.at(folder)
             if os.path.islink(path):
                 raise Refused(f"{path} is a link, so that what is installed there would stand elsewhere")

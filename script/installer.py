@@ -7,21 +7,27 @@
 
 installed.py says how an installation stands. An update makes the other tree, and one rename of the link puts it in use.
 The list of a tree stands before anything that it lists is made, and goes after all of it. So what was ended halfway is
-known, and the next call takes it away.
+known, and the next call takes it away. To take away needs no room on the disk: nothing is written for it.
 """
+# pylint: disable=wrong-import-position
+# the module behind `signal`, which takes long to load
+_signal = __import__("_signal")
+
+if __name__ == "__main__" and _signal.getsignal(_signal.SIGINT) == _signal.default_int_handler:
+    # nothing is begun yet that would have to be cleared
+    _signal.signal(_signal.SIGINT, _signal.SIG_DFL)
+
 import fcntl
 import io
 import os
 import shutil
-import signal
 import subprocess
 import sys
 from collections.abc import Iterator
 from contextlib import ExitStack, contextmanager, suppress
-from types import FrameType
-from typing import NoReturn
 
-from installed import FOLDERS, IN_USE, LINKS, LIST, TREES, Listing, Prefix, Refused
+from installed import FOLDERS, IN_USE, LINKS, LIST, TREES, Listing, Prefix, Refused, is_below
+from processes import SIGNALS, Ended, end_by
 
 TOP = os.path.dirname(os.path.dirname(os.path.realpath(__file__)))
 
@@ -38,10 +44,6 @@ class Failed(Exception):
     """A step failed, and why."""
 
 
-class Ended(Exception):
-    """A signal asks this program to end."""
-
-
 def write_new(path: str, text: str) -> None:
     """A file with this text, in place of what has the name; no link is followed."""
     with suppress(FileNotFoundError):
@@ -50,10 +52,16 @@ def write_new(path: str, text: str) -> None:
         file.write(text)
 
 
+def pass_over_gone(_: object, __: str, problem: tuple[object, BaseException, object]) -> None:
+    """Raises why something could not be taken away, but where another call took it away."""
+    if not isinstance(problem[1], FileNotFoundError):
+        raise problem[1]
+
+
 def remove(path: str) -> bool:
     """Takes away a file, a link or a folder, and says whether there was one."""
     if os.path.isdir(path) and not os.path.islink(path):
-        shutil.rmtree(path)
+        shutil.rmtree(path, onerror=pass_over_gone)
     elif os.path.lexists(path):
         os.remove(path)
     else:
@@ -85,18 +93,31 @@ def manual(name: str) -> str:
 class Installation(Prefix):
     """A prefix that is changed."""
 
+    def __init__(self, path: str) -> None:
+        super().__init__(path)
+        self.locks = ExitStack()
+        self.locked: list[str] = []
+
+    def refuse(self) -> None:
+        """Refuses where nothing can be installed."""
+        for name in COPIED:
+            folder = os.path.join(TOP, name)
+            if f"{self.path}/".startswith(f"{folder}/"):
+                raise Refused(f"{self.path} is in {folder}, all of which is installed: name a folder outside of it")
+        self.refuse_foreign()
+
     # what is made
 
     def put_list(self, tree: str, listing: Listing) -> None:
         """Puts the list of a tree in its place by one rename, with the folders on the way that are not there."""
-        text = listing.text(tree)
+        text = listing.text(tree, self.path)
         if os.path.isdir(self.at(tree)):
             path = os.path.join(self.at(tree), LIST)
             write_new(f"{path}.part", text)
             os.replace(f"{path}.part", path)
             return
-        first = next(name for name in (".", "lib", tree) if not os.path.isdir(self.at(name)))
-        inner = os.path.join(self.part(first), os.path.relpath(tree, first))
+        first = next(name for name in (*self.around, ".", "lib", tree) if not os.path.isdir(self.at(name)))
+        inner = os.path.join(self.part(first), os.path.relpath(self.at(tree), self.at(first)))
         os.makedirs(inner)
         write_new(os.path.join(inner, LIST), text)
         os.rename(self.part(first), self.at(first))
@@ -104,9 +125,7 @@ class Installation(Prefix):
     def fill(self, tree: str, program: str, version: str) -> None:
         """Makes all of a tree but its list."""
         folder = self.at(tree)
-        for name in os.listdir(folder):
-            if name != LIST:
-                remove(os.path.join(folder, name))
+        self.empty(tree)
         for name in COPIED:
             os.makedirs(os.path.dirname(os.path.join(folder, name)), exist_ok=True)
             copy(os.path.join(TOP, name), os.path.join(folder, name))
@@ -156,13 +175,23 @@ class Installation(Prefix):
         elif os.path.lexists(self.at(name)):
             print(f"install: {self.at(name)} is not of an installation: it is left as it is", file=sys.stderr)
 
+    def empty(self, tree: str) -> None:
+        """Takes away all of a tree but its list."""
+        for name in os.listdir(self.at(tree)):
+            if name != LIST:
+                remove(os.path.join(self.at(tree), name))
+
     def take_tree(self, tree: str, listing: Listing) -> None:
-        """Takes away a tree by one rename, with the folders around it that the list has and that hold nothing else."""
+        """Takes away a tree, with the folders around it that the list has and that hold nothing else. Its list goes by
+        one rename with all of these, after what gives the disk room for it."""
         if tree not in self.trees():
             return
+        self.empty(tree)
         whole = [tree]
-        for folder, only in (("lib", os.path.basename(tree)), (".", "lib")):
-            if folder not in listing.folders or os.listdir(self.at(folder)) != [only]:
+        for folder in ("lib", ".", *reversed(self.around)):
+            if folder not in listing.folders or not self.has_locked(folder, False):
+                break
+            if os.listdir(self.at(folder)) != [os.path.basename(self.at(whole[-1]))]:
                 break
             whole.append(folder)
         while True:
@@ -178,35 +207,31 @@ class Installation(Prefix):
 
     def take_parts(self) -> bool:
         """Takes away what a call that was ended had not given its name, and says whether there was something."""
-        return any([remove(self.part(name)) for name in (".", "lib", IN_USE, *TREES)])
+        return any([remove(self.part(name)) for name in (*self.around, ".", "lib", IN_USE, *TREES)])
 
     def take_all_but(self, kept: str | None, stays: Listing) -> None:
         """Takes away what the lists have and is not to stay, and all trees but the kept one, if any is kept."""
         known = self.known()
-        others = [tree for tree in self.trees() if tree != kept]
-        if kept is None and others:
-            # one list has all of it to the end
-            self.put_list(others[0], known)
-            for tree in others[1:]:
-                self.take_tree(tree, Listing())
+        # the last one has all of it to the end: each install lists what it found listed
+        others = sorted((tree for tree in self.trees() if tree != kept), key=lambda it: len(self.listing(it).folders))
         for name in sorted(known.files - stays.files):
             self.take_file(name, known)
-        for folder in sorted(known.folders - stays.folders - {".", "lib"}, key=lambda name: -name.count("/")):
+        inner = [name for name in known.folders - stays.folders - {".", "lib"} if is_below(name)]
+        for folder in sorted(inner, key=lambda name: -name.count("/")):
             if not self.is_followed(f"{folder}/."):
                 with suppress(OSError):
                     os.rmdir(self.at(folder))
         if kept is None and os.path.islink(self.at(IN_USE)) and self.led_to(IN_USE):
             os.remove(self.at(IN_USE))
-        for tree in others[:1] if kept is None else others:
+        for tree in others:
             self.take_tree(tree, known)
 
     # the three calls
 
     def install(self, program: str, version: str) -> None:
         """Installs or updates."""
-        os.makedirs(os.path.dirname(self.path), exist_ok=True)
         with self.alone():
-            self.refuse_foreign()
+            self.refuse()
             self.take_parts()
             for tree in TREES:
                 if any(self.led_to(name) == tree for name in LINKS):
@@ -214,7 +239,7 @@ class Installation(Prefix):
                     self.put_in_use(tree)
             in_use = self.in_use()
             fresh = next(tree for tree in TREES if tree != in_use)
-            made = frozenset(folder for folder in FOLDERS if not os.path.isdir(self.at(folder)))
+            made = frozenset(name for name in (*self.around, *FOLDERS) if not os.path.isdir(self.at(name)))
             known = self.known() | Listing(frozenset(LINKS), made)
             try:
                 self.put_list(fresh, known)
@@ -222,17 +247,17 @@ class Installation(Prefix):
                 self.put_in_use(fresh)
             except BaseException:
                 if not self.serves(fresh):
-                    with suppress(OSError):
+                    with SIGNALS.held(), suppress(OSError):
+                        self.take_parts()
                         self.take_all_but(in_use, self.listing(in_use) if in_use else Listing())
                 raise
             stays = Listing(frozenset(LINKS), known.folders)
             self.take_all_but(fresh, stays)
-            self.put_list(fresh, stays)
+            if stays != known:
+                self.put_list(fresh, stays)
 
     def uninstall(self) -> None:
         """Takes away what is installed, and what an install that was ended left."""
-        if not os.path.isdir(os.path.dirname(self.path)):
-            raise Refused(f"nothing is installed under {self.path}")
         with self.alone():
             had_parts = self.take_parts()
             if not self.trees():
@@ -241,26 +266,50 @@ class Installation(Prefix):
                 return
             self.take_all_but(None, Listing())
 
+    # one call at a time
+
     @contextmanager
     def alone(self) -> Iterator[None]:
-        """One call at a time works on a prefix: the folder around it is locked."""
-        around = os.path.dirname(self.path)
-        with ExitStack() as stack:
-            # a folder that may not be read, or is of another machine, may not be locked
-            with suppress(OSError):
-                folder = os.open(around, os.O_RDONLY)
-                stack.callback(os.close, folder)
-                try:
-                    fcntl.flock(folder, fcntl.LOCK_EX | fcntl.LOCK_NB)
-                except BlockingIOError:
-                    print(f"install: another call works in {around}: waiting for it", file=sys.stderr)
-                    fcntl.flock(folder, fcntl.LOCK_EX)
+        """One call at a time works on a prefix: the nearest folder around it is locked."""
+        with self.locks:
+            nearest = ""
+            while nearest != self.nearest():
+                # the call that was waited for may have made a nearer one, or taken this one away
+                nearest = self.nearest()
+                if not self.has_locked(nearest, True):
+                    nearest = ""
             yield
 
+    def nearest(self) -> str:
+        """The nearest folder around the prefix that is there."""
+        return next((name for name in reversed(self.around) if os.path.isdir(self.at(name))), ".")
 
-def end(number: int, _: FrameType | None) -> NoReturn:
-    """What a signal does: what was begun is taken away before the program ends."""
-    raise Ended(number)
+    def has_locked(self, name: str, waits: bool) -> bool:
+        """Locks a folder until the call ends, and says whether it did. One that may not be read, or is of another
+        machine, may not be locked, and counts as locked."""
+        if name in self.locked:
+            return True
+        try:
+            folder = os.open(self.at(name), os.O_RDONLY)
+            self.locks.callback(os.close, folder)
+            fcntl.flock(folder, fcntl.LOCK_EX | fcntl.LOCK_NB)
+        except BlockingIOError:
+            if not waits:
+                return False
+            print(f"install: another call works in {self.at(name)}: waiting for it", file=sys.stderr)
+            fcntl.flock(folder, fcntl.LOCK_EX)
+        except OSError:
+            return True
+        if not self.is_at(folder, name):
+            return False
+        self.locked.append(name)
+        return True
+
+    def is_at(self, folder: int, name: str) -> bool:
+        """Whether an open folder still has its name."""
+        with suppress(OSError):
+            return os.path.samestat(os.fstat(folder), os.stat(self.at(name)))
+        return False
 
 
 def tell_installed(prefix: Prefix) -> None:
@@ -276,7 +325,7 @@ def main(work: str, path: str, *words: str) -> int:
     try:
         prefix = Installation(path)
         if work == "judge":
-            prefix.refuse_foreign()
+            prefix.refuse()
         elif work == "install":
             prefix.install(*words)
             tell_installed(prefix)
@@ -287,8 +336,8 @@ def main(work: str, path: str, *words: str) -> int:
         print(f"install: {problem}", file=sys.stderr)
     except OSError as error:
         print(f"install: {error.filename2 or error.filename or path}: {error.strerror}", file=sys.stderr)
-    except Ended as signalled:
-        return 128 + int(signalled.args[0])
+    except Ended as ended:
+        end_by(ended.number)
     else:
         return 0
     return 1
@@ -300,7 +349,5 @@ if __name__ == "__main__":
         # a name need not be UTF-8
         if isinstance(stream, io.TextIOWrapper):
             stream.reconfigure(errors="surrogateescape")
-    for signal_number in (signal.SIGHUP, signal.SIGINT, signal.SIGTERM):
-        if signal.getsignal(signal_number) != signal.SIG_IGN:
-            signal.signal(signal_number, end)
+    SIGNALS.receive()
     sys.exit(main(*sys.argv[1:]))
