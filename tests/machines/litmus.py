@@ -119,7 +119,12 @@ def read_test(path: str) -> Test:
     """The test of a file."""
     # a comment may have any bytes, and ends with its line by LF alone
     with open(path, encoding="latin-1", newline="\n") as file:
-        text = COMMENT.sub(" ", file.read())
+        return test_of_text(file.read())
+
+
+def test_of_text(whole: str) -> Test:
+    """The test of a text."""
+    text = COMMENT.sub(" ", whole)
     found = MICROOP.findall(text)
     threads = sorted({(int(core), int(thread)) for _, core, thread, *_ in found})
     lines: list[list[tuple[int, int, Op]]] = [[] for _ in threads]

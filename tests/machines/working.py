@@ -1,0 +1,131 @@
+"""Processes that judge side by side. They end before this one does, with all that they called, however it is ended."""
+import os
+import signal
+import traceback
+from collections import deque
+from concurrent.futures import Future, ProcessPoolExecutor
+from concurrent.futures.process import BrokenProcessPool
+from contextlib import suppress
+from dataclasses import dataclass
+from itertools import islice
+from multiprocessing import active_children, get_context
+from types import FrameType, TracebackType
+from typing import Callable, Generic, Iterable, Iterator, NoReturn, TypeVar
+
+# a reader that goes away asks for an end, too
+ENDING = (
+    signal.SIGALRM, signal.SIGHUP, signal.SIGINT, signal.SIGPIPE, signal.SIGQUIT, signal.SIGTERM, signal.SIGUSR1
+)
+# how many tasks wait for each processor
+WAITING = 4
+
+Task = TypeVar("Task")
+Answer = TypeVar("Answer")
+
+
+class Unusable(Exception):
+    """Nothing can be compared, and why."""
+
+
+class Ended(BaseException):
+    """A signal asks for an end."""
+
+    def __init__(self, number: int) -> None:
+        super().__init__(number)
+        self.number = number
+
+
+@dataclass(frozen=True)
+class Failed:
+    """A task that was not judged, and why."""
+
+    why: str
+
+
+def receive_signals() -> None:
+    """Has the first signal that asks for an end raise `Ended`. What is ignored, as under `nohup`, stays so."""
+    for number in ENDING:
+        # Python itself ignores that a reader goes away
+        if number == signal.SIGPIPE or signal.getsignal(number) is not signal.SIG_IGN:
+            signal.signal(number, raise_ended)
+
+
+def raise_ended(number: int, _: FrameType | None) -> NoReturn:
+    """Asks for an end once: what is begun then is done whole."""
+    for other in ENDING:
+        signal.signal(other, signal.SIG_IGN)
+    raise Ended(number)
+
+
+def end_by(number: int) -> None:
+    """Ends this process as the signal would have ended it."""
+    signal.signal(number, signal.SIG_DFL)
+    os.kill(os.getpid(), number)
+
+
+@dataclass(frozen=True)
+class Attempt(Generic[Task, Answer]):
+    """A judge whose failures are words: an exception may be none that another process can read."""
+
+    judge: Callable[[Task], Answer]
+
+    def __call__(self, task: Task) -> Answer | Failed:
+        try:
+            return self.judge(task)
+        except Unusable as error:
+            return Failed(str(error))
+        except MemoryError:
+            return Failed("memory was refused")
+        except Exception:  # pylint: disable=broad-exception-caught
+            return Failed(traceback.format_exc().rstrip("\n").rpartition("\n")[2])
+
+
+class Workers(Generic[Task, Answer]):
+    """One process for each processor, each of which judges many tasks."""
+
+    def __init__(self, judge: Callable[[Task], Answer]) -> None:
+        self.attempt = Attempt(judge)
+        self.count = len(os.sched_getaffinity(0))
+        self.pool = ProcessPoolExecutor(self.count, get_context("fork"), begin_work)
+
+    def __enter__(self) -> "Workers[Task, Answer]":
+        return self
+
+    def __exit__(self, kind: type[BaseException] | None, _: BaseException | None, __: TracebackType | None) -> None:
+        if kind is not None:
+            end_workers()
+        self.pool.shutdown(cancel_futures=True)
+
+    def answers(self, tasks: Iterable[Task]) -> Iterator[tuple[Task, Answer | Failed]]:
+        """Each task with its answer, in their order. Few of them wait at a time."""
+        rest = iter(tasks)
+        begun: deque[tuple[Task, Future[Answer | Failed]]] = deque()
+        while True:
+            for task in islice(rest, self.count * WAITING - len(begun)):
+                begun.append((task, self.pool.submit(self.attempt, task)))
+            if not begun:
+                return
+            task, future = begun.popleft()
+            try:
+                yield task, future.result()
+            except BrokenProcessPool as error:
+                raise Unusable("a process that compares was ended from outside, as where memory ends") from error
+
+
+def begin_work() -> None:
+    """A worker is a group of its own with what it calls, and the first process alone hears the terminal."""
+    os.setpgid(0, 0)
+    for number in ENDING:
+        signal.signal(number, signal.SIG_DFL)
+    signal.signal(signal.SIGINT, signal.SIG_IGN)
+    signal.signal(signal.SIGPIPE, signal.SIG_IGN)
+
+
+def end_workers() -> None:
+    """Ends all workers at once, each with what it called."""
+    for process in active_children():
+        if process.pid is not None:
+            with suppress(ProcessLookupError):
+                os.killpg(process.pid, signal.SIGKILL)
+        # one that is no group yet
+        process.kill()
