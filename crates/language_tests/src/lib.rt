@@ -1,12 +1,16 @@
-//! Tests of the readers of the model language through their public calls: texts to tokens, and tokens to formulas, models
-//! or the first fault of a grammar.
+//! Tests of what reads models, tests and listings through their public calls: texts to tokens, formulas, models and cases,
+//! what is told of them, and the first fault of each.
 //!
-//! They stand in a crate beside the others of tests, so that all are proved side by side.
+//! They stand in a crate of their own, since a crate with tests is proved twice.
 #![tactic(auto)]
 
 #[cfg(test)]
-mod brackets;
+mod formula_texts;
 #[cfg(test)]
-mod formulas;
+mod listings;
 #[cfg(test)]
-mod pieces;
+mod models;
+#[cfg(test)]
+mod parsers;
+#[cfg(test)]
+mod readers;

@@ -1,8 +1,8 @@
 //! Graphs, read from their lines.
 use super::fronts::front_of;
 use super::nodes::{OPS, STAGES};
+use super::texts::put;
 use super::trees::{show_edge, show_node};
-use formula_texts::put;
 use graph_text::{Graph, GraphFault, read_graph};
 use pc_common::Memory;
 use pc_ground::{Front, NodeText};

@@ -1,7 +1,7 @@
 //! Ground trees as rows in preorder, and the numbers of their nodes.
 use super::fronts::front_of;
+use super::texts::{put, put_number};
 use example_texts::{EITHER_ORDER, EMPTY, FAR_CORE, NO_EDGES, SOME_OP, TWO_CORES, TWO_FORBIDDEN};
-use formula_texts::{put, put_number};
 use pc_common::Memory;
 use pc_ground::{Flat, Front, Literal, NodeKey, Numbering, RowKind};
 use std::alloc::Global;

@@ -1,0 +1,3 @@
+//! The adapters: files of the system, and a writer that has little room or cannot flush.
+mod files;
+mod sink;

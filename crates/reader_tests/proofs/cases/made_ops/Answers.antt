@@ -1,8 +1,0 @@
-use Rattle.std.proofs.Common.{rules, arith}
-use Rattle.reader_tests.proofs.TwoOps.{two_ops}
-use Rattle.reader_tests.proofs.cases.made_ops.Goals as goal
-
-pub returns-clause-kept : goal.returns-clause-kept
-returns-clause-kept c =
-    rw (c.in_ok-push-2.ensures, c.in_ok-push.ensures, c.new-ops.ensures)
-    (two_ops _ _ (omega arith) (omega arith) (λ e. omega (arith, e)) (search rules) (search rules))
