@@ -1,6 +1,5 @@
-//! The command ask: words with their certificates, refusals of the three files, and calls that fail.
-mod endings;
+//! The command ask: words with their certificates, and refusals of the three files.
+pub(crate) mod endings;
 mod fronts;
-mod large;
-mod texts;
-mod words;
+pub(crate) mod texts;
+pub(crate) mod words;

@@ -1,4 +1,4 @@
 //! Certificates: texts judged by the checker and by the command verify.
 mod judging;
-mod signs;
-mod verifying;
+pub(crate) mod signs;
+pub(crate) mod verifying;

@@ -1,7 +1,6 @@
-//! The command check: verdicts with their certificates, refusals, and calls that fail.
-mod answers;
-mod checking;
+//! The command check: verdicts with their certificates, and refusals.
+pub(crate) mod answers;
+pub(crate) mod checking;
 mod conflicts;
-mod opening;
-mod ties;
-mod translation;
+pub(crate) mod ties;
+pub(crate) mod translation;

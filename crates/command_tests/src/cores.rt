@@ -1,5 +1,4 @@
-//! The command core: minimal sets of axioms with their certificates, refusals, and calls that fail.
-mod endings;
-mod found;
-mod many;
+//! The command core: minimal sets of axioms with their certificates, and refusals.
+pub(crate) mod endings;
+pub(crate) mod found;
 mod parts;

@@ -13,6 +13,8 @@ mod certificates;
 #[cfg(test)]
 mod checks;
 #[cfg(test)]
+mod commands;
+#[cfg(test)]
 mod cores;
 #[cfg(test)]
 mod hostile;
@@ -25,6 +27,10 @@ mod listings;
 #[cfg(test)]
 mod memory_runs;
 #[cfg(test)]
+mod outside;
+#[cfg(test)]
 mod rings;
+#[cfg(test)]
+mod spaces;
 #[cfg(test)]
 mod sweeps;

@@ -1,6 +1,6 @@
 //! Lifted refutations: texts judged by the checker and by the top call, and texts that it makes.
 mod forms;
 mod judging;
-mod lifting;
+pub(crate) mod lifting;
 mod texts;
-mod verifying;
+pub(crate) mod verifying;

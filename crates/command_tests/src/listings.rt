@@ -1,14 +1,10 @@
 //! The commands check86 and verify86, through the top call: what check and verify do, of a listing.
-use crate::memory_runs::{
-    Failed, Plan, ThreeFiles, TwoFiles, USAGE, first_unreported, first_wrong_failure,
-    first_wrong_of_three, first_wrong_of_two,
-};
+use crate::memory_runs::{Failed, Plan, Run, USAGE};
 use example_texts::{
     IN_ORDER, LAST_WRITE, LISTED_AS_FORBIDDEN, LISTED_STORE_BUFFERING, LISTED_WITH_AN_OPEN_LOAD,
     STORE_BUFFER,
 };
 use pc_common::Status;
-use std::test::Fail;
 
 const MESSAGE_PASSING: &str = "X86 MP
 \"PodWW Rfe PodRR Fre\"
@@ -22,7 +18,7 @@ Com=Rf Fr
 (1:EAX=1 /\\ 1:EBX=0)
 ";
 
-const SAW_NEITHER: &str = "observable
+pub(crate) const SAW_NEITHER: &str = "observable
 test unstated
 node 0.0@0:Exec
 node 0.0@0:Mem
@@ -68,178 +64,145 @@ Axiom \"fence\": forall microops \"i\", AccessType MFENCE i => AddEdge ((i, S), 
 ";
 
 /// A model and a listing, and how a check of them ends.
-const CHECKS: &[TwoFiles<'static>] = &[
+pub(crate) const CHECKS: &[Run<'static>] = &[
     (
-        STORE_BUFFER,
-        LISTED_STORE_BUFFERING,
+        &[STORE_BUFFER, LISTED_STORE_BUFFERING],
         Status::Observable,
         SAW_NEITHER,
     ),
     (
-        STORE_BUFFER,
-        LISTED_AS_FORBIDDEN,
+        &[STORE_BUFFER, LISTED_AS_FORBIDDEN],
         Status::Observable,
         SAW_NEITHER_FORBIDDEN,
     ),
     (
-        STORE_BUFFER,
-        LISTED_WITH_AN_OPEN_LOAD,
+        &[STORE_BUFFER, LISTED_WITH_AN_OPEN_LOAD],
         Status::Refused,
         "refused test x86-open at 8:20\n",
     ),
-    (IN_ORDER, MESSAGE_PASSING, Status::Unobservable, CYCLE),
+    (&[IN_ORDER, MESSAGE_PASSING], Status::Unobservable, CYCLE),
     // a final value
     (
-        LAST_WRITE,
-        "X86 t\n{}\nP0;\nMOV [x],$1;\nMOV [x],$2;\nexists x=2\n",
+        &[
+            LAST_WRITE,
+            "X86 t\n{}\nP0;\nMOV [x],$1;\nMOV [x],$2;\nexists x=2\n",
+        ],
         Status::Observable,
         "observable\ntest unstated\nnode 0.0@0:S\nnode 1.0@0:S\nedge 0.0@0:S 1.0@0:S\nend\n",
     ),
     (
-        LAST_WRITE,
-        "X86 t\n{}\nP0;\nMOV [x],$1;\nMOV [x],$2;\nexists x=1\n",
+        &[
+            LAST_WRITE,
+            "X86 t\n{}\nP0;\nMOV [x],$1;\nMOV [x],$2;\nexists x=1\n",
+        ],
         Status::Unobservable,
         "unobservable\ntest unstated\ncycle 0.0@0:S 1.0@0:S\nend\n",
     ),
     // a fence has its type
     (
-        FENCED,
-        "X86 t\n{}\nP0;\nMFENCE;\n~exists x=0\n",
+        &[FENCED, "X86 t\n{}\nP0;\nMFENCE;\n~exists x=0\n"],
         Status::Unobservable,
         "unobservable\ntest forbidden: ok\ncycle 0.0@0:S\nend\n",
     ),
     (
-        FENCED,
-        "X86 t\n{}\nP0;\nMOV [x],$1;\n~exists x=0\n",
+        &[FENCED, "X86 t\n{}\nP0;\nMOV [x],$1;\n~exists x=0\n"],
         Status::Observable,
         "observable\ntest forbidden: BUG\nend\n",
     ),
     // a test is no listing
     (
-        "",
-        "Litmus \"t\".\n",
+        &["", "Litmus \"t\".\n"],
         Status::Refused,
         "refused test syntax at 1:1\n",
     ),
     (
-        "",
-        "X86 t\n{ @ }\n",
+        &["", "X86 t\n{ @ }\n"],
         Status::Refused,
         "refused test lexical at 2:3\n",
     ),
     (
-        "",
-        "X86 t\n{}\nP0;\nforall x=0\n",
+        &["", "X86 t\n{}\nP0;\nforall x=0\n"],
         Status::Refused,
         "refused test syntax at 4:1\n",
     ),
     // each word of a fault of content
     (
-        "",
-        "X86 t\n{ x=1; x=1; }\nP0;\nexists x=0\n",
+        &["", "X86 t\n{ x=1; x=1; }\nP0;\nexists x=0\n"],
         Status::Refused,
         "refused test again-initial at 2:8\n",
     ),
     (
-        "",
-        "X86 t\n{}\nP0;\nexists x=0 /\\ x=0\n",
+        &["", "X86 t\n{}\nP0;\nexists x=0 /\\ x=0\n"],
         Status::Refused,
         "refused test again-final at 4:15\n",
     ),
     (
-        "",
-        "X86 t\n{}\nP1;\nexists x=0\n",
+        &["", "X86 t\n{}\nP1;\nexists x=0\n"],
         Status::Refused,
         "refused test x86-column at 3:1\n",
     ),
     (
-        "",
-        "X86 t\n{}\nP0;\nMOV EAX,[x];\nMOV EAX,[x];\nexists 0:EAX=0\n",
+        &[
+            "",
+            "X86 t\n{}\nP0;\nMOV EAX,[x];\nMOV EAX,[x];\nexists 0:EAX=0\n",
+        ],
         Status::Refused,
         "refused test x86-reload at 5:5\n",
     ),
     (
-        "",
-        "X86 t\n{}\nP0;\nexists 0:EAX=0\n",
+        &["", "X86 t\n{}\nP0;\nexists 0:EAX=0\n"],
         Status::Refused,
         "refused test x86-unloaded at 4:8\n",
     ),
     (
-        "",
-        "X86 t\n{}\nP0;\nMOV EAX,[x];\nexists 0:EAX=0 /\\ 0:EAX=0\n",
+        &[
+            "",
+            "X86 t\n{}\nP0;\nMOV EAX,[x];\nexists 0:EAX=0 /\\ 0:EAX=0\n",
+        ],
         Status::Refused,
         "refused test x86-again at 5:19\n",
     ),
     // the model's fault is named before the listing's
     (
-        "True.",
-        "",
+        &["True.", ""],
         Status::Refused,
         "refused model syntax at 1:1\n",
     ),
 ];
 
-#[test]
-fn a_check_ends_with_its_status_and_its_text(rt: HostRuntime) -> Result<(), Fail> {
-    assert_eq!(rt;
-        first_wrong_of_two(rt.alloc(), "check86 model listing", CHECKS)?,
-        None
-    );
-    Ok(())
-}
-
 /// A model, a listing and a text, and how a verify of them ends.
-const VERIFIES: &[ThreeFiles<'static>] = &[
+pub(crate) const VERIFIES: &[Run<'static>] = &[
     (
-        STORE_BUFFER,
-        LISTED_STORE_BUFFERING,
-        SAW_NEITHER,
+        &[STORE_BUFFER, LISTED_STORE_BUFFERING, SAW_NEITHER],
         Status::Observable,
         "verified observable\n",
     ),
     (
-        IN_ORDER,
-        MESSAGE_PASSING,
-        CYCLE,
+        &[IN_ORDER, MESSAGE_PASSING, CYCLE],
         Status::Unobservable,
         "verified unobservable\n",
     ),
     // the second line of the other expectation
     (
-        STORE_BUFFER,
-        LISTED_STORE_BUFFERING,
-        SAW_NEITHER_FORBIDDEN,
+        &[STORE_BUFFER, LISTED_STORE_BUFFERING, SAW_NEITHER_FORBIDDEN],
         Status::CertRefused,
         "certificate refused at line 2\n",
     ),
     // the model forbids it
     (
-        IN_ORDER,
-        LISTED_STORE_BUFFERING,
-        SAW_NEITHER,
+        &[IN_ORDER, LISTED_STORE_BUFFERING, SAW_NEITHER],
         Status::CertRefused,
         "certificate refused at line 15\n",
     ),
     (
-        STORE_BUFFER,
-        LISTED_WITH_AN_OPEN_LOAD,
-        SAW_NEITHER,
+        &[STORE_BUFFER, LISTED_WITH_AN_OPEN_LOAD, SAW_NEITHER],
         Status::Refused,
         "refused test x86-open at 8:20\n",
     ),
 ];
 
-#[test]
-fn a_text_is_verified_or_refused_at_its_line(rt: HostRuntime) -> Result<(), Fail> {
-    assert_eq!(rt;
-        first_wrong_of_three(rt.alloc(), "verify86 model listing text", VERIFIES)?,
-        None
-    );
-    Ok(())
-}
-
 /// Words, which call of the files and of the sink fails, and how the run ends.
-const ENDS: &[Failed<'static>] = &[
+pub(crate) const ENDS: &[Failed<'static>] = &[
     // a name that is missing
     ("check86 none listing", &[], &[], Status::ReadFault, ""),
     ("check86 model none", &[], &[], Status::ReadFault, ""),
@@ -303,20 +266,8 @@ const ENDS: &[Failed<'static>] = &[
     ),
 ];
 
-#[test]
-fn a_run_that_ends_early_says_why(rt: HostRuntime) -> Result<(), Fail> {
-    let contents = &[
-        ("model", STORE_BUFFER),
-        ("listing", LISTED_STORE_BUFFERING),
-        ("text", SAW_NEITHER),
-        ("bad", "t"),
-    ];
-    assert_eq!(rt; first_wrong_failure(rt.alloc(), contents, ENDS)?, None);
-    Ok(())
-}
-
 /// A model and a listing, and a refutation of them that is verified.
-const PLANS: &[Plan<'static>] = &[(
+pub(crate) const PLANS: &[Plan<'static>] = &[(
     "verify86 model test certificate",
     &[
         FENCED,
@@ -326,11 +277,3 @@ const PLANS: &[Plan<'static>] = &[(
     (Status::Unobservable, "verified unobservable\n"),
     1,
 )];
-
-#[test]
-fn a_failed_read_writes_nothing_and_a_failed_write_cuts_the_line(
-    rt: HostRuntime,
-) -> Result<(), Fail> {
-    assert_eq!(rt; first_unreported(rt.alloc(), PLANS)?, None);
-    Ok(())
-}

@@ -5,11 +5,11 @@ mod runs;
 mod tables;
 mod texts;
 
-pub(crate) use failing::{Plan, are_failures_reported};
-pub(crate) use outside::{calls, files, hold_files, sink};
+pub(crate) use failing::Plan;
+pub(crate) use outside::{calls, files, files_and_spaces, hold_files};
 pub(crate) use runs::{End, ends_in, ends_on, ends_over, output_of, words};
 pub(crate) use tables::{
-    Failed, ThreeFiles, TwoFiles, USAGE, first_other_of_three, first_other_of_two, first_taken,
-    first_unreported, first_wrong_failure, first_wrong_of_three, first_wrong_of_two,
+    Failed, Run, Told, USAGE, first_other, first_taken, first_unreported, first_wrong,
+    first_wrong_failure,
 };
 pub(crate) use texts::join_pieces;

@@ -1,7 +1,6 @@
-//! The command sweep: which values the open reads take, the verdicts of the rows, the faults of patterns, and calls that
-//! fail.
-mod endings;
-mod faults;
+//! The command sweep: which values the open reads take, the verdicts of the rows, and the faults of patterns.
+pub(crate) mod endings;
+pub(crate) mod faults;
 mod many;
-mod rows;
-mod values;
+pub(crate) mod rows;
+pub(crate) mod values;

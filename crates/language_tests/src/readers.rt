@@ -1,5 +1,4 @@
-//! What reads a test, what is told of its micro-ops, and files and sinks in memory.
+//! What reads a test, and what is told of its micro-ops.
 mod cases;
-mod outside;
 mod predicates;
 mod type_names;

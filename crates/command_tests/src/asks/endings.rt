@@ -1,164 +1,120 @@
 //! How the command ends without an answer: words, faults of the three files, and calls that fail.
 use super::texts::{DEEP, MACROS, NO_AXIOMS};
-use crate::memory_runs::{Failed, USAGE, first_other_of_three, first_taken, first_wrong_failure};
+use crate::memory_runs::{Failed, Told, USAGE};
 use example_texts::ONE;
 use pc_common::Status;
-use std::test::Fail;
-
-const NO_COMMANDS: &[&'static str] = &[
-    "ask",
-    "ask model test",
-    "ask model test query more",
-    "Ask model test query",
-    "asks model test query",
-    "model test query ask",
-];
-
-#[test]
-fn words_of_no_command_are_told_so(rt: HostRuntime) -> Result<(), Fail> {
-    assert_eq!(rt; first_taken(rt.alloc(), NO_COMMANDS)?, None);
-    Ok(())
-}
 
 /// No model, and no test.
-const NO_TEXT: &str = "t";
+pub(crate) const NO_TEXT: &str = "t";
 
 /// A model, a test and a query, and the line that refuses them.
-const REFUSED: &[(&'static str, &'static str, &'static str, &'static str)] = &[
+pub(crate) const REFUSED: &[Told<'static>] = &[
     // a text that is not closed
     (
-        NO_AXIOMS,
-        ONE,
-        "True \"a\n",
+        &[NO_AXIOMS, ONE, "True \"a\n"],
         "refused query lexical at 1:6\n",
     ),
     // no formula
-    (NO_AXIOMS, ONE, "", "refused query syntax at 1:1\n"),
+    (&[NO_AXIOMS, ONE, ""], "refused query syntax at 1:1\n"),
     // a formula with a dot
-    (NO_AXIOMS, ONE, "True.", "refused query syntax at 1:5\n"),
+    (&[NO_AXIOMS, ONE, "True."], "refused query syntax at 1:5\n"),
     // two formulas
     (
-        NO_AXIOMS,
-        ONE,
-        "(True) (True)",
+        &[NO_AXIOMS, ONE, "(True) (True)"],
         "refused query syntax at 1:8\n",
     ),
     // a whole axiom
     (
-        NO_AXIOMS,
-        ONE,
-        "Axiom \"a\": True.",
+        &[NO_AXIOMS, ONE, "Axiom \"a\": True."],
         "refused query syntax at 1:1\n",
     ),
     // 129 openers
     (
-        NO_AXIOMS,
-        ONE,
-        "~~~~~~~~~~~~~~~~~~~~~~~~~~~~~~~~~~~~~~~~~~~~~~~~~~~~~~~~~~~~~~~~~~~~~~~~~~~~~~~~~~~~~~~~~~~~~~~~~~~~~~~~~~~~~~~~~~~~~~~~~~~~~~~~~True",
+        &[
+            NO_AXIOMS,
+            ONE,
+            "~~~~~~~~~~~~~~~~~~~~~~~~~~~~~~~~~~~~~~~~~~~~~~~~~~~~~~~~~~~~~~~~~~~~~~~~~~~~~~~~~~~~~~~~~~~~~~~~~~~~~~~~~~~~~~~~~~~~~~~~~~~~~~~~~True",
+        ],
         "refused query depth at 1:129\n",
     ),
     // a macro that there is not
     (
-        MACROS,
-        ONE,
-        "True /\\ ExpandMacro none",
+        &[MACROS, ONE, "True /\\ ExpandMacro none"],
         "refused query macro-unknown at 1:21\n",
     ),
     // another number of arguments
     (
-        MACROS,
-        ONE,
-        "ExpandMacro at",
+        &[MACROS, ONE, "ExpandMacro at"],
         "refused query macro-arguments at 1:13\n",
     ),
     // one height more
     (
-        DEEP,
-        ONE,
-        "~~~~~~~~~~~~~~~~~~~~~~~~~~~~ExpandMacro d",
+        &[DEEP, ONE, "~~~~~~~~~~~~~~~~~~~~~~~~~~~~ExpandMacro d"],
         "refused query too-deep at 1:1\n",
     ),
     // an unbound name
     (
-        NO_AXIOMS,
-        ONE,
-        "True /\\\n NodeExists (i, S)",
+        &[NO_AXIOMS, ONE, "True /\\\n NodeExists (i, S)"],
         "refused query unbound at 2:14\n",
     ),
     // a stage that there is not
     (
-        NO_AXIOMS,
-        ONE,
-        "exists microop \"i\", NodeExists (i, T)",
+        &[NO_AXIOMS, ONE, "exists microop \"i\", NodeExists (i, T)"],
         "refused query stage-unknown at 1:36\n",
     ),
     // another predicate
     (
-        NO_AXIOMS,
-        ONE,
-        "IsThread",
+        &[NO_AXIOMS, ONE, "IsThread"],
         "refused query predicate-unknown at 1:1\n",
     ),
     // another number of arguments of a predicate
-    (NO_AXIOMS, ONE, "True True", "refused query arity at 1:1\n"),
+    (
+        &[NO_AXIOMS, ONE, "True True"],
+        "refused query arity at 1:1\n",
+    ),
     // an unbound name in the body of a macro
     (
-        MACROS,
-        ONE,
-        "exists microop \"k\", ExpandMacro free k",
+        &[MACROS, ONE, "exists microop \"k\", ExpandMacro free k"],
         "refused model unbound at 3:37\n",
     ),
     // an unbound argument
     (
-        MACROS,
-        ONE,
-        "ExpandMacro free k",
+        &[MACROS, ONE, "ExpandMacro free k"],
         "refused query unbound at 1:18\n",
     ),
     // first in the query, then in a body
     (
-        MACROS,
-        ONE,
-        "NodeExists (k, S) /\\ ExpandMacro stray",
+        &[MACROS, ONE, "NodeExists (k, S) /\\ ExpandMacro stray"],
         "refused query unbound at 1:13\n",
     ),
     // first in a body, then in the query
     (
-        MACROS,
-        ONE,
-        "ExpandMacro stray /\\ NodeExists (k, S)",
+        &[MACROS, ONE, "ExpandMacro stray /\\ NodeExists (k, S)"],
         "refused model unbound at 4:34\n",
     ),
     // 33 variables
     (
-        NO_AXIOMS,
-        ONE,
-        "exists core \"c\", exists core \"c\", exists core \"c\", exists core \"c\", exists core \"c\", exists core \"c\", exists core \"c\", exists core \"c\", exists core \"c\", exists core \"c\", exists core \"c\", exists core \"c\", exists core \"c\", exists core \"c\", exists core \"c\", exists core \"c\", exists core \"c\", exists core \"c\", exists core \"c\", exists core \"c\", exists core \"c\", exists core \"c\", exists core \"c\", exists core \"c\", exists core \"c\", exists core \"c\", exists core \"c\", exists core \"c\", exists core \"c\", exists core \"c\", exists core \"c\", exists core \"c\", exists core \"c\", True",
+        &[
+            NO_AXIOMS,
+            ONE,
+            "exists core \"c\", exists core \"c\", exists core \"c\", exists core \"c\", exists core \"c\", exists core \"c\", exists core \"c\", exists core \"c\", exists core \"c\", exists core \"c\", exists core \"c\", exists core \"c\", exists core \"c\", exists core \"c\", exists core \"c\", exists core \"c\", exists core \"c\", exists core \"c\", exists core \"c\", exists core \"c\", exists core \"c\", exists core \"c\", exists core \"c\", exists core \"c\", exists core \"c\", exists core \"c\", exists core \"c\", exists core \"c\", exists core \"c\", exists core \"c\", exists core \"c\", exists core \"c\", exists core \"c\", True",
+        ],
         "refused query too-many-variables at 1:545\n",
     ),
     // the macro is judged before a name that stands earlier
     (
-        MACROS,
-        ONE,
-        "NodeExists (k, S) /\\ ExpandMacro none",
+        &[MACROS, ONE, "NodeExists (k, S) /\\ ExpandMacro none"],
         "refused query macro-unknown at 1:34\n",
     ),
     // the model's fault comes first
-    (NO_TEXT, NO_TEXT, "\"", "refused model syntax at 1:1\n"),
+    (&[NO_TEXT, NO_TEXT, "\""], "refused model syntax at 1:1\n"),
     // the test's fault comes before the query's
-    (NO_AXIOMS, NO_TEXT, "\"", "refused test syntax at 1:1\n"),
+    (&[NO_AXIOMS, NO_TEXT, "\""], "refused test syntax at 1:1\n"),
 ];
-
-#[test]
-fn the_first_fault_of_the_three_files_is_told(rt: HostRuntime) -> Result<(), Fail> {
-    let wrong = first_other_of_three(rt.alloc(), "ask model test query", Status::Refused, REFUSED)?;
-    assert_eq!(rt; wrong, None);
-    Ok(())
-}
 
 /// The command, the calls of the files and of the sink that fail, and how it ends over the files `model`, `test`, `query`
 /// and `bad`, which no reader takes.
-const FAILS: &[Failed<'static>] = &[
+pub(crate) const FAILS: &[Failed<'static>] = &[
     ("ask none test query", &[], &[], Status::ReadFault, ""),
     ("ask model none query", &[], &[], Status::ReadFault, ""),
     ("ask model test none", &[], &[], Status::ReadFault, ""),
@@ -189,15 +145,3 @@ const FAILS: &[Failed<'static>] = &[
         "ask always\nwith\nobservable\n",
     ),
 ];
-
-#[test]
-fn a_failed_call_is_told_by_the_status(rt: HostRuntime) -> Result<(), Fail> {
-    let contents = &[
-        ("model", NO_AXIOMS),
-        ("test", ONE),
-        ("query", "True"),
-        ("bad", NO_TEXT),
-    ];
-    assert_eq!(rt; first_wrong_failure(rt.alloc(), contents, FAILS)?, None);
-    Ok(())
-}

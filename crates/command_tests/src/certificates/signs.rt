@@ -1,13 +1,11 @@
 //! Certificates of version 2: texts with signs, each with what it is to its model and test.
 use super::judging::Judged;
-use crate::memory_runs::{ends_on, first_other_of_two};
+use crate::memory_runs::Told;
 use cert_check::Checked;
 use example_texts::{
     BOTH_OR_ONE, EITHER_AND, EITHER_OF_THREE, EITHER_ORDER, EMPTY, ONE, SOME_OP, TWO,
     TWO_FORBIDDEN, UNORDERED,
 };
-use pc_common::Status;
-use std::test::Fail;
 
 pub(crate) const SIGNED: &[Judged] = &[
     (
@@ -190,35 +188,17 @@ pub(crate) const SIGNED: &[Judged] = &[
 ];
 
 /// What `check2` writes for a model and a test.
-const FOUND: &[(&'static str, &'static str, &'static str)] = &[
+pub(crate) const FOUND: &[Told<'static>] = &[
     (
-        BOTH_OR_ONE,
-        ONE,
+        &[BOTH_OR_ONE, ONE],
         "unobservable\ntest unstated\nversion 2\nsplit 1\nabsent 0.0@0:T\nabsent 0.0@0:U\nend\n",
     ),
     (
-        EITHER_ORDER,
-        TWO_FORBIDDEN,
+        &[EITHER_ORDER, TWO_FORBIDDEN],
         "unobservable\ntest forbidden: ok\nversion 2\nsplit 1\npath 0.0@0:S 1.0@0:S\npath 1.0@0:S 0.0@0:S 0.0@0:T\nend\n",
     ),
     (
-        EITHER_AND,
-        ONE,
+        &[EITHER_AND, ONE],
         "unobservable\ntest unstated\nversion 2\nsplit 1\nsplit 9\nabsent 0.0@0:U\npath 0.0@0:U 0.0@0:S\nsplit ~2\nabsent 0.0@0:S\npath 0.0@0:U 0.0@0:S\nend\n",
     ),
 ];
-
-#[test]
-fn a_search_with_signs_writes_them(rt: HostRuntime) -> Result<(), Fail> {
-    let wrong = first_other_of_two(rt.alloc(), "check2 model test", Status::Unobservable, FOUND)?;
-    assert_eq!(rt; wrong, None);
-    Ok(())
-}
-
-#[test]
-fn a_graph_has_no_version(rt: HostRuntime) -> Result<(), Fail> {
-    let text = "observable\ntest permitted: ok\nnode 0.0@0:S\nnode 1.0@0:S\nend\n";
-    let end = (Status::Observable, text);
-    assert!(rt; ends_on(rt.alloc(), "check2 model test", &[UNORDERED, TWO], end)?);
-    Ok(())
-}

@@ -1,9 +1,7 @@
 //! The command verify: a text judged against a model and a test, whoever made it.
 use super::judging::{JUDGED, REFUTED};
 use super::signs::SIGNED;
-use crate::memory_runs::{
-    End, Failed, Plan, USAGE, ends_on, first_unreported, first_wrong_failure,
-};
+use crate::memory_runs::{End, Failed, Plan, USAGE, ends_on};
 use cert_check::Checked;
 use example_texts::{EITHER_ORDER, ORDERED, TWO, TWO_FORBIDDEN, TWO_IN_ORDER};
 use pc_common::{Memory, Status};
@@ -47,7 +45,7 @@ fn a_text_is_verified_or_refused_at_its_line(rt: HostRuntime) -> Result<(), Fail
 }
 
 /// Words, which call of the files and of the sink fails, and how the run ends.
-const ENDS: &[Failed<'static>] = &[
+pub(crate) const ENDS: &[Failed<'static>] = &[
     (WORDS, &[], &[], Status::Observable, "verified observable\n"),
     // a name that is missing; a fault of the model is named before the third file is come to
     ("verify model test none", &[], &[], Status::ReadFault, ""),
@@ -81,20 +79,8 @@ const ENDS: &[Failed<'static>] = &[
     ("verify model test", &[1], &[], Status::Usage, USAGE),
 ];
 
-#[test]
-fn a_run_that_ends_early_says_why(rt: HostRuntime) -> Result<(), Fail> {
-    let contents = &[
-        ("model", ORDERED),
-        ("test", TWO),
-        ("certificate", TWO_IN_ORDER),
-        ("bad", "t"),
-    ];
-    assert_eq!(rt; first_wrong_failure(rt.alloc(), contents, ENDS)?, None);
-    Ok(())
-}
-
 /// Texts that are verified.
-const PLANS: &[Plan<'static>] = &[
+pub(crate) const PLANS: &[Plan<'static>] = &[
     (
         WORDS,
         &[EITHER_ORDER, TWO_FORBIDDEN, REFUTED],
@@ -103,11 +89,3 @@ const PLANS: &[Plan<'static>] = &[
     ),
     (WORDS, &[ORDERED, TWO, TWO_IN_ORDER], GRAPH_VERIFIED, 1),
 ];
-
-#[test]
-fn a_failed_read_writes_nothing_and_a_failed_write_cuts_the_line(
-    rt: HostRuntime,
-) -> Result<(), Fail> {
-    assert_eq!(rt; first_unreported(rt.alloc(), PLANS)?, None);
-    Ok(())
-}

@@ -1,12 +1,11 @@
 //! Whole models: the verdict with its certificate, line by line.
-use crate::memory_runs::{Failed, TwoFiles, ends_on, first_wrong_failure, first_wrong_of_two};
+use crate::memory_runs::{Failed, Run};
 use example_texts::{
     BOTH_ORDERS, CAPTURED, EITHER_ORDER, EMPTY, FAR_CORE, FIRST_IS_LAST, IN_ORDER, ITSELF, JOINED,
     LAST_WRITE, MESSAGE_PASSING, NO_EDGES, ONE, ORDERED, SOME_OP, STORE_BUFFER, STORE_BUFFERING,
     TURNED_BACK, TWO, TWO_CORES, TWO_FORBIDDEN, UNORDERED,
 };
 use pc_common::Status;
-use std::test::Fail;
 
 /// Neither of two choices has a side that is closed at once.
 const BOTH_OPEN: &str = "StageName 0 \"S\". StageName 1 \"T\". StageName 2 \"U\".
@@ -52,173 +51,147 @@ Axiom \"x\": forall microops \"i\",
 ";
 
 /// A model and a test, and how a check of them ends.
-const VERDICTS: &[TwoFiles<'static>] = &[
+pub(crate) const VERDICTS: &[Run<'static>] = &[
     (
-        "",
-        EMPTY,
+        &["", EMPTY],
         Status::Observable,
         "observable\ntest unstated\nend\n",
     ),
     (
-        SOME_OP,
-        EMPTY,
+        &[SOME_OP, EMPTY],
         Status::Unobservable,
         "unobservable\ntest unstated\nfalse\nend\n",
     ),
     (
-        ORDERED,
-        TWO,
+        &[ORDERED, TWO],
         Status::Observable,
         "observable\ntest permitted: ok\nnode 0.0@0:S\nnode 1.0@0:S\nedge 0.0@0:S 1.0@0:S\nend\n",
     ),
     (
-        BOTH_ORDERS,
-        TWO_FORBIDDEN,
+        &[BOTH_ORDERS, TWO_FORBIDDEN],
         Status::Unobservable,
         "unobservable\ntest forbidden: ok\ncycle 0.0@0:S 1.0@0:S\nend\n",
     ),
     (
-        ITSELF,
-        ONE,
+        &[ITSELF, ONE],
         Status::Unobservable,
         "unobservable\ntest unstated\ncycle 0.0@0:S\nend\n",
     ),
     (
-        CAPTURED,
-        TWO,
+        &[CAPTURED, TWO],
         Status::Observable,
         "observable\ntest permitted: ok\nend\n",
     ),
     (
-        EITHER_ORDER,
-        TWO_FORBIDDEN,
+        &[EITHER_ORDER, TWO_FORBIDDEN],
         Status::Unobservable,
         "unobservable\ntest forbidden: ok\nsplit 1\npath 0.0@0:S 1.0@0:S\npath 1.0@0:S 0.0@0:S 0.0@0:T\nend\n",
     ),
     (
-        JOINED,
-        ONE,
+        &[JOINED, ONE],
         Status::Unobservable,
         "unobservable\ntest unstated\npath 0.0@0:S 0.0@0:T 0.0@0:U\nend\n",
     ),
     (
-        UNORDERED,
-        TWO,
+        &[UNORDERED, TWO],
         Status::Observable,
         "observable\ntest permitted: ok\nnode 0.0@0:S\nnode 1.0@0:S\nend\n",
     ),
     (
-        IN_ORDER,
-        MESSAGE_PASSING,
+        &[IN_ORDER, MESSAGE_PASSING],
         Status::Unobservable,
         "unobservable\ntest forbidden: ok\ncycle 0.0@0:Mem 1.0@0:Mem 2.0@1:Mem 3.0@1:Mem\nend\n",
     ),
     (
-        STORE_BUFFER,
-        STORE_BUFFERING,
+        &[STORE_BUFFER, STORE_BUFFERING],
         Status::Observable,
         "observable\ntest forbidden: BUG\nnode 0.0@0:Exec\nnode 0.0@0:Mem\nnode 2.0@1:Exec\nnode 2.0@1:Mem\nnode 1.0@0:Exec\nnode 3.0@1:Exec\nedge 0.0@0:Exec 0.0@0:Mem\nedge 2.0@1:Exec 2.0@1:Mem\nedge 0.0@0:Exec 1.0@0:Exec\nedge 2.0@1:Exec 3.0@1:Exec\nedge 1.0@0:Exec 2.0@1:Mem\nedge 3.0@1:Exec 0.0@0:Mem\nend\n",
     ),
     (
-        IN_ORDER,
-        STORE_BUFFERING,
+        &[IN_ORDER, STORE_BUFFERING],
         Status::Unobservable,
         "unobservable\ntest forbidden: ok\ncycle 0.0@0:Mem 1.0@0:Mem 2.0@1:Mem 3.0@1:Mem\nend\n",
     ),
     (
-        LAST_WRITE,
-        TWO,
+        &[LAST_WRITE, TWO],
         Status::Observable,
         "observable\ntest permitted: ok\nnode 0.0@0:S\nnode 1.0@0:S\nedge 0.0@0:S 1.0@0:S\nend\n",
     ),
     (
-        LAST_WRITE,
-        FIRST_IS_LAST,
+        &[LAST_WRITE, FIRST_IS_LAST],
         Status::Unobservable,
         "unobservable\ntest permitted: stricter\ncycle 0.0@0:S 1.0@0:S\nend\n",
     ),
     (
-        FAR_CORE,
-        TWO_CORES,
+        &[FAR_CORE, TWO_CORES],
         Status::Observable,
         "observable\ntest unstated\nnode 0.0@5:S\nnode 0.0@0:S\nnode 1.0@5:S\nnode 1.0@1:S\nend\n",
     ),
     (
-        TURNED_BACK,
-        ONE,
+        &[TURNED_BACK, ONE],
         Status::Observable,
         "observable\ntest unstated\nnode 0.0@0:S\nnode 0.0@0:T\nedge 0.0@0:T 0.0@0:S\nend\n",
     ),
     (
-        NO_EDGES,
-        TWO,
+        &[NO_EDGES, TWO],
         Status::Observable,
         "observable\ntest permitted: ok\nend\n",
     ),
     // of two choices with equally many open sides the one at the lower position is split
     (
-        BOTH_OPEN,
-        ONE,
+        &[BOTH_OPEN, ONE],
         Status::Unobservable,
         "unobservable\ntest unstated\nsplit 1\nsplit 4\ncycle 0.0@0:S 0.0@0:T\ncycle 0.0@0:S 0.0@0:T 0.0@0:U\nsplit 4\ncycle 0.0@0:S 0.0@0:U\ncycle 0.0@0:S 0.0@0:U\nend\n",
     ),
     (
-        BOTH_HALF_OPEN,
-        ONE,
+        &[BOTH_HALF_OPEN, ONE],
         Status::Unobservable,
         "unobservable\ntest unstated\nsplit 3\ncycle 0.0@0:S 0.0@0:T\nsplit 6\ncycle 0.0@0:S 0.0@0:T\ncycle 0.0@0:S 0.0@0:T 0.0@0:U\nend\n",
     ),
     // a choice with a closed side goes before an open one at a lower position
     (
-        SECOND_CLOSED,
-        ONE,
+        &[SECOND_CLOSED, ONE],
         Status::Unobservable,
         "unobservable\ntest unstated\nsplit 6\ncycle 0.0@0:S 0.0@0:T\ncycle 0.0@0:S 0.0@0:T 0.0@0:U\nend\n",
     ),
     // a split that both sides are closed without is left out
     (
-        FREE_FIRST,
-        ONE,
+        &[FREE_FIRST, ONE],
         Status::Unobservable,
         "unobservable\ntest unstated\nsplit 5\nsplit 8\ncycle 0.0@0:S 0.0@0:T\ncycle 0.0@0:S 0.0@0:T 0.0@0:U\nsplit 8\ncycle 0.0@0:S 0.0@0:U\ncycle 0.0@0:S 0.0@0:U\nend\n",
     ),
     // so is one whose right side is closed without it
     (
-        CLOSED_FIRST,
-        ONE,
+        &[CLOSED_FIRST, ONE],
         Status::Unobservable,
         "unobservable\ntest unstated\nsplit 5\nsplit 8\ncycle 0.0@0:S 0.0@0:T\ncycle 0.0@0:S 0.0@0:T 0.0@0:U\nsplit 8\ncycle 0.0@0:S 0.0@0:U\ncycle 0.0@0:S 0.0@0:U\nend\n",
     ),
 ];
 
-#[test]
-fn a_verdict_comes_with_its_certificate(rt: HostRuntime) -> Result<(), Fail> {
-    assert_eq!(rt;
-        first_wrong_of_two(rt.alloc(), "check model test", VERDICTS)?,
-        None
-    );
-    Ok(())
-}
-
 /// The models of which a split is left out, and their refutation in version 2.
-const SIGNED: &[&'static str] = &[FREE_FIRST, CLOSED_FIRST];
-
-#[test]
-fn a_split_is_left_out_in_version_2_too(rt: HostRuntime) -> Result<(), Fail> {
-    let end = (
+pub(crate) const SIGNED: &[Run<'static>] = &[
+    (
+        &[FREE_FIRST, ONE],
         Status::Unobservable,
         "unobservable\ntest unstated\nversion 2\nsplit 5\nsplit 8\ncycle 0.0@0:S 0.0@0:T\ncycle 0.0@0:S 0.0@0:T 0.0@0:U\nsplit 8\ncycle 0.0@0:S 0.0@0:U\ncycle 0.0@0:S 0.0@0:U\nend\n",
-    );
-    for model in SIGNED {
-        assert!(rt; ends_on(rt.alloc(), "check2 model test", &[*model, ONE], end)?);
-    }
-    Ok(())
-}
+    ),
+    (
+        &[CLOSED_FIRST, ONE],
+        Status::Unobservable,
+        "unobservable\ntest unstated\nversion 2\nsplit 5\nsplit 8\ncycle 0.0@0:S 0.0@0:T\ncycle 0.0@0:S 0.0@0:T 0.0@0:U\nsplit 8\ncycle 0.0@0:S 0.0@0:U\ncycle 0.0@0:S 0.0@0:U\nend\n",
+    ),
+    // a graph has no version
+    (
+        &[UNORDERED, TWO],
+        Status::Observable,
+        "observable\ntest permitted: ok\nnode 0.0@0:S\nnode 1.0@0:S\nend\n",
+    ),
+];
 
 const CHECK: &str = "check model test";
 
 /// The verdict line, the second line, the body and the last line are a call each.
-const CUT_SHORT: &[Failed<'static>] = &[
+pub(crate) const CUT_SHORT: &[Failed<'static>] = &[
     (CHECK, &[], &[1], Status::WriteFault, ""),
     (CHECK, &[], &[2], Status::WriteFault, "observable\n"),
     (
@@ -236,10 +209,3 @@ const CUT_SHORT: &[Failed<'static>] = &[
         "observable\ntest permitted: ok\nnode 0.0@0:S\nnode 1.0@0:S\nedge 0.0@0:S 1.0@0:S\n",
     ),
 ];
-
-#[test]
-fn each_line_before_and_behind_the_body_is_one_piece(rt: HostRuntime) -> Result<(), Fail> {
-    let contents = &[("model", ORDERED), ("test", TWO)];
-    assert_eq!(rt; first_wrong_failure(rt.alloc(), contents, CUT_SHORT)?, None);
-    Ok(())
-}

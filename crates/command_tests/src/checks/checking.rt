@@ -1,12 +1,8 @@
 //! The command check: from words and files to a status and a text.
-use crate::memory_runs::{
-    Failed, Plan, TwoFiles, USAGE, ends_in, ends_on, first_taken, first_unreported,
-    first_wrong_failure, first_wrong_of_two, hold_files, words,
-};
+use crate::memory_runs::{Failed, Plan, Run, Told, USAGE, hold_files, words};
 use example_texts::{BOTH_ORDERS, EMPTY, ITSELF, ONE, ORDERED, TWO, TWO_FORBIDDEN, TWO_IN_ORDER};
-use pc_common::{Bytes, Calls, Held, HeldFile, MemFiles, Memory, Status, SureFiles, SureSink};
+use pc_common::{Status, SureFiles, SureSink};
 use pipecheck_run::run;
-use std::alloc::Global;
 use std::test::Fail;
 
 const CYCLE: &str = "unobservable
@@ -22,121 +18,85 @@ end
 ";
 
 /// A model and a test, and how a check of them ends.
-const CHECKS: &[TwoFiles<'static>] = &[
+pub(crate) const CHECKS: &[Run<'static>] = &[
     (
-        "",
-        EMPTY,
+        &["", EMPTY],
         Status::Observable,
         "observable\ntest unstated\nend\n",
     ),
-    (ORDERED, TWO, Status::Observable, TWO_IN_ORDER),
-    (BOTH_ORDERS, TWO_FORBIDDEN, Status::Unobservable, CYCLE),
-    (BOTH_ORDERS, TWO, Status::Unobservable, STRICTER),
+    (&[ORDERED, TWO], Status::Observable, TWO_IN_ORDER),
+    (&[BOTH_ORDERS, TWO_FORBIDDEN], Status::Unobservable, CYCLE),
+    (&[BOTH_ORDERS, TWO], Status::Unobservable, STRICTER),
     (
-        ITSELF,
-        ONE,
+        &[ITSELF, ONE],
         Status::Unobservable,
         "unobservable\ntest unstated\ncycle 0.0@0:S\nend\n",
     ),
     (
-        "True.",
-        TWO,
+        &["True.", TWO],
         Status::Refused,
         "refused model syntax at 1:1\n",
     ),
     (
-        ORDERED,
-        "t",
+        &[ORDERED, "t"],
         Status::Refused,
         "refused test syntax at 1:1\n",
     ),
     // the model's fault is named before the test's
     (
-        "True.",
-        "t",
+        &["True.", "t"],
         Status::Refused,
         "refused model syntax at 1:1\n",
     ),
 ];
 
-#[test]
-fn a_check_ends_with_its_status_and_its_text(rt: HostRuntime) -> Result<(), Fail> {
-    assert_eq!(rt;
-        first_wrong_of_two(rt.alloc(), "check model test", CHECKS)?,
-        None
-    );
-    Ok(())
-}
-
 /// Tests over the empty model, and the one line that refuses each.
-const REFUSED: &[(&'static str, &'static str)] = &[
+pub(crate) const REFUSED: &[Told<'static>] = &[
     (
-        "Litmus \"d\".\nMicroop 0 0 0 0 (Fence).\nMicroop 0 0 0 0 (Fence).\n",
+        &[
+            "",
+            "Litmus \"d\".\nMicroop 0 0 0 0 (Fence).\nMicroop 0 0 0 0 (Fence).\n",
+        ],
         "refused test duplicate-op at 3:9\n",
     ),
     (
-        "Litmus \"d\".\nMicroop 0 64 0 0 (Fence).\n",
+        &["", "Litmus \"d\".\nMicroop 0 64 0 0 (Fence).\n"],
         "refused test core-number at 2:11\n",
     ),
     (
-        "Litmus \"d\".\nMicroop 0 0 0 0 (Fence).\nMicroop 0 1 0 1 (Fence).\n",
+        &[
+            "",
+            "Litmus \"d\".\nMicroop 0 0 0 0 (Fence).\nMicroop 0 1 0 1 (Fence).\n",
+        ],
         "refused test split-instruction at 3:11\n",
     ),
     (
-        "Litmus \"d\".\nPermitted.\nForbidden.\n",
+        &["", "Litmus \"d\".\nPermitted.\nForbidden.\n"],
         "refused test again-expectation at 3:1\n",
     ),
     (
-        "Litmus \"d\".\nRelationship addr 0 0 -> 1 0.\n",
+        &["", "Litmus \"d\".\nRelationship addr 0 0 -> 1 0.\n"],
         "refused test op-unknown at 2:19\n",
     ),
     (
-        "Litmus \"d\".\nInit (PA 0 0) 1.\nInit (PA 0 0) 1.\n",
+        &["", "Litmus \"d\".\nInit (PA 0 0) 1.\nInit (PA 0 0) 1.\n"],
         "refused test again-initial at 3:1\n",
     ),
     // the first fault in the text's order
     (
-        "Litmus \"d\".\nFinal (PA 0 0) 1.\nFinal (PA 0 0) 1.\nPermitted.\nForbidden.\n",
+        &[
+            "",
+            "Litmus \"d\".\nFinal (PA 0 0) 1.\nFinal (PA 0 0) 1.\nPermitted.\nForbidden.\n",
+        ],
         "refused test again-final at 3:1\n",
     ),
 ];
 
-#[test]
-fn a_test_is_refused_at_its_first_fault(rt: HostRuntime) -> Result<(), Fail> {
-    for (test, text) in REFUSED {
-        let end = (Status::Refused, *text);
-        let contents = &["", *test];
-        assert!(rt;
-            ends_on(rt.alloc(), "check model test", contents, end)?,
-            "{text}"
-        );
-    }
-    Ok(())
-}
-
 const CHECK: &str = "check model test";
-
-const NO_COMMANDS: &[&'static str] = &[
-    "",
-    "check",
-    "check model",
-    "check model test more",
-    "Check model test",
-    "model test check",
-    "gen 1",
-    "gen 17",
-    "gen 02",
-];
-
-#[test]
-fn words_of_no_command_are_told_so(rt: HostRuntime) -> Result<(), Fail> {
-    assert_eq!(rt; first_taken(rt.alloc(), NO_COMMANDS)?, None);
-    Ok(())
-}
 
 /// The command, the calls of the files and of the sink that fail, and how it ends over the files `model`,
 /// `test` and `bad`. A line that is the whole answer is written in one call.
-const FAILS: &[Failed<'static>] = &[
+pub(crate) const FAILS: &[Failed<'static>] = &[
     // a missing name; `opening` counts what is opened
     ("check model none", &[], &[], Status::ReadFault, ""),
     ("check none test", &[], &[], Status::ReadFault, ""),
@@ -165,15 +125,8 @@ const FAILS: &[Failed<'static>] = &[
     ("check none test", &[], &[1], Status::ReadFault, ""),
 ];
 
-#[test]
-fn a_failed_call_is_told_by_the_status(rt: HostRuntime) -> Result<(), Fail> {
-    let contents = &[("model", ORDERED), ("test", TWO), ("bad", "t")];
-    assert_eq!(rt; first_wrong_failure(rt.alloc(), contents, FAILS)?, None);
-    Ok(())
-}
-
 /// Checks that have an answer. The verdict, the second line, what is between, and the end are a piece each.
-const PLANS: &[Plan<'static>] = &[
+pub(crate) const PLANS: &[Plan<'static>] = &[
     (
         "check model test",
         &[ORDERED, TWO],
@@ -187,47 +140,6 @@ const PLANS: &[Plan<'static>] = &[
         4,
     ),
 ];
-
-#[test]
-fn a_failed_read_writes_nothing_and_a_failed_write_cuts_the_text(
-    rt: HostRuntime,
-) -> Result<(), Fail> {
-    assert_eq!(rt; first_unreported(rt.alloc(), PLANS)?, None);
-    Ok(())
-}
-
-/// A model of so many spaces, and the empty test.
-fn spaces(alloc: Global, count: usize) -> Result<Held, Memory> {
-    let mut held = hold_files(alloc, &[("test", EMPTY)])?;
-    let name = Bytes::from_vec(b"model".to_vec(alloc)?);
-    let bytes = Bytes::from_vec(vec![in alloc; b' '; count]?);
-    held.push(HeldFile { name, bytes })?;
-    Ok(held)
-}
-
-fn ends_over_spaces(
-    alloc: Global,
-    words: &[String],
-    count: usize,
-    end: (Status, &str),
-) -> Result<bool, Memory> {
-    let mut files = MemFiles::new(alloc, spaces(alloc, count)?, Calls::new(alloc))?;
-    ends_in(alloc, words, &mut files, &[], end)
-}
-
-#[test]
-fn a_model_is_read_up_to_its_limit(rt: HostRuntime) -> Result<(), Fail> {
-    let words = words(rt.alloc(), "check model test")?;
-    let observable = (Status::Observable, "observable\ntest unstated\nend\n");
-    let refused = (Status::Refused, "refused model too-large at 1:1\n");
-    for (count, end) in [(1_048_576, observable), (1_048_577, refused)] {
-        assert!(rt;
-            ends_over_spaces(rt.alloc(), &words, count, end)?,
-            "{count} spaces"
-        );
-    }
-    Ok(())
-}
 
 #[test]
 fn what_cannot_fail_is_answered(rt: HostRuntime) -> Result<(), Fail> {

@@ -1,8 +1,7 @@
 //! Which of several answers comes, where the verdict leaves a choice.
-use crate::memory_runs::ends_on;
+use crate::memory_runs::Run;
 use example_texts::ONE;
 use pc_common::Status;
-use std::test::Fail;
 
 /// Both ends of an edge are denied, in either order.
 const ENDS_DENIED: &str = "StageName 0 \"S\". StageName 1 \"T\".
@@ -45,51 +44,38 @@ Axiom \"x\": forall microops \"i\", AddEdge ((i, S), (i, T)) /\\ AddEdge ((i, S)
 ";
 
 /// A model, and what a check of it writes.
-const TIES: &[(&'static str, Status, &'static str)] = &[
+pub(crate) const TIES: &[Run<'static>] = &[
     // of an edge whose ends are both denied the first end is named, whichever was denied first
     (
-        ENDS_DENIED,
+        &[ENDS_DENIED, ONE],
         Status::Unobservable,
         "unobservable\ntest unstated\nabsent 0.0@0:S\nend\n",
     ),
     (
-        ENDS_DENIED_LAST_FIRST,
+        &[ENDS_DENIED_LAST_FIRST, ONE],
         Status::Unobservable,
         "unobservable\ntest unstated\nabsent 0.0@0:S\nend\n",
     ),
     // of two shortest chains the one over the node that was seen first
     (
-        TWO_CHAINS,
+        &[TWO_CHAINS, ONE],
         Status::Unobservable,
         "unobservable\ntest unstated\npath 0.0@0:A 0.0@0:C 0.0@0:D\nend\n",
     ),
     (
-        TWO_CHAINS_FIRST_SEEN,
+        &[TWO_CHAINS_FIRST_SEEN, ONE],
         Status::Unobservable,
         "unobservable\ntest unstated\npath 0.0@0:A 0.0@0:B 0.0@0:D\nend\n",
     ),
     // of two denied pairs that an edge joins the one that was denied first
     (
-        TWO_PAIRS,
+        &[TWO_PAIRS, ONE],
         Status::Unobservable,
         "unobservable\ntest unstated\npath 0.0@0:B 0.0@0:P 0.0@0:Q 0.0@0:D\nend\n",
     ),
     (
-        TWICE,
+        &[TWICE, ONE],
         Status::Observable,
         "observable\ntest unstated\nnode 0.0@0:S\nnode 0.0@0:T\nedge 0.0@0:S 0.0@0:T\nend\n",
     ),
 ];
-
-#[test]
-fn a_tie_is_decided_by_order(rt: HostRuntime) -> Result<(), Fail> {
-    for (model, status, text) in TIES {
-        let end = (*status, *text);
-        let contents = &[*model, ONE];
-        assert!(rt;
-            ends_on(rt.alloc(), "check model test", contents, end)?,
-            "{text}"
-        );
-    }
-    Ok(())
-}

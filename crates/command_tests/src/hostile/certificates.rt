@@ -1,7 +1,7 @@
-//! Certificates that are made to break the judge: each beginning of one, a million splits, and one byte too many.
-use crate::memory_runs::{ends_in, ends_on, hold_files, output_of, words};
+//! Certificates that are made to break the judge: each beginning of one, and a million splits.
+use crate::memory_runs::{ends_on, output_of};
 use example_texts::{EITHER_ORDER, TWO_FORBIDDEN};
-use pc_common::{Bytes, Calls, Held, HeldFile, MemFiles, Memory, Status};
+use pc_common::{Memory, Status};
 use std::alloc::Global;
 use std::test::Fail;
 
@@ -61,38 +61,5 @@ fn splits(alloc: Global, count: u64) -> Result<String, Memory> {
 fn a_million_splits_leave_branches_open_at_the_end(rt: HostRuntime) -> Result<(), Fail> {
     let text = splits(rt.alloc(), 1_000_000)?;
     assert!(rt; is_refused(rt.alloc(), text.as_bytes(), 1_000_003)?);
-    Ok(())
-}
-
-/// The two files, and a certificate of so many spaces.
-fn spaces(alloc: Global, count: usize) -> Result<Held, Memory> {
-    let mut held = hold_files(alloc, &[("model", EITHER_ORDER), ("test", TWO_FORBIDDEN)])?;
-    let name = Bytes::from_vec(b"certificate".to_vec(alloc)?);
-    let bytes = Bytes::from_vec(vec![in alloc; b' '; count]?);
-    held.push(HeldFile { name, bytes })?;
-    Ok(held)
-}
-
-/// Whether a certificate of so many spaces is answered by this line.
-fn are_spaces_answered(alloc: Global, count: usize, line: &str) -> Result<bool, Memory> {
-    let words = words(alloc, WORDS)?;
-    let mut files = MemFiles::new(alloc, spaces(alloc, count)?, Calls::new(alloc))?;
-    ends_in(alloc, &words, &mut files, &[], (Status::CertRefused, line))
-}
-
-/// How many bytes a certificate has, and the line that answers it.
-const LENGTHS: &[(usize, &'static str)] = &[
-    (67_108_864, "certificate refused at line 1\n"),
-    (67_108_865, "certificate refused at line 0\n"),
-];
-
-#[test]
-fn a_text_past_the_limit_is_refused_as_a_whole(rt: HostRuntime) -> Result<(), Fail> {
-    for (count, line) in LENGTHS {
-        assert!(rt;
-            are_spaces_answered(rt.alloc(), *count, line)?,
-            "{count} bytes"
-        );
-    }
     Ok(())
 }

@@ -1,7 +1,7 @@
-//! Models and tests that are made to break their readers: long chains of macros, 200 names with a long one, 40,000
-//! edges of one axiom, and one micro-op too many.
-use crate::memory_runs::{End, ends_on, join_pieces};
-use example_texts::{EMPTY, ONE};
+//! Models and tests that are made to break their readers: long chains of macros, 200 names with a long one, and one
+//! micro-op too many.
+use crate::memory_runs::{End, ends_on};
+use example_texts::EMPTY;
 use pc_common::{Memory, Status};
 use std::alloc::Global;
 use std::test::Fail;
@@ -106,27 +106,6 @@ fn each_of_200_names_keeps_its_meaning_beside_a_long_one(rt: HostRuntime) -> Res
         put_chain(&mut model, rt.alloc(), *count, Link::Once)?;
         assert!(rt; is_end(rt.alloc(), &model, EMPTY, *end)?, "{count} macros");
     }
-    Ok(())
-}
-
-/// One edge, over and over in one list.
-const ONE_EDGE: &[(&'static str, usize)] = &[
-    (
-        "StageName 0 \"S\". StageName 1 \"T\".\nAxiom \"x\": forall microops \"i\", AddEdges [",
-        1,
-    ),
-    ("((i, S), (i, T), \"\");", 40_000),
-    ("].\n", 1),
-];
-
-const ONE_EDGE_SHOWN: &str =
-    "observable\ntest unstated\nnode 0.0@0:S\nnode 0.0@0:T\nedge 0.0@0:S 0.0@0:T\nend\n";
-
-#[test]
-fn a_list_of_40000_edges_is_walked(rt: HostRuntime) -> Result<(), Fail> {
-    let model = join_pieces(rt.alloc(), ONE_EDGE)?;
-    let end = (Status::Observable, ONE_EDGE_SHOWN);
-    assert!(rt; is_end(rt.alloc(), &model, ONE, end)?);
     Ok(())
 }
 

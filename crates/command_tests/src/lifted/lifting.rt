@@ -1,7 +1,5 @@
 //! The command lift: a certificate of version 1 made into a lifted refutation, or refused at its line.
-use crate::memory_runs::{
-    Plan, ThreeFiles, ends_on, first_unreported, first_wrong_of_three, output_of,
-};
+use crate::memory_runs::{Plan, Run, ends_on, output_of};
 use example_texts::{BOTH_ORDERS, EITHER_ORDER, EMPTY, ORDERED, SOME_OP, TWO, TWO_FORBIDDEN};
 use pc_common::{Memory, Status};
 use std::alloc::Global;
@@ -74,77 +72,75 @@ fn a_lifted_refutation_is_verified(rt: HostRuntime) -> Result<(), Fail> {
 }
 
 /// A model and a test, a text, and how the command ends.
-const ENDS: &[ThreeFiles<'static>] = &[
+pub(crate) const ENDS: &[Run<'static>] = &[
     // one axiom is refuted by one line, on the tree as on the axioms
     (
-        SOME_OP,
-        EMPTY,
-        "unobservable\ntest unstated\nfalse\nend\n",
+        &[SOME_OP, EMPTY, "unobservable\ntest unstated\nfalse\nend\n"],
         Status::Done,
         "unobservable\ntest unstated\nlifted\nfalse 0\nend\n",
     ),
     // a graph that holds, and one that does not
     (
-        ORDERED,
-        TWO,
-        "observable\ntest permitted: ok\nnode 0.0@0:S\nnode 1.0@0:S\nedge 0.0@0:S 1.0@0:S\nend\n",
+        &[
+            ORDERED,
+            TWO,
+            "observable\ntest permitted: ok\nnode 0.0@0:S\nnode 1.0@0:S\nedge 0.0@0:S 1.0@0:S\nend\n",
+        ],
         Status::Observable,
         "verified observable\n",
     ),
     (
-        ORDERED,
-        TWO,
-        "observable\ntest permitted: ok\nnode 0.0@0:S\nnode 1.0@0:S\nedge 1.0@0:S 0.0@0:S\nend\n",
+        &[
+            ORDERED,
+            TWO,
+            "observable\ntest permitted: ok\nnode 0.0@0:S\nnode 1.0@0:S\nedge 1.0@0:S 0.0@0:S\nend\n",
+        ],
         Status::CertRefused,
         "certificate refused at line 6\n",
     ),
     // a refutation of version 2, no text at all, and a refutation that is lifted already
     (
-        BOTH_ORDERS,
-        TWO_FORBIDDEN,
-        "unobservable\ntest forbidden: ok\nversion 2\ncycle 0.0@0:S 1.0@0:S\nend\n",
+        &[
+            BOTH_ORDERS,
+            TWO_FORBIDDEN,
+            "unobservable\ntest forbidden: ok\nversion 2\ncycle 0.0@0:S 1.0@0:S\nend\n",
+        ],
         Status::CertRefused,
         "certificate refused at line 3\n",
     ),
     (
-        SOME_OP,
-        EMPTY,
-        "",
+        &[SOME_OP, EMPTY, ""],
         Status::CertRefused,
         "certificate refused at line 1\n",
     ),
     (
-        SOME_OP,
-        EMPTY,
-        "unobservable\ntest unstated\nlifted\nfalse 0\nend\n",
+        &[
+            SOME_OP,
+            EMPTY,
+            "unobservable\ntest unstated\nlifted\nfalse 0\nend\n",
+        ],
         Status::CertRefused,
         "certificate refused at line 3\n",
     ),
     // a step that closes nothing, and a byte after the end
     (
-        BOTH_ORDERS,
-        TWO_FORBIDDEN,
-        "unobservable\ntest forbidden: ok\ncycle 0.0@0:S\nend\n",
+        &[
+            BOTH_ORDERS,
+            TWO_FORBIDDEN,
+            "unobservable\ntest forbidden: ok\ncycle 0.0@0:S\nend\n",
+        ],
         Status::CertRefused,
         "certificate refused at line 3\n",
     ),
     (
-        SOME_OP,
-        EMPTY,
-        "unobservable\ntest unstated\nfalse\nend\nx",
+        &[SOME_OP, EMPTY, "unobservable\ntest unstated\nfalse\nend\nx"],
         Status::CertRefused,
         "certificate refused at line 5\n",
     ),
 ];
 
-#[test]
-fn a_certificate_is_lifted_or_told(rt: HostRuntime) -> Result<(), Fail> {
-    assert_eq!(rt; first_wrong_of_three(rt.alloc(), WORDS, ENDS)?, None);
-    Ok(())
-}
-
 /// The five lines of the lifted refutation are one piece.
-const PLANS: &[Plan<'static>] = &[(
+pub(crate) const PLANS: &[Plan<'static>] = &[(
     WORDS,
     &[SOME_OP, EMPTY, "unobservable\ntest unstated\nfalse\nend\n"],
     (
@@ -153,9 +149,3 @@ const PLANS: &[Plan<'static>] = &[(
     ),
     1,
 )];
-
-#[test]
-fn a_failed_call_cuts_lift_short(rt: HostRuntime) -> Result<(), Fail> {
-    assert_eq!(rt; first_unreported(rt.alloc(), PLANS)?, None);
-    Ok(())
-}

@@ -1,108 +1,113 @@
 //! The command verify-lifted: a text judged against a model and a test.
-use crate::memory_runs::{
-    Failed, Plan, ThreeFiles, USAGE, first_unreported, first_wrong_failure, first_wrong_of_three,
-};
+use crate::memory_runs::{Failed, Plan, Run, USAGE};
 use example_texts::{BOTH_ORDERS, EMPTY, SOME_OP, TWO_FORBIDDEN};
 use pc_common::Status;
-use std::test::Fail;
 
 const WORDS: &str = "verify-lifted model test certificate";
 
 const VERIFIED: &str = "verified unobservable\n";
 
 /// A model and a test, a text, and how the command ends.
-const ENDS: &[ThreeFiles<'static>] = &[
+pub(crate) const ENDS: &[Run<'static>] = &[
     (
-        BOTH_ORDERS,
-        TWO_FORBIDDEN,
-        "unobservable\ntest forbidden: ok\nlifted\ninst 0 0.0\ninst 2 1.0\nsplit 3\nfalse 4\nmember 4 0\ninst 1 0.0\ninst 6 1.0\nsplit 7\nfalse 8\nmember 8 0\ncycle 5 9\nend\n",
+        &[
+            BOTH_ORDERS,
+            TWO_FORBIDDEN,
+            "unobservable\ntest forbidden: ok\nlifted\ninst 0 0.0\ninst 2 1.0\nsplit 3\nfalse 4\nmember 4 0\ninst 1 0.0\ninst 6 1.0\nsplit 7\nfalse 8\nmember 8 0\ncycle 5 9\nend\n",
+        ],
         Status::Unobservable,
         VERIFIED,
     ),
     // no predicate against its sign, and a cycle that does not close
     (
-        BOTH_ORDERS,
-        TWO_FORBIDDEN,
-        "unobservable\ntest forbidden: ok\nlifted\ninst 0 0.0\ninst 2 1.0\nsplit 3\nfalse 3\nmember 4 0\ninst 1 0.0\ninst 6 1.0\nsplit 7\nfalse 8\nmember 8 0\ncycle 5 9\nend\n",
+        &[
+            BOTH_ORDERS,
+            TWO_FORBIDDEN,
+            "unobservable\ntest forbidden: ok\nlifted\ninst 0 0.0\ninst 2 1.0\nsplit 3\nfalse 3\nmember 4 0\ninst 1 0.0\ninst 6 1.0\nsplit 7\nfalse 8\nmember 8 0\ncycle 5 9\nend\n",
+        ],
         Status::CertRefused,
         "certificate refused at line 7\n",
     ),
     (
-        BOTH_ORDERS,
-        TWO_FORBIDDEN,
-        "unobservable\ntest forbidden: ok\nlifted\ninst 0 0.0\ninst 2 1.0\nsplit 3\nfalse 4\nmember 4 0\ninst 1 0.0\ninst 6 1.0\nsplit 7\nfalse 8\nmember 8 0\ncycle 5 5\nend\n",
+        &[
+            BOTH_ORDERS,
+            TWO_FORBIDDEN,
+            "unobservable\ntest forbidden: ok\nlifted\ninst 0 0.0\ninst 2 1.0\nsplit 3\nfalse 4\nmember 4 0\ninst 1 0.0\ninst 6 1.0\nsplit 7\nfalse 8\nmember 8 0\ncycle 5 5\nend\n",
+        ],
         Status::CertRefused,
         "certificate refused at line 14\n",
     ),
     // there is no micro-op, so that the one axiom is refuted by one line
     (
-        SOME_OP,
-        EMPTY,
-        "unobservable\ntest unstated\nlifted\nfalse 0\nend\n",
+        &[
+            SOME_OP,
+            EMPTY,
+            "unobservable\ntest unstated\nlifted\nfalse 0\nend\n",
+        ],
         Status::Unobservable,
         VERIFIED,
     ),
     // no line, a line without its end, a byte after the last line, and a byte that no line has
     (
-        SOME_OP,
-        EMPTY,
-        "",
+        &[SOME_OP, EMPTY, ""],
         Status::CertRefused,
         "certificate refused at line 1\n",
     ),
     (
-        SOME_OP,
-        EMPTY,
-        "unobservable\ntest unstated\nlifted\nfalse 0\nend",
+        &[
+            SOME_OP,
+            EMPTY,
+            "unobservable\ntest unstated\nlifted\nfalse 0\nend",
+        ],
         Status::CertRefused,
         "certificate refused at line 5\n",
     ),
     (
-        SOME_OP,
-        EMPTY,
-        "unobservable\ntest unstated\nlifted\nfalse 0\nend\nx",
+        &[
+            SOME_OP,
+            EMPTY,
+            "unobservable\ntest unstated\nlifted\nfalse 0\nend\nx",
+        ],
         Status::CertRefused,
         "certificate refused at line 6\n",
     ),
     (
-        SOME_OP,
-        EMPTY,
-        "unobservable\ntest unstated\nlifted\nfalse 0\0\nend\n",
+        &[
+            SOME_OP,
+            EMPTY,
+            "unobservable\ntest unstated\nlifted\nfalse 0\0\nend\n",
+        ],
         Status::CertRefused,
         "certificate refused at line 4\n",
     ),
     // certificates of the ground tree, of either version, and of a graph
     (
-        BOTH_ORDERS,
-        TWO_FORBIDDEN,
-        "unobservable\ntest forbidden: ok\ncycle 0.0@0:S 1.0@0:S\nend\n",
+        &[
+            BOTH_ORDERS,
+            TWO_FORBIDDEN,
+            "unobservable\ntest forbidden: ok\ncycle 0.0@0:S 1.0@0:S\nend\n",
+        ],
         Status::CertRefused,
         "certificate refused at line 3\n",
     ),
     (
-        BOTH_ORDERS,
-        TWO_FORBIDDEN,
-        "unobservable\ntest forbidden: ok\nversion 2\ncycle 0.0@0:S 1.0@0:S\nend\n",
+        &[
+            BOTH_ORDERS,
+            TWO_FORBIDDEN,
+            "unobservable\ntest forbidden: ok\nversion 2\ncycle 0.0@0:S 1.0@0:S\nend\n",
+        ],
         Status::CertRefused,
         "certificate refused at line 3\n",
     ),
     (
-        BOTH_ORDERS,
-        EMPTY,
-        "observable\ntest unstated\nend\n",
+        &[BOTH_ORDERS, EMPTY, "observable\ntest unstated\nend\n"],
         Status::CertRefused,
         "certificate refused at line 1\n",
     ),
 ];
 
-#[test]
-fn a_text_is_verified_or_refused_at_its_line(rt: HostRuntime) -> Result<(), Fail> {
-    assert_eq!(rt; first_wrong_of_three(rt.alloc(), WORDS, ENDS)?, None);
-    Ok(())
-}
-
 /// Words, which call of the files and of the sink fails, and how the run ends.
-const EARLY: &[Failed<'static>] = &[
+pub(crate) const EARLY: &[Failed<'static>] = &[
     (WORDS, &[], &[], Status::Unobservable, VERIFIED),
     // a name that is missing; a fault of the model or of the test is named before the third file is come to
     (
@@ -150,23 +155,8 @@ const EARLY: &[Failed<'static>] = &[
     ),
 ];
 
-#[test]
-fn a_run_that_ends_early_says_why(rt: HostRuntime) -> Result<(), Fail> {
-    let contents = &[
-        ("model", SOME_OP),
-        ("test", EMPTY),
-        (
-            "certificate",
-            "unobservable\ntest unstated\nlifted\nfalse 0\nend\n",
-        ),
-        ("bad", "t"),
-    ];
-    assert_eq!(rt; first_wrong_failure(rt.alloc(), contents, EARLY)?, None);
-    Ok(())
-}
-
 /// The one axiom is refuted by one line.
-const PLANS: &[Plan<'static>] = &[(
+pub(crate) const PLANS: &[Plan<'static>] = &[(
     WORDS,
     &[
         SOME_OP,
@@ -176,11 +166,3 @@ const PLANS: &[Plan<'static>] = &[(
     (Status::Unobservable, VERIFIED),
     1,
 )];
-
-#[test]
-fn a_failed_read_writes_nothing_and_a_failed_write_cuts_the_line(
-    rt: HostRuntime,
-) -> Result<(), Fail> {
-    assert_eq!(rt; first_unreported(rt.alloc(), PLANS)?, None);
-    Ok(())
-}

@@ -38,3 +38,25 @@ pub fn files(alloc: Global, contents: &[(&str, &str)], fails: &[u64]) -> Result<
 pub fn sink(alloc: Global, fails: &[u64]) -> Result<MemSink, Memory> {
     MemSink::new(alloc, 65536, calls(alloc, fails)?)
 }
+
+/// A file of this name that has so many spaces.
+fn spaces(alloc: Global, name: &str, count: usize) -> Result<HeldFile, Memory> {
+    let name = bytes(alloc, name)?;
+    let content = Bytes::from_vec(vec![in alloc; b' '; count]?);
+    Ok(HeldFile {
+        name,
+        bytes: content,
+    })
+}
+
+/// Files of these names and contents, and one of so many spaces. No call fails.
+pub(crate) fn files_and_spaces(
+    alloc: Global,
+    contents: &[(&str, &str)],
+    name: &str,
+    count: usize,
+) -> Result<MemFiles, Memory> {
+    let mut held = hold_files(alloc, contents)?;
+    held.push(spaces(alloc, name, count)?)?;
+    MemFiles::new(alloc, held, Calls::new(alloc))
+}

@@ -7,67 +7,38 @@ use std::alloc::Global;
 /// What the program writes where the words are no command.
 pub const USAGE: &str = "pipecheck: bad command line\n";
 
-/// What the two files of a command hold, and the status and the text that it ends with.
-pub type TwoFiles<'a> = (&'a str, &'a str, Status, &'a str);
+/// What the files hold, in the order in which a command names them, and the status and the text that it ends with.
+pub type Run<'a> = (&'a [&'a str], Status, &'a str);
 
-/// The same of three files.
-pub type ThreeFiles<'a> = (&'a str, &'a str, &'a str, Status, &'a str);
+/// The same where a table has one status: what the files hold, and the text.
+pub type Told<'a> = (&'a [&'a str], &'a str);
 
 /// A command, the calls of the files and of the sink that fail, and the status and the text that it ends with.
 pub type Failed<'a> = (&'a str, &'a [u64], &'a [u64], Status, &'a str);
 
 /// The text of the first row that the command does not end with.
-pub fn first_wrong_of_two<'a>(
+pub fn first_wrong<'a>(
     alloc: Global,
     command: &str,
-    rows: &[TwoFiles<'a>],
+    rows: &[Run<'a>],
 ) -> Result<Option<&'a str>, Memory> {
-    for (first, second, status, text) in rows {
-        if !ends_on(alloc, command, &[*first, *second], (*status, *text))? {
+    for (contents, status, text) in rows {
+        if !ends_on(alloc, command, *contents, (*status, *text))? {
             return Ok(Some(*text));
         }
     }
     Ok(None)
 }
 
-/// The same of three files.
-pub fn first_wrong_of_three<'a>(
-    alloc: Global,
-    command: &str,
-    rows: &[ThreeFiles<'a>],
-) -> Result<Option<&'a str>, Memory> {
-    for (first, second, third, status, text) in rows {
-        if !ends_on(alloc, command, &[*first, *second, *third], (*status, *text))? {
-            return Ok(Some(*text));
-        }
-    }
-    Ok(None)
-}
-
-/// The same of two files, where each row has one status.
-pub fn first_other_of_two<'a>(
+/// The same where each row has one status.
+pub fn first_other<'a>(
     alloc: Global,
     command: &str,
     status: Status,
-    rows: &[(&'a str, &'a str, &'a str)],
+    rows: &[Told<'a>],
 ) -> Result<Option<&'a str>, Memory> {
-    for (first, second, text) in rows {
-        if !ends_on(alloc, command, &[*first, *second], (status, *text))? {
-            return Ok(Some(*text));
-        }
-    }
-    Ok(None)
-}
-
-/// The same of three files, where each row has one status.
-pub fn first_other_of_three<'a>(
-    alloc: Global,
-    command: &str,
-    status: Status,
-    rows: &[(&'a str, &'a str, &'a str, &'a str)],
-) -> Result<Option<&'a str>, Memory> {
-    for (first, second, third, text) in rows {
-        if !ends_on(alloc, command, &[*first, *second, *third], (status, *text))? {
+    for (contents, text) in rows {
+        if !ends_on(alloc, command, *contents, (status, *text))? {
             return Ok(Some(*text));
         }
     }

@@ -1,8 +1,6 @@
 //! Which rows are observable.
-use crate::memory_runs::first_other_of_two;
+use crate::memory_runs::Told;
 use example_texts::{EMPTY, IN_ORDER, ORDERED, SOME_OP, STORE_BUFFER, TWO};
-use pc_common::Status;
-use std::test::Fail;
 
 /// One core writes data and a flag; the other reads the flag and then the data.
 const MESSAGES: &str = "Litmus \"mp\".
@@ -85,19 +83,12 @@ end
 ";
 
 /// A model and a pattern, and the text of their sweep.
-const SWEEPS: &[(&'static str, &'static str, &'static str)] = &[
-    (IN_ORDER, MESSAGES, NOT_THE_FLAG_ALONE),
-    (IN_ORDER, BUFFERS, NOT_NEITHER),
-    (STORE_BUFFER, BUFFERS, ALL),
-    (MARKED, WALK, NOT_THE_INITIAL),
+pub(crate) const SWEEPS: &[Told<'static>] = &[
+    (&[IN_ORDER, MESSAGES], NOT_THE_FLAG_ALONE),
+    (&[IN_ORDER, BUFFERS], NOT_NEITHER),
+    (&[STORE_BUFFER, BUFFERS], ALL),
+    (&[MARKED, WALK], NOT_THE_INITIAL),
     // a test is a pattern of one row, whatever it expects
-    (ORDERED, TWO, ALONE),
-    (SOME_OP, EMPTY, NONE),
+    (&[ORDERED, TWO], ALONE),
+    (&[SOME_OP, EMPTY], NONE),
 ];
-
-#[test]
-fn each_row_has_its_verdict(rt: HostRuntime) -> Result<(), Fail> {
-    let wrong = first_other_of_two(rt.alloc(), "sweep model test", Status::Done, SWEEPS)?;
-    assert_eq!(rt; wrong, None);
-    Ok(())
-}

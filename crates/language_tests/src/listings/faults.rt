@@ -1,5 +1,5 @@
 //! Listings that are refused, by the reader: the first fault of each, with its place.
-use crate::formula_texts::tell_fault;
+use crate::formula_texts::{Pieces, join_pieces, tell_fault};
 use example_texts::LISTED_WITH_AN_OPEN_LOAD;
 use pc_common::{FaultKind, Memory, Place, Value, line_col};
 use std::alloc::Global;
@@ -34,8 +34,7 @@ fn is_at(text: &[u8], place: Place, at: LineColumn) -> bool {
 }
 
 /// Whether this is the first fault of the listing.
-fn is_refused(alloc: Global, listing: &str, kind: FaultKind, at: LineColumn) -> bool {
-    let text = listing.as_bytes();
+fn is_refused(alloc: Global, text: &[u8], kind: FaultKind, at: LineColumn) -> bool {
     match first_fault(alloc, text) {
         Some(fault) => match place_fault(fault) {
             Some((found, place)) => tell_fault(found) == tell_fault(kind) && is_at(text, place, at),
@@ -51,7 +50,7 @@ type Refused = (&'static str, LineColumn);
 /// The first listing that has no such fault there.
 fn first_wrong(alloc: Global, listings: &[Refused], kind: FaultKind) -> Option<&'static str> {
     for (listing, at) in listings {
-        if !is_refused(alloc, listing, kind, *at) {
+        if !is_refused(alloc, listing.as_bytes(), kind, *at) {
             return Some(*listing);
         }
     }
@@ -304,30 +303,29 @@ const CONTENT: &[Faulty] = &[
     ),
 ];
 
-#[test]
-fn a_fault_of_the_header_stands_at_its_line(rt: HostRuntime) {
-    assert_eq!(rt; first_wrong(rt.alloc(), HEADERS, FaultKind::Syntax), None);
-}
+/// Tables of listings, and the kind of the first fault of each. A fault of the header is one of syntax.
+const PLACED: &[(&'static [Refused], FaultKind)] = &[
+    (HEADERS, FaultKind::Syntax),
+    (LEXICAL, FaultKind::Lexical),
+    (SYNTAX, FaultKind::Syntax),
+];
 
 #[test]
-fn a_lexical_fault_stands_where_no_token_begins(rt: HostRuntime) {
-    assert_eq!(rt; first_wrong(rt.alloc(), LEXICAL, FaultKind::Lexical), None);
-}
-
-#[test]
-fn a_fault_of_syntax_stands_at_its_token(rt: HostRuntime) {
-    assert_eq!(rt; first_wrong(rt.alloc(), SYNTAX, FaultKind::Syntax), None);
+fn a_fault_of_the_text_stands_at_its_line_and_its_token(rt: HostRuntime) {
+    for (listings, kind) in PLACED {
+        assert_eq!(rt; first_wrong(rt.alloc(), listings, *kind), None);
+    }
 }
 
 #[test]
 fn a_fault_of_content_is_named_with_its_place_and_values(rt: HostRuntime) {
     for (listing, kind, at) in CONTENT {
-        assert!(rt; is_refused(rt.alloc(), listing, *kind, *at), "{listing}");
+        assert!(rt;
+            is_refused(rt.alloc(), listing.as_bytes(), *kind, *at),
+            "{listing}"
+        );
     }
 }
-
-/// A text in pieces, each with how often it stands there.
-type Pieces = &'static [(&'static str, usize)];
 
 const LIMIT: FaultKind = FaultKind::TooManyOps { limit: 64 };
 
@@ -364,16 +362,6 @@ const CROWDS: &[(Pieces, LineColumn)] = &[
         (68, 1),
     ),
 ];
-
-fn join_pieces(alloc: Global, pieces: &[(&'static str, usize)]) -> Result<String, Memory> {
-    let mut text = String::new(alloc);
-    for (piece, times) in pieces {
-        for _ in 0..*times {
-            text.push_str(piece)?;
-        }
-    }
-    Ok(text)
-}
 
 /// Whether this is the first fault of the listing of these pieces.
 fn are_refused(
@@ -413,7 +401,7 @@ fn of_65_columns(alloc: Global, last: &str) -> Result<String, Memory> {
 fn are_too_many(alloc: Global, last: &str) -> Result<bool, Memory> {
     let listing = of_65_columns(alloc, last)?;
     let kind = FaultKind::CoreNumber { number: 64 };
-    Ok(is_refused(alloc, &listing, kind, (3, 247)))
+    Ok(is_refused(alloc, listing.as_bytes(), kind, (3, 247)))
 }
 
 /// That there are too many is named before a wrong name.

@@ -10,13 +10,9 @@ use scope_check::{
 
 /// A law does nothing, and can be called by anyone who wants what it says.
 #[test]
-fn each_law_of_limits_can_be_called(_rt: HostRuntime) {
+fn each_law_of_models_can_be_called(_rt: HostRuntime) {
     pc_common::limits_are();
     pc_syntax::limits_are();
-}
-
-#[test]
-fn each_law_of_expansion_can_be_called(_rt: HostRuntime) {
     expansion_keeps_truth();
     expansions_satisfy();
     expansions_are_renamed();
@@ -24,10 +20,6 @@ fn each_law_of_expansion_can_be_called(_rt: HostRuntime) {
     renaming_keeps_size_faults();
     renaming_keeps_stage_faults();
     renaming_keeps_items();
-}
-
-#[test]
-fn each_law_of_closing_can_be_called(_rt: HostRuntime) {
     closing_keeps_truth();
     renaming_keeps_closings();
     renaming_keeps_name_faults();

@@ -8,26 +8,18 @@ use pc_ground::{
 
 /// A law does nothing, and can be called by anyone who wants what it says.
 #[test]
-fn each_law_of_what_a_tree_says_can_be_called(_rt: HostRuntime) {
+fn each_law_of_ground_trees_can_be_called(_rt: HostRuntime) {
     tree_says_model();
     tree_says_closed();
     tree_is_kept();
     normal_is_folded();
     normal_of_simplified();
     a_constant_is_the_whole();
-}
-
-#[test]
-fn each_law_of_nodes_can_be_called(_rt: HostRuntime) {
     nodes_are_named();
     truth_is_of_literals();
     cut_is_world();
     numbered_lists_nodes();
     rows_spell_one_tree();
-}
-
-#[test]
-fn each_law_of_branches_can_be_called(_rt: HostRuntime) {
     refutation_is_sound();
     one_has_no_sign();
     negation_turns();

@@ -1,7 +1,8 @@
 //! Files, sinks, rooms in front of sinks, places and statuses.
+use crate::memory_runs::{calls, files, hold_files};
 use pc_common::{
-    Bytes, Calls, Files, Held, HeldFile, MemFiles, MemSink, Memory, Place, ReadEnd, Room, Status,
-    SureFiles, SureSink, line_col, read_all, write_all,
+    Files, MemFiles, MemSink, Memory, Place, ReadEnd, Room, Status, SureFiles, SureSink, line_col,
+    read_all, write_all,
 };
 use std::alloc::Global;
 use std::test::Fail;
@@ -38,34 +39,8 @@ const READS: &[(
     ("a", 4, 1, &[], Err(ReadEnd::TooLarge), 0),
 ];
 
-fn bytes(alloc: Global, text: &str) -> Result<Bytes, Memory> {
-    Ok(Bytes::from_vec(text.as_bytes().to_vec(alloc)?))
-}
-
-fn held_file(alloc: Global, name: &str, content: &str) -> Result<HeldFile, Memory> {
-    let name = bytes(alloc, name)?;
-    Ok(HeldFile {
-        name,
-        bytes: bytes(alloc, content)?,
-    })
-}
-
-/// Files of these names and contents.
-fn hold_files(alloc: Global, files: &[(&str, &str)]) -> Result<Held, Memory> {
-    let mut held = Held::new(alloc);
-    for (name, content) in files {
-        held.push(held_file(alloc, name, content)?)?;
-    }
-    Ok(held)
-}
-
-fn calls(alloc: Global, numbers: &[u64]) -> Result<Calls, Memory> {
-    Ok(Calls::from_vec(numbers.to_vec(alloc)?))
-}
-
-fn files(alloc: Global, step: usize, fails: &[u64]) -> Result<MemFiles, Memory> {
-    let fails = calls(alloc, fails)?;
-    let files = MemFiles::new(alloc, hold_files(alloc, FILES)?, fails)?;
+fn files_by(alloc: Global, step: usize, fails: &[u64]) -> Result<MemFiles, Memory> {
+    let files = files(alloc, FILES, fails)?;
     Ok(if step > 0 {
         files.with_step(step)
     } else {
@@ -97,7 +72,7 @@ fn is_read_so(
     end: Result<&str, ReadEnd>,
     faults: u64,
 ) -> Result<bool, Memory> {
-    let mut files = files(alloc, step, fails)?;
+    let mut files = files_by(alloc, step, fails)?;
     let is_end = is_read_as(alloc, &mut files, (name, limit), end);
     Ok(is_end && files.faults() == faults)
 }
