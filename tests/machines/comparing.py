@@ -4,6 +4,7 @@ import re
 import subprocess
 import sys
 import tempfile
+from dataclasses import dataclass
 from functools import lru_cache
 from glob import glob
 from importlib import import_module
@@ -12,8 +13,9 @@ from typing import Collection, NamedTuple
 
 HERE = os.path.dirname(os.path.realpath(__file__))
 TOP = os.path.dirname(os.path.dirname(HERE))
-# an installed copy has the program beside the script
-PROGRAM = os.path.join(TOP, "crates/pipecheck_cli/out/pipecheck_cli" if os.path.isdir(f"{TOP}/crates") else "pipecheck_cli")
+# an installed copy has the program beside the script; PIPECHECK names another one
+IN_CHECKOUT = "crates/pipecheck_cli/out/pipecheck_cli"
+BUILT = os.path.join(TOP, IN_CHECKOUT if os.path.isdir(f"{TOP}/crates") else "pipecheck_cli")
 sys.path.insert(0, os.path.join(TOP, "second_implementation"))
 
 # pylint: disable=wrong-import-position
@@ -29,17 +31,20 @@ from second.linting_lines import line_of
 from second.listings import read_file_items
 from second.memory_models import memory_model_of
 from second.models import Model
-from second.patterns import read_pattern, sweep
+from second.patterns import MOST_ROWS, read_pattern, sweep
 from second.quoting import shown
 from second.scopes import read_model
 from second.searching import search
 from second.tokens import Fault
+from suite.programs import command_of
+from suite.refusing import Refusal
 from verdicts import is_alike, runs
 from working import Unusable
 
 READ = re.compile(rb"(\(\s*Read\b[^()]*(?:\([^()]*\)\s*){2})\(\s*(?:Data|Maps)[^()]*\)")
 OPEN = rb"\1(Data Any)"
 PATTERN = ".pattern"
+LOCKED = "Locked"
 # a module of this folder, or of one in it, that is a machine
 NAME = re.compile(r"[a-z0-9_-]+(?:\.[a-z0-9_-]+)*")
 MACHINE = re.compile(r"^def outcomes\(", re.MULTILINE)
@@ -63,6 +68,27 @@ class Pair(NamedTuple):
     is_pattern: bool
     is_opened: bool
     by_program: bool
+
+
+@dataclass(frozen=True)
+class Other:
+    """What a model is compared with: a machine by its name, or another model by its path."""
+
+    name: str
+    is_model: bool = False
+
+    def words(self, model: str) -> tuple[str, str]:
+        """What is said of rows that the model alone shows, and of those that the other alone has."""
+        if self.is_model:
+            return f"shown by {shown(model)} alone", f"shown by {shown(self.name)} alone"
+        return f"shown though {self.name} does not allow it", f"allowed by {self.name} and not shown"
+
+    def rows_of(self, pattern: str, by_program: bool) -> set[Reads]:
+        """The rows of a pattern that it has."""
+        if self.is_model:
+            return rows_shown(self.name, pattern.encode("ascii"), by_program)
+        test = test_of_text(pattern)
+        return test.rows_shown_by(machine_of(self.name).outcomes(test))
 
 
 def contents(path: str) -> bytes:
@@ -91,7 +117,7 @@ def named_memory_model(path: str) -> str:
 def machine_of(name: str) -> ModuleType:
     """The machine of a memory model."""
     if not is_machine(name):
-        known = ", ".join(sorted(os.path.basename(path)[:-3] for path in glob(f"{HERE}/*.py") if is_machine_file(path)))
+        known = ", ".join(sorted(path[:-3] for path in glob("*.py", root_dir=HERE) if is_machine(path[:-3])))
         raise Unusable(f"there is no machine of the memory model {shown(name)}; there are {known}")
     return import_module(name)
 
@@ -175,11 +201,11 @@ def model_takes(model_path: str, path: str) -> bool:
     test = test_of(path)
     if test.has_entries or not test.has_locked:
         return True
-    return "Locked" in Asked(model_of(model_path)).types
+    return asks_for_locked(model_path)
 
 
 def is_shown(model_path: str, path: str) -> bool:
-    """Whether the second implementation calls the outcome observable; its graph is judged again by the written axioms."""
+    """Whether the second implementation shows the outcome; its graph is judged again by the written axioms."""
     model, case = model_of(model_path), case_of(path)
     witness = search(ground(model, case))
     if witness is not None and false_axioms(model, case, witness.nodes, witness.edges):
@@ -216,10 +242,12 @@ def rows_of_program(model_path: str, pattern: bytes) -> set[Reads]:
     with tempfile.NamedTemporaryFile() as file:
         file.write(pattern)
         file.flush()
-        done = subprocess.run([PROGRAM, "sweep", model_path, file.name], capture_output=True, text=True, check=False)
+        command = [*checker(), "sweep", model_path, file.name]
+        done = subprocess.run(command, capture_output=True, text=True, errors="replace", check=False)
     lines = done.stdout.splitlines()
     if done.returncode != 0 or not lines or lines[-1] != "end":
-        raise Unusable(f"{shown(model_path)}: the program swept no pattern: status {done.returncode} {done.stdout[:100]!r}")
+        said = f"status {done.returncode} {done.stdout[:100]!r}"
+        raise Unusable(f"{shown(model_path)}: the program swept no pattern: {said}")
     rows = [line.split()[1:] for line in lines if line.startswith("row ")]
     return {tuple(map(value_of_word, row[:-1])) for row in rows if row[-1] == "observable"}
 
@@ -232,11 +260,24 @@ def value_of_word(word: str) -> Value:
     return int(word)
 
 
+@lru_cache(None)
+def checker() -> list[str]:
+    """The words that call the program: what PIPECHECK says, or the built one."""
+    value = os.environ.get("PIPECHECK", "")
+    try:
+        return command_of(value) if value else [BUILT]
+    except Refusal as refusal_of_words:
+        raise Unusable(str(refusal_of_words)) from refusal_of_words
+
+
 def program_sweeps() -> bool:
-    """Whether there is a built program that has the command `sweep`."""
-    if not os.access(PROGRAM, os.X_OK):
+    """Whether there is a program that has the command `sweep`."""
+    try:
+        return subprocess.run([*checker(), "sweep", "", ""], stdout=subprocess.DEVNULL, check=False).returncode != 2
+    except OSError as error:
+        if os.environ.get("PIPECHECK"):
+            raise Unusable(f"PIPECHECK: {error}") from error
         return False
-    return subprocess.run([PROGRAM, "sweep", "", ""], stdout=subprocess.DEVNULL, check=False).returncode != 2
 
 
 def words_of_rows(rows: set[Reads]) -> str:
@@ -253,32 +294,35 @@ def difference(pair: Pair) -> str:
     machine = pair.machine
     if pair.is_pattern:
         seen = rows_shown(pair.model, pattern_of(pair.test, pair.is_opened), pair.by_program)
-        return difference_of_rows(machine, seen, rows_allowed(machine, pair.test, pair.is_opened))
+        wanted = rows_allowed(machine, pair.test, pair.is_opened)
+        return difference_of_rows(Other(machine).words(pair.model), seen, wanted)
     is_seen, is_wanted = is_shown(pair.model, pair.test), is_allowed(machine, pair.test)
     said = f"shown {'yes' if is_seen else 'no'}, {machine} allows {'yes' if is_wanted else 'no'}"
     return "" if is_seen == is_wanted else said
 
 
-def difference_of_rows(machine: str, seen: Collection[Reads], wanted: Collection[Reads]) -> str:
-    """How the rows that a model shows differ from those that a machine allows; nothing where they do not."""
-    more, less = set(seen) - set(wanted), set(wanted) - set(seen)
-    parts = []
-    if more:
-        parts.append(f"shown though {machine} does not allow it: {words_of_rows(more)}")
-    if less:
-        parts.append(f"allowed by {machine} and not shown: {words_of_rows(less)}")
-    return "; ".join(parts)
+def difference_of_rows(words: tuple[str, str], seen: Collection[Reads], wanted: Collection[Reads]) -> str:
+    """The rows that only one of two has, each after its words; nothing where there are none."""
+    parts = zip(words, (set(seen) - set(wanted), set(wanted) - set(seen)))
+    return "; ".join(f"{said}: {words_of_rows(rows)}" for said, rows in parts if rows)
 
 
-def program_difference(model: str, machine: str, by_program: bool, program: Program) -> str:
-    """How a model and its machine differ on a program; nothing where they do not."""
-    if not any(op.kind == "Read" for op in program.ops):
+def program_difference(model: str, other: Other, by_program: bool, program: Program) -> str:
+    """How a model differs from a machine, or from another model, on a program; nothing where they do not."""
+    if not any(op.reads for op in program.ops):
         return ""
-    test = test_of_text(program.pattern)
-    wanted = test.rows_shown_by(machine_of(machine).outcomes(test))
-    return difference_of_rows(machine, rows_shown(model, program.pattern.encode("ascii"), by_program), wanted)
+    if program.rows > MOST_ROWS:
+        raise Unusable(f"its reads may get values in {program.rows} ways, and a sweep takes {MOST_ROWS}")
+    pattern = program.pattern.encode("ascii")
+    wanted = other.rows_of(program.pattern, by_program)
+    return difference_of_rows(other.words(model), rows_shown(model, pattern, by_program), wanted)
 
 
 def types_asked(model: str) -> tuple[str, ...]:
-    """The types that a model asks for, but that of locked instructions, of which programs have none."""
-    return tuple(sorted(set(Asked(model_of(model)).types) - {"Locked"}))
+    """The types that a model asks for, but that of locked instructions."""
+    return tuple(sorted(set(Asked(model_of(model)).types) - {LOCKED}))
+
+
+def asks_for_locked(model: str) -> bool:
+    """Whether a model asks which micro-ops are locked."""
+    return LOCKED in Asked(model_of(model)).types

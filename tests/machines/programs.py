@@ -1,22 +1,27 @@
-"""Random programs for `agree --random`: patterns of at most eight micro-ops, whose reads are all open.
+"""Programs for `agree`, as patterns whose reads are all open; and random ones, of at most eight micro-ops.
 
 They ask what a model and its machine make of the same program, and search for no test. A program is made smaller part
 by part as long as a question about it keeps its answer.
 """
+from collections import Counter
 from dataclasses import dataclass, replace
+from math import prod
 from random import Random
 from typing import Callable, Iterator, Sequence, TypeVar
 
 MOST_OPS = 8
 KINDS = ("addr", "data", "ctrl")
-NAMES = "xyz"
+NAMES = "xyzabcde"
+# an exchange is written as in herd's `XCHG`
+LETTERS = {"Exchange": "X"}
 
 Item = TypeVar("Item")
 
 
 @dataclass(frozen=True)
 class Made:
-    """A micro-op: the number of its core, what it is, its type names, the number of its address, what it writes."""
+    """An instruction: the number of its core, what it is, its type names, the number of its address, what it writes. It
+    is one micro-op, but for an exchange, which is a locked read and write."""
 
     core: int
     kind: str
@@ -25,27 +30,44 @@ class Made:
     value: int = 0
 
     @property
-    def access(self) -> str:
-        """What stands in its brackets in a pattern."""
+    def reads(self) -> bool:
+        """Whether it reads."""
+        return self.kind in ("Read", "Exchange")
+
+    @property
+    def writes(self) -> bool:
+        """Whether it writes."""
+        return self.kind in ("Write", "Exchange")
+
+    @property
+    def accesses(self) -> list[str]:
+        """What stands in the brackets of its micro-ops in a pattern."""
+        if self.kind == "Exchange":
+            return [self.access("Read Locked", "Any"), self.access("Write Locked", str(self.value))]
         words = " ".join((self.kind,) + self.types)
-        value = "Any" if self.kind == "Read" else self.value
-        return words if self.kind == "Fence" else f"{words} (VA {self.address} 0) (PA {self.address} 0) (Data {value})"
+        return [words] if self.kind == "Fence" else [self.access(words, "Any" if self.reads else str(self.value))]
+
+    def access(self, words: str, value: str) -> str:
+        """A read or a write."""
+        return f"{words} (VA {self.address} 0) (PA {self.address} 0) (Data {value})"
 
 
 @dataclass(frozen=True)
 class Program:
-    """The micro-ops core by core, each core's in program order; dependencies by their places; the final value that is
-    stated of an address."""
+    """The instructions core by core, each core's in program order; dependencies by their places; the final value that
+    is stated of an address; what the pattern is called."""
 
     ops: tuple[Made, ...]
     dependencies: tuple[tuple[str, int, int], ...] = ()
     final: tuple[int, int] | None = None
+    name: str = "random"
 
     @property
     def pattern(self) -> str:
         """The program as a pattern."""
-        lines = ['Litmus "random".']
-        lines += [f"Microop {g} {op.core} {op.core} 0 ({op.access})." for g, op in enumerate(self.ops)]
+        lines = [f'Litmus "{self.name}".']
+        for g, op in enumerate(self.ops):
+            lines += [f"Microop {g} {op.core} {op.core} {n} ({access})." for n, access in enumerate(op.accesses)]
         lines += [f"Relationship {kind} {i} 0 -> {j} 0." for kind, i, j in self.dependencies]
         lines += [f"Final (PA {self.final[0]} 0) {self.final[1]}."] if self.final is not None else []
         return "\n".join(lines) + "\n"
@@ -55,8 +77,14 @@ class Program:
         ops = self.ops[:place] + self.ops[place + 1 :]
         rest = [(kind, i, j) for kind, i, j in self.dependencies if place not in (i, j)]
         moved = tuple((kind, i - (i > place), j - (j > place)) for kind, i, j in rest)
-        is_written = self.final in [(op.address, op.value) for op in ops if op.kind == "Write"]
-        return Program(ops, moved, self.final if is_written else None)
+        is_written = self.final in [(op.address, op.value) for op in ops if op.writes]
+        return replace(self, ops=ops, dependencies=moved, final=self.final if is_written else None)
+
+    @property
+    def rows(self) -> int:
+        """How many ways there are for the reads to get values, each write of an address having one of its own."""
+        written = Counter(op.address for op in self.ops if op.writes)
+        return prod(1 + written[op.address] for op in self.ops if op.reads)
 
     @property
     def smaller(self) -> Iterator["Program"]:
@@ -177,7 +205,7 @@ def smallest(program: Program, holds: Callable[[Program], bool]) -> Program:
 
 
 def named(program: Program) -> str:
-    """The program in one line: R for read, W for write, F for fence; cores are parted by a bar."""
+    """The program in one line: R for read, W for write, X for exchange, F for fence; cores are parted by a bar."""
     cores = sorted({op.core for op in program.ops})
     return " | ".join("; ".join(word(op) for op in program.ops if op.core == core) for core in cores)
 
@@ -187,5 +215,5 @@ def word(op: Made) -> str:
     types = "".join(f".{name}" for name in op.types)
     if op.kind == "Fence":
         return f"F{types}"
-    value = "" if op.kind == "Read" else str(op.value)
-    return f"{op.kind[0]}{NAMES[op.address]}{value}{types}"
+    value = str(op.value) if op.writes else ""
+    return f"{LETTERS.get(op.kind, op.kind[0])}{NAMES[op.address]}{value}{types}"

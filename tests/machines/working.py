@@ -8,7 +8,8 @@ from concurrent.futures.process import BrokenProcessPool
 from contextlib import suppress
 from dataclasses import dataclass
 from itertools import islice
-from multiprocessing import active_children, get_context
+from multiprocessing import active_children, get_context, parent_process
+from threading import Thread
 from types import FrameType, TracebackType
 from typing import Callable, Generic, Iterable, Iterator, NoReturn, TypeVar
 
@@ -119,6 +120,15 @@ def begin_work() -> None:
         signal.signal(number, signal.SIG_DFL)
     signal.signal(signal.SIGINT, signal.SIG_IGN)
     signal.signal(signal.SIGPIPE, signal.SIG_IGN)
+    Thread(target=end_with_first, daemon=True).start()
+
+
+def end_with_first() -> None:
+    """Ends this worker when the first process is gone, as by a signal that it never hears."""
+    first = parent_process()
+    if first is not None:
+        first.join()
+        os.killpg(0, signal.SIGKILL)
 
 
 def end_workers() -> None:
