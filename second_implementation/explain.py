@@ -13,6 +13,7 @@ import sys
 
 from second.answers import AnswerRefused
 from second.explaining_files import explain_files
+from second.origins import TooLarge
 from second.standard_output import FAILED, status_of
 from second.tokens import Fault
 
@@ -21,12 +22,11 @@ def main(*words: str) -> int:
     """Writes what is said of the certificate."""
     name, paths = (words[1], words[2:]) if words[0] == "--called" else (words[0], words)
     try:
-        lines = explain_files(name, *paths)
-    except (AnswerRefused, Fault, OSError, UnicodeDecodeError) as problem:
+        for line in explain_files(name, *paths):
+            print(line)
+    except (AnswerRefused, Fault, OSError, TooLarge, UnicodeDecodeError) as problem:
         print(f"explain: not explained: {problem}", file=sys.stderr)
         return FAILED
-    for line in lines:
-        print(line)
     return 0
 
 

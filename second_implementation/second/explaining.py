@@ -1,4 +1,5 @@
 """A certificate in the words of the model. The text has to be one that a judge accepted."""
+from itertools import chain
 from typing import Iterator
 
 from .cases import Case
@@ -9,6 +10,7 @@ from .lifted import LIFTED
 from .models import Model
 from .naming import Names
 from .origins import TracedPositions
+from .quoting import shown
 from .wrapping import width_of_output, within
 
 VERDICTS = {
@@ -21,8 +23,9 @@ def explain(model: Model, case: Case, model_text: bytes, model_name: str, certif
     """The lines that are said of the lines of a certificate, as wide as the output may be."""
     width = width_of_output()
     names = Names(model, case, model_text)
-    yield from within(heading(case, names, model_name, certificate), width)
-    yield from within(body(model, case, names, certificate, width), width)
+    # what is too large is so before a line is written
+    said = body(model, case, names, certificate, width)
+    return chain(within(heading(case, names, model_name, certificate), width), within(said, width))
 
 
 def heading(case: Case, names: Names, model_name: str, certificate: list[str]) -> Iterator[str]:
@@ -32,20 +35,18 @@ def heading(case: Case, names: Names, model_name: str, certificate: list[str]) -
     yield ""
     yield from key(case, names)
     yield ""
-    yield f"Places are lines and columns of {model_name}."
+    yield f"Places are lines and columns of {shown(model_name)}."
     yield ""
 
 
 def body(model: Model, case: Case, names: Names, certificate: list[str], width: int) -> Iterator[str]:
     """What is said of the lines of a certificate after the second one."""
     if certificate[2] == LIFTED:
-        yield from LiftedRefutation(model, case, names, certificate[3:-1], width).lines()
-        return
+        return LiftedRefutation(model, case, names, certificate[3:-1], width).lines()
     positions = TracedPositions(model, case)
     if certificate[0] == "observable":
-        yield from Run(case, names, positions, certificate[2:-1], width).lines()
-    else:
-        yield from Refutation(names, positions, certificate[2:-1], width).lines()
+        return Run(case, names, positions, certificate[2:-1], width).lines()
+    return Refutation(names, positions, certificate[2:-1], width).lines()
 
 
 def key(case: Case, names: Names) -> Iterator[str]:

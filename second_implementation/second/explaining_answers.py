@@ -7,6 +7,7 @@ from .cases import Case
 from .explaining import VERDICTS, body, key
 from .models import Axiom, Model
 from .naming import Names, line_and_column
+from .quoting import shown
 from .wrapping import width_of_output, within
 
 WORDS = {
@@ -66,8 +67,8 @@ def heading(
     yield ""
     yield from key(case, names)
     yield ""
-    more = f"; a place `query LINE:COLUMN` is one of {query_name}" if query_name else ""
-    yield f"Places are lines and columns of {model_name}{more}."
+    more = f"; a place `query LINE:COLUMN` is one of {shown(query_name)}" if query_name else ""
+    yield f"Places are lines and columns of {shown(model_name)}{more}."
 
 
 def core_heading(model: Model, names: Names, answer: Core) -> Iterator[str]:

@@ -1,11 +1,12 @@
 """A graph in the words of the model: one order of the run, as a table, and the edges that carry values."""
-from typing import Iterator
+import heapq
+from typing import Callable, Iterator
 
 from .cases import Case
 from .grounding import Node
 from .naming import Names
 from .origins import Origin, TracedPositions
-from .positions import Inner
+from .positions import Inner, Leaf
 from .wrapping import GAP
 
 Edge = tuple[Node, Node]
@@ -24,6 +25,10 @@ class Run:
         words = [line.split(" ") for line in lines]
         self.nodes = list(dict.fromkeys(self.read(word[1]) for word in words if word[0] == "node"))
         self.edges = list(dict.fromkeys((self.read(word[1]), self.read(word[2])) for word in words if word[0] == "edge"))
+        # of each node the ends of its edges
+        self.after: dict[Node, list[Node]] = {node: [] for node in self.nodes}
+        for start, end in self.edges:
+            self.after[start].append(end)
 
     def read(self, word: str) -> Node:
         """A node of the graph."""
@@ -82,19 +87,19 @@ class Run:
 
     def order(self) -> list[Node]:
         """The nodes in an order that all edges keep; of several that could come next the first listed."""
-        before = {node: 0 for node in self.nodes}
-        after: dict[Node, list[Node]] = {node: [] for node in self.nodes}
-        for start, end in self.edges:
-            before[end] += 1
-            after[start].append(end)
+        numbers = {node: number for number, node in enumerate(self.nodes)}
+        before = [0] * len(self.nodes)
+        for _, end in self.edges:
+            before[numbers[end]] += 1
+        ready = [number for number, count in enumerate(before) if count == 0]
         found: list[Node] = []
-        left = list(self.nodes)
-        while left:
-            node = next(one for one in left if before[one] == 0)
-            left.remove(node)
+        while ready:
+            node = self.nodes[heapq.heappop(ready)]
             found.append(node)
-            for end in after[node]:
+            for end in map(numbers.__getitem__, self.after[node]):
                 before[end] -= 1
+                if before[end] == 0:
+                    heapq.heappush(ready, end)
         return found
 
     def origins(self) -> dict[Edge, Origin | None]:
@@ -114,10 +119,7 @@ class Run:
 
     def truth(self) -> list[bool]:
         """Whether each position is true in this run; members stand after what they are members of."""
-        later: dict[Node, set[Node]] = {}
-        for node in reversed(self.order()):
-            ends = [end for start, end in self.edges if start == node]
-            later[node] = set(ends).union(*(later[end] for end in ends))
+        follows = self.following()
         truth = [False] * len(self.positions.rows)
         for here in reversed(range(len(truth))):
             row = self.positions.rows[here]
@@ -126,6 +128,23 @@ class Run:
                 truth[here] = any(both) if row.is_disjunction else all(both)
                 continue
             start = self.positions.nodes[row.start]
-            is_there = start in later if row.end is None else self.positions.nodes[row.end] in later.get(start, set())
+            is_there = start in self.after if row.end is None else follows(start, self.positions.nodes[row.end])
             truth[here] = is_there is row.wanted
         return truth
+
+    def following(self) -> Callable[[Node, Node], bool]:
+        """Whether a node is somewhere behind another one. Which nodes are behind one is kept as a number with a bit for
+        each, and only of those that a position names behind a node without an edge between the two."""
+        edges = set(self.edges)
+        bits: dict[Node, int] = {}
+        for row in self.positions.rows:
+            if isinstance(row, Leaf) and row.end is not None:
+                start, end = self.positions.nodes[row.start], self.positions.nodes[row.end]
+                if (start, end) not in edges and end not in bits:
+                    bits[end] = 1 << len(bits)
+        later: dict[Node, int] = {}
+        for node in reversed(self.order()):
+            later[node] = 0
+            for end in self.after[node]:
+                later[node] |= later[end] | bits.get(end, 0)
+        return lambda start, end: (start, end) in edges or later.get(start, 0) & bits.get(end, 0) != 0

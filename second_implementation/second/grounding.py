@@ -8,8 +8,10 @@ from dataclasses import dataclass
 from typing import Callable, Iterator, Union
 
 from .cases import Case
+from .guards import Guards
 from .models import Arg, Binary, Edges, Expand, Formula, Model, NodeTerm, Nodes, Not, Number, Quantified, Static
-from .predicates import PREDICATES, argument_of
+from .models import Word
+from .predicates import PLAIN, PREDICATES
 
 # a micro-op by its place in test order, a core, a stage number
 Node = tuple[int, int, int]
@@ -96,6 +98,7 @@ class Grounder:
         self.model = model
         self.case = case
         self.macros = model.macros
+        self.guards = Guards()
         self.stages = {stage.name.name: stage.number.value for stage in model.stages}
 
     def axioms(self) -> Tree:
@@ -116,7 +119,7 @@ class Grounder:
             names = [parameter.name for parameter in macro.parameters]
             return self.tree(macro.body, {**env, **dict(zip(names, values))}, wanted)
         if isinstance(formula, Static):
-            return self.static(formula, env) is wanted
+            return holds(self.case, formula, env) is wanted
         return self.join(wanted, [Literal(*ends, wanted) for ends in self.atoms(formula, env)])
 
     def binary(self, formula: Binary, env: Environment, wanted: bool) -> Tree:
@@ -129,15 +132,16 @@ class Grounder:
 
     def quantified(self, formula: Quantified, env: Environment, wanted: bool) -> Tree:
         """The body for each value of the variable."""
-        values = range(len(self.case.ops)) if formula.over_microops else self.case.cores
-        members = [self.tree(formula.body, {**env, formula.name: v}, wanted) for v in values]
+        members = [self.tree(formula.body, inside, wanted) for inside in self.open_values(formula, env)]
         return self.join(formula.universal is wanted, members)
 
-    def static(self, formula: Static, env: Environment) -> bool:
-        """A predicate of the table."""
-        takes, holds = PREDICATES[formula.predicate.name]
-        args = [argument_of(kind, arg, lambda a: value(a, env)) for kind, arg in zip(takes, formula.args)]
-        return holds(self.case, *args)
+    def open_values(self, formula: Quantified, env: Environment) -> Iterator[Environment]:
+        """The values of the variable with which no guard makes the body the constant that changes nothing."""
+        guards = self.guards.of(formula)
+        for number in range(len(self.case.ops)) if formula.over_microops else self.case.cores:
+            inside = {**env, formula.name: number}
+            if not any(holds(self.case, guard.predicate, inside) is guard.value for guard in guards):
+                yield inside
 
     def atoms(self, formula: Nodes | Edges, env: Environment) -> list[tuple[Node, Node | None]]:
         """The nodes and edges of a list."""
@@ -150,6 +154,15 @@ class Grounder:
         op = env[term.op.name]
         core = self.case.ops[op].core if term.core is None else value(term.core, env)
         return op, core, self.stages[term.stage.name]
+
+
+def holds(case: Case, formula: Static, env: Environment) -> bool:
+    """Whether a predicate of the table holds in a case."""
+    takes, row = PREDICATES[formula.predicate.name]
+    args = [
+        arg.name if kind == PLAIN and isinstance(arg, Word) else value(arg, env) for kind, arg in zip(takes, formula.args)
+    ]
+    return row(case, *args)
 
 
 def value(arg: Arg, env: Environment) -> int:

@@ -3,13 +3,14 @@ from dataclasses import replace
 from typing import Iterator
 
 from .cases import Case, OpItem
+from .guards import Guards
 from .linting_slips import QueryFile, Slip, TestFile, word_of
 from .linting_truth import OutOfSteps, Settling, Steps, Truth
 from .models import Axiom, Binary, Formula, Model, Quantified, Static, Word
 from .quoting import shown
 
 # A model that needs more steps is not looked at further: so many for each of the two questions.
-STEPS = 1_000_000
+STEPS = 500_000
 
 OF_ALL = "of every test given and of every one that lint makes up"
 
@@ -20,6 +21,7 @@ class Idle:
     def __init__(self, path: str, model: Model, axioms: list[Axiom]) -> None:
         self.path = path
         self.macros = model.macros
+        self.guards = Guards()
         self.axioms = axioms
         settling = Settling(self.macros)
         self.may_be_true = [axiom for axiom in self.axioms if settling.may_be_sure(axiom.body, True)]
@@ -28,7 +30,7 @@ class Idle:
 
     def true_slips(self, cases: list[Case]) -> Iterator[Slip]:
         """Axioms that are true of each case by what it says."""
-        truths = [Truth(self.macros, case, self.steps[True]) for case in cases]
+        truths = [Truth(self.macros, self.guards, case, self.steps[True]) for case in cases]
         try:
             for axiom in self.may_be_true:
                 if all(truth.is_sure(axiom.body, {}, True) for truth in truths):
@@ -40,7 +42,7 @@ class Idle:
         """Axioms that are false of a test by what it says. A read that a pattern leaves open says nothing."""
         if any(isinstance(item, OpItem) and item.is_open for item in test.items):
             return
-        truth = Truth(self.macros, test.case, self.steps[False])
+        truth = Truth(self.macros, self.guards, test.case, self.steps[False])
         try:
             for axiom in self.may_be_false if test.case.ops else self.axioms:
                 if truth.is_sure(axiom.body, {}, False):
@@ -53,7 +55,8 @@ class Idle:
         asked = ((without_conclusion(query.formula), True, "its premise"), (query.formula, False, "it"))
         try:
             for formula, wanted, what in asked:
-                if all(Truth(self.macros, case, self.steps[wanted]).is_sure(formula, {}, wanted) for case in cases):
+                truths = (Truth(self.macros, self.guards, case, self.steps[wanted]) for case in cases)
+                if all(truth.is_sure(formula, {}, wanted) for truth in truths):
                     yield Slip(
                         query.path, query.at, "idle", "query", f"the query asks for nothing: {what} is False {OF_ALL}"
                     )

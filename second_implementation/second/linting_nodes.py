@@ -9,17 +9,17 @@ from dataclasses import dataclass
 from typing import Iterator
 
 from .cases import Case, Op
-from .grounding import Environment, value
+from .grounding import Environment, holds, value
+from .guards import Guards
 from .linting_slips import Slip, TestFile
 from .linting_truth import OutOfSteps, Steps
 from .models import Axiom, Binary, Edges, Expand, Formula, Model, NodeTerm, Nodes, Not, Quantified, Static
-from .predicates import PREDICATES, argument_of
 from .quoting import shown
 
 Node = tuple[int, int, int]
 
 # A model that needs more steps over all tests is not looked at further.
-STEPS = 2_000_000
+STEPS = 1_500_000
 
 
 class FreeNodes:
@@ -31,6 +31,7 @@ class FreeNodes:
         self.macros = model.macros
         self.stages = {stage.name.name: stage.number.value for stage in model.stages}
         self.from_outside = from_outside
+        self.guards = Guards()
         self.steps = Steps(STEPS)
 
     def of_test(self, test: TestFile) -> Iterator[Slip]:
@@ -126,11 +127,9 @@ class NodeUses:
     def use(self, formula: Formula, env: Environment, wanted: bool, in_premise: bool) -> Use | bool:
         """The use of a formula, or of its denial where it is not wanted; its truth where the test decides it. A premise
         ends at `~`."""
-        self.model.steps.take()
         if isinstance(formula, Static):
-            takes, holds = PREDICATES[formula.predicate.name]
-            args = [argument_of(kind, arg, lambda a: value(a, env)) for kind, arg in zip(takes, formula.args)]
-            return holds(self.case, *args) is wanted
+            return self.holds(formula, env) is wanted
+        self.model.steps.take()
         if isinstance(formula, Not):
             return self.use(formula.operand, env, not wanted, False)
         if isinstance(formula, Binary):
@@ -153,14 +152,22 @@ class NodeUses:
             whole = joined(wanted, whole, use)
         return whole
 
+    def holds(self, formula: Static, env: Environment) -> bool:
+        """Whether a predicate holds."""
+        self.model.steps.take()
+        return holds(self.case, formula, env)
+
     def quantified(self, formula: Quantified, env: Environment, wanted: bool, in_premise: bool) -> Use | bool:
-        """The use of the bodies for all values."""
+        """The use of the bodies for all values that no guard settles."""
         is_conjunction = formula.universal is wanted
         whole: Use | bool = is_conjunction
+        guards = self.model.guards.of(formula)
         # what is found for one value is found before the next one takes its place
         inside = dict(env)
         for number in range(len(self.case.ops)) if formula.over_microops else self.case.cores:
             inside[formula.name] = number
+            if any(self.holds(guard.predicate, inside) is guard.value for guard in guards):
+                continue
             whole = joined(is_conjunction, whole, self.use(formula.body, inside, wanted, in_premise))
             if whole is (not is_conjunction):
                 break

@@ -4,9 +4,9 @@ An atom over nodes and edges decides nothing, but for the empty list. So a formu
 tree is a constant (grounding.py), and no tree is made: what decides ends the walk.
 """
 from .cases import Case
-from .grounding import Environment, value
+from .grounding import Environment, holds, value
+from .guards import Guards
 from .models import Binary, Expand, Formula, Macro, Not, Quantified, Static
-from .predicates import PREDICATES, argument_of
 
 
 class OutOfSteps(Exception):
@@ -29,19 +29,18 @@ class Steps:
 class Truth:
     """What a test decides of formulas that may expand these macros."""
 
-    def __init__(self, macros: dict[str, Macro], case: Case, steps: Steps) -> None:
+    def __init__(self, macros: dict[str, Macro], guards: Guards, case: Case, steps: Steps) -> None:
         self.macros = macros
+        self.guards = guards
         self.case = case
         self.steps = steps
 
     def is_sure(self, formula: Formula, env: Environment, wanted: bool) -> bool:
         """Whether the formula, with these names bound, is true in every world, or false in every one where it is not
         wanted."""
-        self.steps.take()
         if isinstance(formula, Static):
-            takes, holds = PREDICATES[formula.predicate.name]
-            args = [argument_of(kind, arg, lambda a: value(a, env)) for kind, arg in zip(takes, formula.args)]
-            return holds(self.case, *args) is wanted
+            return self.holds(formula, env) is wanted
+        self.steps.take()
         if isinstance(formula, Not):
             return self.is_sure(formula.operand, env, not wanted)
         if isinstance(formula, Binary):
@@ -50,19 +49,30 @@ class Truth:
                 return self.is_sure(formula.left, env, left_wanted) and self.is_sure(formula.right, env, wanted)
             return self.is_sure(formula.left, env, left_wanted) or self.is_sure(formula.right, env, wanted)
         if isinstance(formula, Quantified):
-            values = range(len(self.case.ops)) if formula.over_microops else self.case.cores
-            # what is found for one value is found before the next one takes its place
-            inside = dict(env)
-            for number in values:
-                inside[formula.name] = number
-                if self.is_sure(formula.body, inside, wanted) is not (formula.universal is wanted):
-                    return formula.universal is not wanted
-            return formula.universal is wanted
+            return self.is_quantified_sure(formula, env, wanted)
         if isinstance(formula, Expand):
             macro = self.macros[formula.macro.name]
             bound = {parameter.name: value(arg, env) for parameter, arg in zip(macro.parameters, formula.args)}
             return self.is_sure(macro.body, {**env, **bound}, wanted)
         return wanted and not formula.members
+
+    def holds(self, formula: Static, env: Environment) -> bool:
+        """Whether a predicate holds."""
+        self.steps.take()
+        return holds(self.case, formula, env)
+
+    def is_quantified_sure(self, formula: Quantified, env: Environment, wanted: bool) -> bool:
+        """The same of a quantifier: the body for each value that no guard settles."""
+        guards = self.guards.of(formula)
+        # what is found for one value is found before the next one takes its place
+        inside = dict(env)
+        for number in range(len(self.case.ops)) if formula.over_microops else self.case.cores:
+            inside[formula.name] = number
+            if any(self.holds(guard.predicate, inside) is guard.value for guard in guards):
+                continue
+            if self.is_sure(formula.body, inside, wanted) is not (formula.universal is wanted):
+                return formula.universal is not wanted
+        return formula.universal is wanted
 
 
 class Settling:

@@ -8,6 +8,16 @@ from .models import Axiom, Binary, Edges, Expand, Formula, Model, Nodes, Not, Qu
 from .positions import Positions
 
 
+# How much of a test is traced: a formula at some values of its variables is one step, and a node or an edge, which is kept,
+# so many. 64 micro-ops on a shipped model take at most 1,900,000.
+MOST_STEPS = 3_000_000
+STEPS_OF_LITERAL = 8
+
+
+class TooLarge(Exception):
+    """The axioms say more of a test than is traced."""
+
+
 @dataclass(frozen=True)
 class Taken:
     """What a quantifier took: its name, whether it is over micro-ops, and the value."""
@@ -45,6 +55,7 @@ class TracingGrounder(Grounder):
         self.axiom: Axiom | None = None
         self.taken: list[Taken] = []
         self.expanded: list[str] = []
+        self.steps = 0
 
     def axioms(self) -> Tree:
         """The tree of all axioms."""
@@ -65,6 +76,9 @@ class TracingGrounder(Grounder):
 
     def tree(self, formula: Formula, env: Environment, wanted: bool) -> Tree:
         """The tree of a formula, or of its negation where it is not wanted."""
+        self.steps += STEPS_OF_LITERAL * len(formula.members) if isinstance(formula, (Nodes, Edges)) else 1
+        if self.steps > MOST_STEPS:
+            raise TooLarge("the axioms ask too much of so many micro-ops; guards in front of quantifiers make it less")
         if isinstance(formula, Expand):
             self.expanded.append(formula.macro.name)
             found = super().tree(formula, env, wanted)
@@ -78,11 +92,10 @@ class TracingGrounder(Grounder):
 
     def quantified(self, formula: Quantified, env: Environment, wanted: bool) -> Tree:
         """The body for each value of the variable."""
-        values = range(len(self.case.ops)) if formula.over_microops else self.case.cores
         members = []
-        for value in values:
-            self.taken.append(Taken(formula.name, formula.over_microops, value))
-            members.append(self.tree(formula.body, {**env, formula.name: value}, wanted))
+        for inside in self.open_values(formula, env):
+            self.taken.append(Taken(formula.name, formula.over_microops, inside[formula.name]))
+            members.append(self.tree(formula.body, inside, wanted))
             self.taken.pop()
         return self.join(formula.universal is wanted, members)
 
