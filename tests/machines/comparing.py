@@ -12,8 +12,6 @@ from typing import Collection, NamedTuple
 
 HERE = os.path.dirname(os.path.realpath(__file__))
 TOP = os.path.dirname(os.path.dirname(HERE))
-# an installed copy has the program beside the script
-PROGRAM = os.path.join(TOP, "crates/pipecheck_cli/out/pipecheck_cli" if os.path.isdir(f"{TOP}/crates") else "pipecheck_cli")
 sys.path.insert(0, os.path.join(TOP, "second_implementation"))
 
 # pylint: disable=wrong-import-position
@@ -34,6 +32,7 @@ from second.quoting import shown
 from second.scopes import read_model
 from second.searching import search
 from second.tokens import Fault
+from standing import Standing, standing
 from verdicts import is_alike, runs
 from working import Unusable
 
@@ -216,7 +215,7 @@ def rows_of_program(model_path: str, pattern: bytes) -> set[Reads]:
     with tempfile.NamedTemporaryFile() as file:
         file.write(pattern)
         file.flush()
-        done = subprocess.run([PROGRAM, "sweep", model_path, file.name], capture_output=True, text=True, check=False)
+        done = subprocess.run([sweeper().path, "sweep", model_path, file.name], capture_output=True, text=True, check=False)
     lines = done.stdout.splitlines()
     if done.returncode != 0 or not lines or lines[-1] != "end":
         raise Unusable(f"{shown(model_path)}: the program swept no pattern: status {done.returncode} {done.stdout[:100]!r}")
@@ -232,11 +231,15 @@ def value_of_word(word: str) -> Value:
     return int(word)
 
 
-def program_sweeps() -> bool:
-    """Whether there is a built program that has the command `sweep`."""
-    if not os.access(PROGRAM, os.X_OK):
-        return False
-    return subprocess.run([PROGRAM, "sweep", "", ""], stdout=subprocess.DEVNULL, check=False).returncode != 2
+@lru_cache(maxsize=None)
+def sweeper() -> Standing:
+    """The program that stands; its path is empty where there is none that has the command `sweep`."""
+    try:
+        found = standing(TOP)
+        sweeps = subprocess.run([found.path, "sweep", "", ""], stdout=subprocess.DEVNULL, check=False).returncode != 2
+    except (OSError, SystemExit):
+        sweeps = False
+    return found if sweeps else Standing("", True)
 
 
 def words_of_rows(rows: set[Reads]) -> str:
