@@ -14,7 +14,14 @@ import tempfile
 from dataclasses import dataclass
 
 TOP = os.path.dirname(os.path.dirname(os.path.realpath(__file__)))
-PROGRAM = os.path.join(TOP, "crates/pipecheck_cli/out/pipecheck_cli")
+sys.path.insert(0, os.path.join(TOP, "second_implementation"))
+
+# pylint: disable=wrong-import-position
+from standing import standing
+
+# figures are those of the proved program, which is made first, unless the environment says another one
+os.environ.setdefault("PIPECHECK_PROVED", "yes")
+PROGRAM = standing(TOP).path
 # a function's name stands whole where it comes first, and after that its number alone
 NAMED = re.compile(r"^(?:c?fn)=\((\d+)\)(?: (.*))?$")
 CALLS = re.compile(r"^calls=(\d+) ")
@@ -124,14 +131,6 @@ def heap_peak(*words: str) -> int:
 def peak_bytes(*words: str) -> int:
     """The peak memory of the program, in bytes."""
     return timed(math.inf, os.devnull, PROGRAM, *words).peak
-
-
-def is_built() -> bool:
-    """Whether the program stands; `pipecheck` builds it where a source changed. Says so where it does not."""
-    stands = subprocess.run([os.path.join(TOP, "pipecheck")], stdout=subprocess.DEVNULL, check=False).returncode != 125
-    if not stands:
-        print("not built: nothing to measure")
-    return stands
 
 
 def show(what: str, figure: float, bar: float, width: int = 84) -> None:

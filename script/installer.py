@@ -33,7 +33,8 @@ TOP = os.path.dirname(os.path.dirname(os.path.realpath(__file__)))
 
 # what a tree has of the checkout, and what of that it has not: what builds and installs, maps, and what Python keeps
 COPIED = ("README.md", "commands.txt", "docs", "editors", "examples", "pipecheck", "second_implementation", "script", "tests/machines")
-BUILDS = ("build", "make_program.py", "jobs.py", "one_call.py", "preview.py", "processes.py")
+BUILDS = ("build", "making.py", "make_program.py", "make_unproved.py", "keep_module", "jobs.py", "one_call.py",
+          "processes.py")
 # what says what the crates and their definitions are
 MAPS = ("definitions", "crates", "renew", "antt.py", "meaning.py", "crate_list.py", "page_parts.py")
 LEFT_OUT = {f"script/{name}" for name in (*BUILDS, *MAPS, "installed.py", "installer.py", "manual")}

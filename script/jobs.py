@@ -7,8 +7,6 @@ import os
 import re
 from typing import Optional
 
-from preview import free_memory
-
 # What the proof of a crate takes: 1.1 to 1.8 GB, the largest one 3.1. In bytes.
 NEED = 2_500_000_000
 
@@ -19,6 +17,13 @@ PLENTY = 4_000_000_000
 # The limit of the control group, and what of it is held and can't be given back.
 LIMIT = "/sys/fs/cgroup/memory.max"
 HELD = "/sys/fs/cgroup/memory.stat"
+
+
+def free_memory() -> int:
+    """What the machine has free."""
+    with open("/proc/meminfo", encoding="ascii") as lines:
+        found = [int(line.split()[1]) << 10 for line in lines if line.startswith("MemAvailable:")]
+    return found[0] if found else 0
 
 
 def group_memory() -> float:

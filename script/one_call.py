@@ -30,17 +30,17 @@ def toolchain() -> str:
     return os.path.dirname(os.fsdecode(asked.stdout.strip()))
 
 
-def libraries_of(crates: str) -> list[str]:
-    """What the program stands on, by the text of crates.txt."""
-    row = re.search(rf"^{PROGRAM}:([^#\n]*)", crates, re.M)
-    return row[1].split() if row else []
+def uses_of(crates: str) -> dict[str, list[str]]:
+    """What each crate stands on, by the text of crates.txt."""
+    rows = (line.partition("#")[0].partition(":") for line in crates.splitlines())
+    return {head.split()[0]: below.split() for head, colon, below in rows if colon and head.strip()}
 
 
 def proof(tools: str, libraries: str, checkout: str, crates: list[str], processors: int) -> list[str]:
     """The call that proves and compiles the program, in its folder of the checkout. The other repository has the crates
     that it stands on, as `rt ci` left them."""
     with open(f"{checkout}/crates.txt", encoding="utf-8") as given:
-        names = libraries_of(given.read())
+        names = uses_of(given.read()).get(PROGRAM, [])
     places = {name: f"{libraries}/crates/{name}/out/rlib" for name in crates if name != PROGRAM}
     words = [f"{tools}/bin/rattle", "build", "--crate-name", PROGRAM, "src/main.rt", "-L", f"dependency={tools}/rlibs"]
     for name in ["std", *names]:
@@ -52,10 +52,10 @@ def proof(tools: str, libraries: str, checkout: str, crates: list[str], processo
     return [*words, "--backend", "llvm", "-o", f"out/{PROGRAM}.o"]
 
 
-def linking(tools: str) -> list[str]:
-    """The call that links what that one compiled."""
+def linking(tools: str, compiled: str, program: str) -> list[str]:
+    """The call that links what was compiled."""
     words = [f"{tools}/bin/rattle-link", "--target", "x86_64-unknown-linux-gnu", "--toolchain", f"{tools}/toolchain"]
-    return [*words, "-o", f"out/{PROGRAM}", f"out/{PROGRAM}.o", f"{tools}/c/libos_c.a", f"{tools}/c/liblibc_c.a"]
+    return [*words, "-o", program, compiled, f"{tools}/c/libos_c.a", f"{tools}/c/liblibc_c.a"]
 
 
 def is_proved(said: str) -> bool:

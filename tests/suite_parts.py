@@ -8,6 +8,7 @@ Prints a line for each case; the status is 1 where one fails.
 import fcntl
 import os
 import pty
+import shutil
 import signal
 import struct
 import subprocess
@@ -288,6 +289,7 @@ def ends_build(cases: Cases, folder: str) -> None:
     os.makedirs(os.path.join(copy, "script"))
     for name in ("second_implementation", "examples"):
         subprocess.run(["cp", "-r", os.path.join(TOP, name), copy], check=True)
+    shutil.copy(os.path.join(TOP, "script", "standing"), os.path.join(copy, "script"))
     note = os.path.join(folder, "built")
     with open(os.path.join(copy, "script", "program"), "w", encoding="ascii") as file:
         file.write(f"ensure_built() {{ trap 'rm -f {note}' EXIT; : >{note}; sleep 300; }}\n")

@@ -33,7 +33,7 @@ def suite(words: Sequence[str], environ: Mapping[str, str], top: str) -> int:
     if "--axioms" in asked.options:
         checker = checker_of(environ, top, seconds, Calls())
         lines, status = run_axioms(Axioms(asked.models[0], asked.tests, checker), jobs)
-        put(lines)
+        put([*lines[:-1], lines[-1] + checker.said])
         return status
     return pairs(asked, environ, top, seconds, jobs)
 
@@ -59,7 +59,7 @@ def pairs(asked: Words, environ: Mapping[str, str], top: str, seconds: float, jo
         tell(f"suite: {shown(folder.cells)} cannot be written: {error.strerror}")
         status = NO_TABLE
     state.clear()
-    put([*lines, f"certificates: {shown(folder.path)}", count.line])
+    put([*lines, f"certificates: {shown(folder.path)}", count.line + checker.said])
     return status
 
 

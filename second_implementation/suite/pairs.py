@@ -39,10 +39,11 @@ class Found:
 
 
 class Checker:
-    """The program, within limits."""
+    """The program, within limits; and what the last line says of it."""
 
-    def __init__(self, command: list[str], kib: int | None, seconds: float, calls: Calls) -> None:
+    def __init__(self, command: list[str], kib: int | None, seconds: float, calls: Calls, said: str = "") -> None:
         self.command = command
+        self.said = said
         self.kib = kib
         self.seconds = seconds
         self.calls = calls

@@ -5,6 +5,7 @@ import shutil
 import tempfile
 from typing import Mapping
 
+import standing
 from second.quoting import quoted, shown
 
 from .calling import Calls, memory_limit, side_by_side
@@ -12,8 +13,6 @@ from .files import digest_of
 from .pairs import Checker
 from .refusing import Refusal
 
-# the script's own way to the program; it says on standard error what there is to say
-BUILD = 'top=$1; . "$top/script/program" && ensure_built >&2 && printf %s "$program"'
 # the status of the program without words
 BAD_WORDS = 2
 # a binary stands for itself; a script may call what changes
@@ -21,11 +20,16 @@ BINARY = b"\x7fELF"
 
 
 def checker_of(environ: Mapping[str, str], top: str, seconds: float, calls: Calls) -> Checker:
-    """The program, which is built first where PIPECHECK names none."""
+    """The program that stands, which is made first where none does, if PIPECHECK names none."""
     value = environ.get("PIPECHECK", "")
-    command = command_of(value) if value else [built_program(top, calls)]
+    said = ""
+    if value:
+        command = command_of(value)
+    else:
+        found = standing_program(top, calls)
+        command, said = [held(found.path)], found.said
     memory = environ.get("PIPECHECK_MEMORY", "")
-    checker = Checker(command, memory_limit(memory), seconds, calls)
+    checker = Checker(command, memory_limit(memory), seconds, calls, said)
     if not is_checker(checker):
         if memory and is_checker(Checker(command, memory_limit(""), seconds, calls)):
             raise Refusal(f"PIPECHECK_MEMORY is {memory} MiB, and the program takes more to start")
@@ -47,16 +51,22 @@ def command_of(value: str) -> list[str]:
     return words
 
 
-def built_program(top: str, calls: Calls) -> str:
-    """The path of the program, which is proved and built where it is not built yet."""
+def standing_program(top: str, calls: Calls) -> standing.Standing:
+    """The program of the sources that are here, which is made where it is not there."""
     with tempfile.TemporaryFile() as out:
-        command = ["bash", "-c", BUILD, "suite", top]
+        command = standing.command(top)
         (status,) = side_by_side(calls, 1, [lambda: calls.status_of_build(command, out)], lambda _, __: None)
         out.seek(0)
-        program = os.fsdecode(out.read())
-    if status != 0 or not program:
+        said = out.read()
+    if status != 0:
         raise Refusal(f"there is no program to call in {shown(top)}")
-    return program
+    return standing.read_standing(said)
+
+
+def held(program: str) -> str:
+    """A path by which all calls of this process get the file that is there now, whatever takes its place meanwhile."""
+    path = f"/proc/{os.getpid()}/fd/{os.open(program, os.O_RDONLY)}"
+    return path if os.access(path, os.X_OK) else program
 
 
 def is_checker(checker: Checker) -> bool:

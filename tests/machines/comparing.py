@@ -13,9 +13,6 @@ from typing import Collection, NamedTuple
 
 HERE = os.path.dirname(os.path.realpath(__file__))
 TOP = os.path.dirname(os.path.dirname(HERE))
-# an installed copy has the program beside the script; PIPECHECK names another one
-IN_CHECKOUT = "crates/pipecheck_cli/out/pipecheck_cli"
-BUILT = os.path.join(TOP, IN_CHECKOUT if os.path.isdir(f"{TOP}/crates") else "pipecheck_cli")
 sys.path.insert(0, os.path.join(TOP, "second_implementation"))
 
 # pylint: disable=wrong-import-position
@@ -36,6 +33,7 @@ from second.quoting import shown
 from second.scopes import read_model
 from second.searching import search
 from second.tokens import Fault
+from standing import standing
 from suite.programs import command_of
 from suite.refusing import Refusal
 from verdicts import is_alike, runs
@@ -242,7 +240,7 @@ def rows_of_program(model_path: str, pattern: bytes) -> set[Reads]:
     with tempfile.NamedTemporaryFile() as file:
         file.write(pattern)
         file.flush()
-        command = [*checker(), "sweep", model_path, file.name]
+        command = [*sweeper().words, "sweep", model_path, file.name]
         done = subprocess.run(command, capture_output=True, text=True, errors="replace", check=False)
     lines = done.stdout.splitlines()
     if done.returncode != 0 or not lines or lines[-1] != "end":
@@ -260,24 +258,33 @@ def value_of_word(word: str) -> Value:
     return int(word)
 
 
-@lru_cache(None)
-def checker() -> list[str]:
-    """The words that call the program: what PIPECHECK says, or the built one."""
+class Sweeper(NamedTuple):
+    """The words that call what sweeps, none where nothing has the command `sweep`, and what the last line says of it."""
+
+    words: list[str]
+    said: str
+
+
+@lru_cache(maxsize=None)
+def sweeper() -> Sweeper:
+    """What PIPECHECK says, or the program that stands."""
     value = os.environ.get("PIPECHECK", "")
     try:
-        return command_of(value) if value else [BUILT]
+        if value:
+            found = Sweeper(command_of(value), "")
+        else:
+            stands = standing(TOP)
+            found = Sweeper([stands.path], stands.said)
+        done = subprocess.run([*found.words, "sweep", "", ""], stdout=subprocess.DEVNULL, check=False)
     except Refusal as refusal_of_words:
         raise Unusable(str(refusal_of_words)) from refusal_of_words
-
-
-def program_sweeps() -> bool:
-    """Whether there is a program that has the command `sweep`."""
-    try:
-        return subprocess.run([*checker(), "sweep", "", ""], stdout=subprocess.DEVNULL, check=False).returncode != 2
     except OSError as error:
-        if os.environ.get("PIPECHECK"):
+        if value:
             raise Unusable(f"PIPECHECK: {error}") from error
-        return False
+        return Sweeper([], "")
+    except SystemExit:
+        return Sweeper([], "")
+    return found if done.returncode != 2 else Sweeper([], "")
 
 
 def words_of_rows(rows: set[Reads]) -> str:

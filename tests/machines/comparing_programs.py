@@ -7,7 +7,7 @@ from random import Random
 from typing import Iterable, Iterator
 
 from comparing import (
-    HERE, TOP, Other, asks_for_locked, checker, machine_of, program_difference, types_asked
+    HERE, TOP, Other, asks_for_locked, machine_of, program_difference, sweeper, types_asked
 )
 from counts import Counts
 from kept import Kept, Progress, digest_of_files
@@ -142,5 +142,5 @@ class Comparison:
     @property
     def origin(self) -> str:
         """One hash of all that the answers depend on, but for the programs."""
-        code = [HERE, os.path.join(TOP, "second_implementation"), *(checker() if self.by_program else [])]
+        code = [HERE, os.path.join(TOP, "second_implementation"), *(sweeper().words if self.by_program else [])]
         return digest_of_files(*self.models, *filter(os.path.exists, code))
