@@ -1,7 +1,6 @@
-//! How each command ends, by the tables of its module: one test walks all tables whose rows have one form.
+//! How each command ends, by the tables of its module, each walked by a test.
 use crate::memory_runs::{
-    Failed, Plan, Run, Told, first_other, first_taken, first_unreported, first_wrong,
-    first_wrong_failure,
+    Plan, first_other, first_taken, first_unreported, first_wrong, first_wrong_failure,
 };
 use crate::{asks, certificates, checks, cores, lifted, listings, rings, sweeps};
 use example_texts::{
@@ -11,136 +10,319 @@ use example_texts::{
 use pc_common::Status;
 use std::test::Fail;
 
-/// A command, and how it ends over files.
-const RUNS: &[(&'static str, &'static [Run<'static>])] = &[
-    ("check model test", checks::answers::VERDICTS),
-    ("check model test", checks::checking::CHECKS),
-    ("check model test", checks::ties::TIES),
-    ("check model test", checks::translation::WALKS),
-    ("check2 model test", checks::answers::SIGNED),
-    ("check86 model listing", listings::CHECKS),
-    ("verify86 model listing text", listings::VERIFIES),
-    (
-        "verify-lifted model test certificate",
-        lifted::verifying::ENDS,
-    ),
-    ("lift model test certificate", lifted::lifting::ENDS),
-];
-
 #[test]
-fn a_command_ends_with_its_status_and_its_text(rt: HostRuntime) -> Result<(), Fail> {
-    for (command, rows) in RUNS {
-        assert_eq!(rt; first_wrong(rt.alloc(), command, rows)?, None, "{command}");
-    }
+fn a_check_ends_with_a_verdict(rt: HostRuntime) -> Result<(), Fail> {
+    assert_eq!(rt;
+        first_wrong(rt.alloc(), "check model test", checks::answers::VERDICTS)?,
+        None
+    );
     Ok(())
 }
 
-/// The same where each row of a table has one status.
-const TOLD: &[(&'static str, Status, &'static [Told<'static>])] = &[
-    (
+#[test]
+fn a_check_ends_with_a_verdict_or_a_refusal(rt: HostRuntime) -> Result<(), Fail> {
+    assert_eq!(rt;
+        first_wrong(rt.alloc(), "check model test", checks::checking::CHECKS)?,
+        None
+    );
+    Ok(())
+}
+
+#[test]
+fn of_candidates_that_tie_the_first_is_split(rt: HostRuntime) -> Result<(), Fail> {
+    assert_eq!(rt;
+        first_wrong(rt.alloc(), "check model test", checks::ties::TIES)?,
+        None
+    );
+    Ok(())
+}
+
+#[test]
+fn a_check_with_page_table_entries_ends_so(rt: HostRuntime) -> Result<(), Fail> {
+    assert_eq!(rt;
+        first_wrong(rt.alloc(), "check model test", checks::translation::WALKS)?,
+        None
+    );
+    Ok(())
+}
+
+#[test]
+fn a_check_of_version_2_ends_with_a_verdict(rt: HostRuntime) -> Result<(), Fail> {
+    assert_eq!(rt;
+        first_wrong(rt.alloc(), "check2 model test", checks::answers::SIGNED)?,
+        None
+    );
+    Ok(())
+}
+
+#[test]
+fn a_check_of_a_listing_ends_so(rt: HostRuntime) -> Result<(), Fail> {
+    assert_eq!(rt;
+        first_wrong(rt.alloc(), "check86 model listing", listings::CHECKS)?,
+        None
+    );
+    Ok(())
+}
+
+#[test]
+fn a_text_is_verified_against_a_listing(rt: HostRuntime) -> Result<(), Fail> {
+    assert_eq!(rt;
+        first_wrong(
+            rt.alloc(),
+            "verify86 model listing text",
+            listings::VERIFIES
+        )?,
+        None
+    );
+    Ok(())
+}
+
+#[test]
+fn a_lifted_text_is_verified_or_refused(rt: HostRuntime) -> Result<(), Fail> {
+    assert_eq!(rt;
+        first_wrong(
+            rt.alloc(),
+            "verify-lifted model test certificate",
+            lifted::verifying::ENDS
+        )?,
+        None
+    );
+    Ok(())
+}
+
+#[test]
+fn a_certificate_is_lifted_or_refused(rt: HostRuntime) -> Result<(), Fail> {
+    assert_eq!(rt;
+        first_wrong(
+            rt.alloc(),
+            "lift model test certificate",
+            lifted::lifting::ENDS
+        )?,
+        None
+    );
+    Ok(())
+}
+
+#[test]
+fn a_check_is_refused(rt: HostRuntime) -> Result<(), Fail> {
+    let found = first_other(
+        rt.alloc(),
         "check model test",
         Status::Refused,
         checks::checking::REFUSED,
-    ),
-    (
-        "check2 model test",
-        Status::Unobservable,
-        certificates::signs::FOUND,
-    ),
-    ("core model test", Status::Done, cores::found::CORES),
-    ("core model test", Status::Refused, cores::endings::REFUSED),
-    ("sweep model test", Status::Done, sweeps::rows::SWEEPS),
-    ("sweep model test", Status::Done, sweeps::values::VALUES),
-    (
-        "sweep model test",
-        Status::Refused,
-        sweeps::endings::REFUSED,
-    ),
-    ("sweep model test", Status::Refused, sweeps::faults::REFUSED),
-    ("ask model test query", Status::Done, asks::words::ANSWERS),
-    (
-        "ask model test query",
-        Status::Refused,
-        asks::endings::REFUSED,
-    ),
-];
-
-#[test]
-fn a_command_ends_with_its_text(rt: HostRuntime) -> Result<(), Fail> {
-    for (command, status, rows) in TOLD {
-        assert_eq!(rt;
-            first_other(rt.alloc(), command, *status, rows)?,
-            None,
-            "{command}"
-        );
-    }
+    )?;
+    assert_eq!(rt; found, None);
     Ok(())
 }
 
-/// The names and contents of files, and runs over them of which calls fail or names are missing.
-const FAILED: &[(
-    &'static [(&'static str, &'static str)],
-    &'static [Failed<'static>],
-)] = &[
-    (
-        &[("model", ORDERED), ("test", TWO)],
-        checks::answers::CUT_SHORT,
-    ),
-    (
-        &[("model", ORDERED), ("test", TWO), ("bad", "t")],
-        checks::checking::FAILS,
-    ),
-    (
-        &[
-            ("model", ORDERED),
-            ("test", TWO),
-            ("certificate", TWO_IN_ORDER),
-            ("bad", "t"),
-        ],
-        certificates::verifying::ENDS,
-    ),
-    (
-        &[
-            ("model", SOME_OP),
-            ("test", EMPTY),
-            (
-                "certificate",
-                "unobservable\ntest unstated\nlifted\nfalse 0\nend\n",
-            ),
-            ("bad", "t"),
-        ],
-        lifted::verifying::EARLY,
-    ),
-    (
-        &[
-            ("model", STORE_BUFFER),
-            ("listing", LISTED_STORE_BUFFERING),
-            ("text", listings::SAW_NEITHER),
-            ("bad", "t"),
-        ],
-        listings::ENDS,
-    ),
-    (
-        &[("model", BOTH_ORDERS), ("test", TWO_FORBIDDEN)],
-        cores::endings::FAILS,
-    ),
-    (&[("model", ORDERED), ("test", TWO)], sweeps::endings::FAILS),
-    (
-        &[
-            ("model", asks::texts::NO_AXIOMS),
-            ("test", ONE),
-            ("query", "True"),
-            ("bad", asks::endings::NO_TEXT),
-        ],
-        asks::endings::FAILS,
-    ),
-];
+#[test]
+fn a_check_of_version_2_finds_a_refutation(rt: HostRuntime) -> Result<(), Fail> {
+    let found = first_other(
+        rt.alloc(),
+        "check2 model test",
+        Status::Unobservable,
+        certificates::signs::FOUND,
+    )?;
+    assert_eq!(rt; found, None);
+    Ok(())
+}
 
 #[test]
-fn a_run_that_ends_early_says_why(rt: HostRuntime) -> Result<(), Fail> {
-    for (contents, rows) in FAILED {
-        assert_eq!(rt; first_wrong_failure(rt.alloc(), contents, rows)?, None);
-    }
+fn a_core_is_found(rt: HostRuntime) -> Result<(), Fail> {
+    let found = first_other(
+        rt.alloc(),
+        "core model test",
+        Status::Done,
+        cores::found::CORES,
+    )?;
+    assert_eq!(rt; found, None);
+    Ok(())
+}
+
+#[test]
+fn a_core_is_refused(rt: HostRuntime) -> Result<(), Fail> {
+    let found = first_other(
+        rt.alloc(),
+        "core model test",
+        Status::Refused,
+        cores::endings::REFUSED,
+    )?;
+    assert_eq!(rt; found, None);
+    Ok(())
+}
+
+#[test]
+fn a_sweep_has_a_verdict_for_each_row(rt: HostRuntime) -> Result<(), Fail> {
+    let found = first_other(
+        rt.alloc(),
+        "sweep model test",
+        Status::Done,
+        sweeps::rows::SWEEPS,
+    )?;
+    assert_eq!(rt; found, None);
+    Ok(())
+}
+
+#[test]
+fn a_sweep_goes_through_all_values(rt: HostRuntime) -> Result<(), Fail> {
+    let found = first_other(
+        rt.alloc(),
+        "sweep model test",
+        Status::Done,
+        sweeps::values::VALUES,
+    )?;
+    assert_eq!(rt; found, None);
+    Ok(())
+}
+
+#[test]
+fn a_sweep_is_refused(rt: HostRuntime) -> Result<(), Fail> {
+    let found = first_other(
+        rt.alloc(),
+        "sweep model test",
+        Status::Refused,
+        sweeps::endings::REFUSED,
+    )?;
+    assert_eq!(rt; found, None);
+    Ok(())
+}
+
+#[test]
+fn a_pattern_is_refused(rt: HostRuntime) -> Result<(), Fail> {
+    let found = first_other(
+        rt.alloc(),
+        "sweep model test",
+        Status::Refused,
+        sweeps::faults::REFUSED,
+    )?;
+    assert_eq!(rt; found, None);
+    Ok(())
+}
+
+#[test]
+fn a_query_is_answered(rt: HostRuntime) -> Result<(), Fail> {
+    let found = first_other(
+        rt.alloc(),
+        "ask model test query",
+        Status::Done,
+        asks::words::ANSWERS,
+    )?;
+    assert_eq!(rt; found, None);
+    Ok(())
+}
+
+#[test]
+fn a_query_is_refused(rt: HostRuntime) -> Result<(), Fail> {
+    let found = first_other(
+        rt.alloc(),
+        "ask model test query",
+        Status::Refused,
+        asks::endings::REFUSED,
+    )?;
+    assert_eq!(rt; found, None);
+    Ok(())
+}
+
+#[test]
+fn a_text_is_cut_where_a_write_fails(rt: HostRuntime) -> Result<(), Fail> {
+    let contents = &[("model", ORDERED), ("test", TWO)];
+    assert_eq!(rt;
+        first_wrong_failure(rt.alloc(), contents, checks::answers::CUT_SHORT)?,
+        None
+    );
+    Ok(())
+}
+
+#[test]
+fn a_check_that_ends_early_says_why(rt: HostRuntime) -> Result<(), Fail> {
+    let contents = &[("model", ORDERED), ("test", TWO), ("bad", "t")];
+    assert_eq!(rt;
+        first_wrong_failure(rt.alloc(), contents, checks::checking::FAILS)?,
+        None
+    );
+    Ok(())
+}
+
+#[test]
+fn a_verify_that_ends_early_says_why(rt: HostRuntime) -> Result<(), Fail> {
+    let contents = &[
+        ("model", ORDERED),
+        ("test", TWO),
+        ("certificate", TWO_IN_ORDER),
+        ("bad", "t"),
+    ];
+    assert_eq!(rt;
+        first_wrong_failure(rt.alloc(), contents, certificates::verifying::ENDS)?,
+        None
+    );
+    Ok(())
+}
+
+#[test]
+fn a_verify_lifted_that_ends_early_says_why(rt: HostRuntime) -> Result<(), Fail> {
+    let contents = &[
+        ("model", SOME_OP),
+        ("test", EMPTY),
+        (
+            "certificate",
+            "unobservable\ntest unstated\nlifted\nfalse 0\nend\n",
+        ),
+        ("bad", "t"),
+    ];
+    assert_eq!(rt;
+        first_wrong_failure(rt.alloc(), contents, lifted::verifying::EARLY)?,
+        None
+    );
+    Ok(())
+}
+
+#[test]
+fn a_command_on_a_listing_that_ends_early_says_why(rt: HostRuntime) -> Result<(), Fail> {
+    let contents = &[
+        ("model", STORE_BUFFER),
+        ("listing", LISTED_STORE_BUFFERING),
+        ("text", listings::SAW_NEITHER),
+        ("bad", "t"),
+    ];
+    assert_eq!(rt;
+        first_wrong_failure(rt.alloc(), contents, listings::ENDS)?,
+        None
+    );
+    Ok(())
+}
+
+#[test]
+fn a_core_that_ends_early_says_why(rt: HostRuntime) -> Result<(), Fail> {
+    let contents = &[("model", BOTH_ORDERS), ("test", TWO_FORBIDDEN)];
+    assert_eq!(rt;
+        first_wrong_failure(rt.alloc(), contents, cores::endings::FAILS)?,
+        None
+    );
+    Ok(())
+}
+
+#[test]
+fn a_sweep_that_ends_early_says_why(rt: HostRuntime) -> Result<(), Fail> {
+    let contents = &[("model", ORDERED), ("test", TWO)];
+    assert_eq!(rt;
+        first_wrong_failure(rt.alloc(), contents, sweeps::endings::FAILS)?,
+        None
+    );
+    Ok(())
+}
+
+#[test]
+fn an_ask_that_ends_early_says_why(rt: HostRuntime) -> Result<(), Fail> {
+    let contents = &[
+        ("model", asks::texts::NO_AXIOMS),
+        ("test", ONE),
+        ("query", "True"),
+        ("bad", asks::endings::NO_TEXT),
+    ];
+    assert_eq!(rt;
+        first_wrong_failure(rt.alloc(), contents, asks::endings::FAILS)?,
+        None
+    );
     Ok(())
 }
 

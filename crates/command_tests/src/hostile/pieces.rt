@@ -1,5 +1,5 @@
 //! Models in pieces: at a limit and one past it, with 40,000 edges of one axiom, and with 200 axioms of which two matter.
-use crate::memory_runs::{End, ends_over, join_pieces};
+use crate::memory_runs::{End, ends_on, join_pieces};
 use example_texts::{EMPTY, ONE, TWO_FORBIDDEN};
 use pc_common::{Memory, Status};
 use std::alloc::Global;
@@ -7,15 +7,6 @@ use std::test::Fail;
 
 /// A text in pieces, each with how often it stands there.
 type Pieces = &'static [(&'static str, usize)];
-
-/// A command, a model, a test, a query, and how the command ends.
-type Pieced = (
-    &'static str,
-    Pieces,
-    &'static str,
-    &'static str,
-    End<'static>,
-);
 
 const OBSERVABLE: End<'static> = (Status::Observable, "observable\ntest unstated\nend\n");
 
@@ -88,64 +79,43 @@ const AXIOMS_OF_A_THOUSAND: &[(&'static str, usize)] = &[
     ("Axiom \"a\": ExpandMacro k.\n", 999),
 ];
 
-const MODELS: &[Pieced] = &[
+/// Models, each with how the check with the empty test ends.
+const MODELS: &[(Pieces, End<'static>)] = &[
     (
-        "check model test",
         &[("Axiom \"a\": forall microops \"i\", IsAnyRead i /\\ .", 1)],
-        EMPTY,
-        "",
         (Status::Refused, "refused model syntax at 1:48\n"),
     ),
     (
-        "check model test",
         &[("Axiom \"a: True.", 1)],
-        EMPTY,
-        "",
         (Status::Refused, "refused model lexical at 1:7\n"),
     ),
     // the lexical fault comes before the fault of the tokens
     (
-        "check model test",
         &[(
             "Axiom \"a\": forall microops \"i\", IsAnyRead i /\\ .\nAxiom \"b",
             1,
         )],
-        EMPTY,
-        "",
         (Status::Refused, "refused model lexical at 2:7\n"),
     ),
     // at the file's end, where no line feed stands
     (
-        "check model test",
         &[("Axiom \"a\": True", 1)],
-        EMPTY,
-        "",
         (Status::Refused, "refused model syntax at 1:16\n"),
     ),
     (
-        "check model test",
         &[("Axiom \"n\": NodeExists (i, S).", 1)],
-        EMPTY,
-        "",
         (Status::Refused, "refused model unbound at 1:24\n"),
     ),
     (
-        "check model test",
         &[("Axiom \"d\": ", 1), ("~", 128), ("True.", 1)],
-        EMPTY,
-        "",
         OBSERVABLE,
     ),
     (
-        "check model test",
         &[("Axiom \"d\": ", 1), ("~", 129), ("True.", 1)],
-        EMPTY,
-        "",
         (Status::Refused, "refused model depth at 1:140\n"),
     ),
     // the size 1,000,000, and one more
     (
-        "check model test",
         &[
             (
                 "StageName 0 \"S\".\nDefineMacro \"k\": forall microops \"i\", NodesExist [(i, S)",
@@ -155,12 +125,9 @@ const MODELS: &[Pieced] = &[
             ("].\n", 1),
             ("Axiom \"a\": ExpandMacro k.\n", 1000),
         ],
-        EMPTY,
-        "",
         OBSERVABLE,
     ),
     (
-        "check model test",
         &[
             (
                 "StageName 0 \"S\".\nDefineMacro \"k\": forall microops \"i\", NodesExist [(i, S)",
@@ -171,45 +138,56 @@ const MODELS: &[Pieced] = &[
             ("Axiom \"a\": ExpandMacro k.\n", 1000),
             ("Axiom \"b\": True.\n", 1),
         ],
-        EMPTY,
-        "",
         (Status::Refused, "refused model too-big at 1003:1\n"),
-    ),
-    (
-        "check model test",
-        ONE_EDGE,
-        ONE,
-        "",
-        (Status::Observable, ONE_EDGE_SHOWN),
-    ),
-    (
-        "core model test",
-        TWO_HUNDRED,
-        TWO_FORBIDDEN,
-        "",
-        (Status::Done, CORE),
-    ),
-    // the denial counts: the axioms leave room for the macro, and not for the denial of it
-    (
-        "ask model test query",
-        AXIOMS_OF_A_THOUSAND,
-        EMPTY,
-        "ExpandMacro k",
-        (Status::Refused, "refused query too-big at 1:1\n"),
     ),
 ];
 
-/// Whether the run ends so.
-fn is_end(alloc: Global, (command, pieces, test, query, end): Pieced) -> Result<bool, Memory> {
+/// Whether the check of the model with the empty test ends so.
+fn ends_with_the_empty_test(
+    alloc: Global,
+    pieces: &[(&'static str, usize)],
+    end: End<'_>,
+) -> Result<bool, Memory> {
     let model = join_pieces(alloc, pieces)?;
-    let contents = &[("model", model.as_str()), ("test", test), ("query", query)];
-    ends_over(alloc, command, contents, (&[], &[]), end)
+    ends_on(alloc, "check model test", &[model.as_str(), EMPTY], end)
 }
 
 #[test]
 fn a_model_is_refused_by_a_line_or_accepted_at_its_limit(rt: HostRuntime) -> Result<(), Fail> {
-    for pieced in MODELS {
-        assert!(rt; is_end(rt.alloc(), *pieced)?, "{}: {}", pieced.0, pieced.4.1);
+    for (pieces, end) in MODELS {
+        assert!(rt;
+            ends_with_the_empty_test(rt.alloc(), pieces, *end)?,
+            "{}",
+            end.1
+        );
     }
+    Ok(())
+}
+
+#[test]
+fn an_edge_that_is_listed_40_000_times_is_one(rt: HostRuntime) -> Result<(), Fail> {
+    let model = join_pieces(rt.alloc(), ONE_EDGE)?;
+    let contents = &[model.as_str(), ONE];
+    let end = (Status::Observable, ONE_EDGE_SHOWN);
+    assert!(rt; ends_on(rt.alloc(), "check model test", contents, end)?);
+    Ok(())
+}
+
+#[test]
+fn two_of_two_hundred_axioms_matter(rt: HostRuntime) -> Result<(), Fail> {
+    let model = join_pieces(rt.alloc(), TWO_HUNDRED)?;
+    let contents = &[model.as_str(), TWO_FORBIDDEN];
+    let end = (Status::Done, CORE);
+    assert!(rt; ends_on(rt.alloc(), "core model test", contents, end)?);
+    Ok(())
+}
+
+/// The axioms leave room for the macro, and not for the denial of it.
+#[test]
+fn the_denial_counts_among_the_axioms(rt: HostRuntime) -> Result<(), Fail> {
+    let model = join_pieces(rt.alloc(), AXIOMS_OF_A_THOUSAND)?;
+    let contents = &[model.as_str(), EMPTY, "ExpandMacro k"];
+    let end = (Status::Refused, "refused query too-big at 1:1\n");
+    assert!(rt; ends_on(rt.alloc(), "ask model test query", contents, end)?);
     Ok(())
 }

@@ -45,15 +45,37 @@ fn first_wrong(alloc: Global, (model, test, texts): Judged) -> Option<&'static s
     None
 }
 
-/// Parts are facts; connectives are taken by their signs; ranges are gone through; leaves close their branch alone; and a
-/// text without the form is refused at its line.
-const TABLES: &[&[Judged]] = &[PARTS, CONNECTIVES, QUANTIFIERS, LEAVES, FORMS];
+#[test]
+fn parts_are_facts(rt: HostRuntime) {
+    for judged in PARTS {
+        assert_eq!(rt; first_wrong(rt.alloc(), *judged), None);
+    }
+}
 
 #[test]
-fn a_text_is_the_same_however_it_is_cut(rt: HostRuntime) {
-    for table in TABLES {
-        for judged in *table {
-            assert_eq!(rt; first_wrong(rt.alloc(), *judged), None);
-        }
+fn connectives_are_taken_by_their_signs(rt: HostRuntime) {
+    for judged in CONNECTIVES {
+        assert_eq!(rt; first_wrong(rt.alloc(), *judged), None);
+    }
+}
+
+#[test]
+fn ranges_are_gone_through(rt: HostRuntime) {
+    for judged in QUANTIFIERS {
+        assert_eq!(rt; first_wrong(rt.alloc(), *judged), None);
+    }
+}
+
+#[test]
+fn leaves_close_their_branch_alone(rt: HostRuntime) {
+    for judged in LEAVES {
+        assert_eq!(rt; first_wrong(rt.alloc(), *judged), None);
+    }
+}
+
+#[test]
+fn a_text_without_the_form_is_refused_at_its_line(rt: HostRuntime) {
+    for judged in FORMS {
+        assert_eq!(rt; first_wrong(rt.alloc(), *judged), None);
     }
 }
