@@ -3,37 +3,55 @@
 
     test86.py FILE
 
-The exit status is 0, 3 where the listing is refused, 4 where it cannot be read, 5 where standard output cannot be
-written, and 125 where this program fails.
+Of what `check86` does not read, it reads what changes no question, and says on standard error what that is. The exit
+status is 0, 3 where the listing is refused, 4 where it cannot be read, 5 where standard output cannot be written, and 125
+where this program fails.
 """
 import sys
 
+from herd.beyond import Notes
+from herd.writing import test_of_herd
+from second.linting_lines import line_of
 from second.naming import line_and_column
 from second.standard_output import status_of
 from second.tokens import Fault
 from second.writing_tests import LIMIT, test_of_listing
+from suite.telling import tell
 
 
-def answer(path: str) -> tuple[str, int]:
-    """What is written of a listing, and the exit status."""
+def test_of(data: bytes, notes: Notes) -> str:
+    """The test that a listing says: as `check86` reads it, or else as herd does. The fault is that of `check86` where
+    nothing was read beyond it."""
+    try:
+        if len(data) > LIMIT:
+            raise Fault("too-large", 0)
+        return test_of_listing(data)
+    except Fault as fault:
+        if fault.word == "too-large":
+            raise
+        try:
+            return test_of_herd(data, notes)
+        except Fault as other:
+            raise other if notes.places else fault from None
+
+
+def main(path: str) -> int:
+    """Writes the test, with what was read beyond `check86`, or the refusal of the listing."""
     try:
         with open(path, "rb") as file:
             data = file.read(LIMIT + 1)
     except OSError:
-        return "", 4
+        return 4
+    notes = Notes()
     try:
-        if len(data) > LIMIT:
-            raise Fault("too-large", 0)
-        return test_of_listing(data), 0
+        text = test_of(data, notes)
     except Fault as fault:
-        return f"refused test {fault.word} at {line_and_column(data, fault.place)}\n", 3
-
-
-def main(path: str) -> int:
-    """Writes the test, or the refusal of the listing."""
-    text, status = answer(path)
+        print(f"refused test {fault.word} at {line_and_column(data, fault.place)}")
+        return 3
     print(text, end="")
-    return status
+    for place, sentence in notes.lines():
+        tell(line_of(path, data, place, sentence))
+    return 0
 
 
 if __name__ == "__main__":

@@ -4,9 +4,9 @@ The names of the listing stand in comments: of its threads, locations and regist
 them.
 """
 from dataclasses import replace
-from typing import Iterator
+from typing import Iterable, Iterator
 
-from .cases import Case, ExpectationItem, Item, Location, Op, OpItem, Page, ValueItem, read_items
+from .cases import OPEN, Case, ExpectationItem, Item, Location, Op, OpItem, Page, ValueItem, read_items
 from .listings import PIECE, Instruction, Judge, Listing, ListingReader, behind_header
 from .tokens import Fault, tokens
 
@@ -22,10 +22,15 @@ def test_of_listing(data: bytes) -> str:
     title, start = behind_header(data)
     listing = ListingReader(tokens(data, PIECE, start)).listing()
     items = Judge(listing).items()
-    lines = list(item_lines(listing, items))
-    for text in (written(title, [*notes(data, start)], lines), written(title, [], [(line, "") for line, _ in lines])):
+    text = within_limit(title, notes(data, start), list(item_lines(listing, items)))
+    judge_text(text, items)
+    return text
+
+
+def within_limit(title: str, above: Iterable[str], lines: list[tuple[str, str]]) -> str:
+    """A text with comments, or without them where it would be too long with them, or the fault that it is too long."""
+    for text in (written(title, [*above], lines), written(title, [], [(line, "") for line, _ in lines])):
         if len(text) <= LIMIT:
-            judge_text(text, items)
             return text
     raise Fault("too-large", 0)
 
@@ -62,10 +67,15 @@ def item_lines(listing: Listing, items: list[Item]) -> Iterator[tuple[str, str]]
             yield op_text(item.op), op_comment(item.op, next(cells))
         elif isinstance(item, ValueItem):
             assert isinstance(item.pa, Location)
-            yield f"{item.word} (PA {item.pa.tag} {item.pa.index}) {item.value}.", f"{printable(item.pa.name)} = {item.value}"
+            yield value_line(item.word, item.pa, item.value)
         else:
             assert isinstance(item, ExpectationItem)
             yield f"{item.word}.", ""
+
+
+def value_line(word: str, location: Location, value: object) -> tuple[str, str]:
+    """An `Init` or a `Final` with a comment that names its location."""
+    return f"{word} (PA {location.tag} {location.index}) {value}.", f"{printable(location.name)} = {value}"
 
 
 def instructions(listing: Listing) -> Iterator[Instruction]:
@@ -75,9 +85,10 @@ def instructions(listing: Listing) -> Iterator[Instruction]:
 
 
 def op_text(op: Op) -> str:
-    """A micro-op as a test writes it."""
+    """A micro-op as a test writes it, or as a pattern does where it has no value."""
     types = "".join(f" {name}" for name in sorted(op.types))
-    place = "" if op.va is None else f" (VA {op.va.tag} {op.va.index}) (PA {op.va.tag} {op.va.index}) (Data {op.value})"
+    value = OPEN if op.value is None else op.value
+    place = "" if op.va is None else f" (VA {op.va.tag} {op.va.index}) (PA {op.va.tag} {op.va.index}) (Data {value})"
     return f"Microop {op.g} {op.core} {op.thread} {op.n} ({op.access}{types}{place})."
 
 

@@ -1,0 +1,5 @@
+"""What is read of herd's files beyond `check86`: listings for `test86` and `compare`, and the logs of herd7 and litmus7.
+
+The second implementation reads a listing as `check86` does, since it judges the program (`second/listings.py`). Here
+more is read, as far as it changes no question. Nothing here gives a verdict: states come from sweeps of the program.
+"""
