@@ -95,7 +95,8 @@ def compare(model_path: str, listing_paths: Sequence[str], log_path: str, top: s
             file.write(model_text)
         done = ask(answer, comparisons, Asker(checker, copy, folder), checker)
     answer.tell_rest()
-    return said_of(done, len(results), answer)
+    lines, status = said_of(done, len(results), answer)
+    return [*lines[:-1], lines[-1] + checker.said], status
 
 
 def read_or_tell(answer: Answer, path: str, text: bytes) -> Model | None:
