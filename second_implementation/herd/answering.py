@@ -96,7 +96,7 @@ def compare(model_path: str, listing_paths: Sequence[str], log_path: str, top: s
         done = ask(answer, comparisons, Asker(checker, copy, folder), checker)
     answer.tell_rest()
     lines, status = said_of(done, len(results), answer)
-    return [*lines[:-1], *(line + checker.said for line in lines[-1:])], status
+    return [*lines[:-1], lines[-1] + checker.said], status
 
 
 def read_or_tell(answer: Answer, path: str, text: bytes) -> Model | None:
