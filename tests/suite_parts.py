@@ -6,6 +6,7 @@ interrupted suite, a model without an axiom; and, with programs that answer noth
 Prints a line for each case; the status is 1 where one fails.
 """
 import fcntl
+import json
 import os
 import pty
 import shutil
@@ -38,6 +39,11 @@ from suite.tables import table_of_models
 SUITE = os.path.join(TOP, "examples", "suite")
 MODEL = os.path.join(TOP, "examples", "models", "tutorial.uspec")
 TEST = os.path.join(TOP, "examples", "tests", "MP.test")
+# those that end a process without a fault of its own
+SIGNALS = (
+    signal.SIGTERM, signal.SIGHUP, signal.SIGINT, signal.SIGQUIT, signal.SIGUSR1, signal.SIGUSR2, signal.SIGALRM,
+    signal.SIGVTALRM, signal.SIGPROF, signal.SIGXCPU,
+)
 # how long a process may take to come to where it is looked at
 PATIENCE = 120.0
 
@@ -128,8 +134,10 @@ def states(cases: Cases) -> None:
         folder = Folder(path)
         folder.make_room(model)
         state = State(folder, "the program")
+        certificate = b"unobservable\ntest forbidden: ok\nend\n"
         for name, kept, is_kept in (
-            ("with its certificate", b"a certificate", True),
+            ("with its certificate", certificate, True),
+            ("with a certificate of another verdict", b"observable\n", False),
             ("without its certificate", None, False),
         ):
             if kept is not None:
@@ -139,9 +147,7 @@ def states(cases: Cases) -> None:
             state.pairs = {}
             state.note(model, test, found)
             cases.same(f"a verdict {name} is noted", bool(state.pairs), is_kept)
-        write_anew(folder.place(model, test), b"a certificate")
-        state.note(model, replace(test, text=b"other bytes"), found)
-        cases.same("a verdict is not noted where a file changed meanwhile", bool(state.pairs), False)
+        write_anew(folder.place(model, test), certificate)
         state.note(model, test, found)
         state.write()
 
@@ -156,8 +162,12 @@ def states(cases: Cases) -> None:
         cases.same("one of another model does not", stands(of_model=replace(model, digest="other bytes")), None)
         cases.same("one of another test does not", stands(of_test=replace(test, digest="other bytes")), None)
         cases.same("one of a test that another word checks does not", stands(of_test=listing), None)
-        write_anew(folder.place(model, test), b"another certificate")
+        write_anew(folder.place(model, test), certificate + b"more")
         cases.same("one with another certificate does not", stands(), None)
+        observable = json.dumps({"program": "the program", "pairs": state.pairs}).replace("unobservable", "observable")
+        write_anew(folder.place(model, test), certificate)
+        write_anew(state.place, observable.encode("ascii"))
+        cases.same("one that its certificate does not say does not", stands(), None)
         for text in (b"", b"{", b"[]", b'{"program": "the program", "pairs": {"tutorial/MP.test": {"verdict": 1}}}'):
             write_anew(state.place, text)
             cases.same(f"a state of {text!r} is none", stands(), None)
@@ -210,12 +220,13 @@ def ends(cases: Cases) -> None:
     with tempfile.TemporaryDirectory() as folder:
         # a child of the checker goes on where the checker alone is ended, and so does one that ignores signals
         checker = os.path.join(folder, "checker")
+        ignored = " ".join(number.name.removeprefix("SIG") for number in SIGNALS)
         with open(checker, "w", encoding="ascii") as file:
-            file.write('#!/bin/sh\n[ $# -gt 0 ] || exit 2\ntrap "" TERM HUP INT\necho observable\nsleep 300 &\nwait\n')
+            file.write(f'#!/bin/sh\n[ $# -gt 0 ] || exit 2\ntrap "" {ignored}\necho observable\nsleep 300 &\nwait\n')
         os.chmod(checker, 0o755)
         kept = os.path.join(folder, "kept")
         environment = {**os.environ, "PIPECHECK": checker, "SUITE_FOLDER": kept, "SUITE_SECONDS": "300"}
-        for number in (signal.SIGTERM, signal.SIGHUP, signal.SIGINT):
+        for number in SIGNALS:
             with subprocess.Popen([SUITE, MODEL, TEST], env=environment, stdout=subprocess.DEVNULL) as process:
                 is_there = wait_until(lambda: len(running(checker)) > 0 and len(parts_in(kept)) > 0)
                 groups = {os.getpgid(child) for child in running(checker)}
@@ -232,9 +243,24 @@ def ends(cases: Cases) -> None:
             cases.same("HUP does not end a suite that ignores it, as behind nohup", process.poll(), None)
             process.send_signal(signal.SIGTERM)
             process.wait(PATIENCE)
+        ends_early(cases, environment)
         ends_waiting(cases, kept, environment)
         limits(cases, folder)
         ends_build(cases, folder)
+
+
+def ends_early(cases: Cases, environment: dict[str, str]) -> None:
+    """Ctrl-C while Python still loads what the suite is made of ends it without a word."""
+    # another Python may stand before the one that is meant
+    command = [sys.executable, "-E", "-S", SUITE, MODEL, TEST]
+    for tenths in range(1, 5):
+        with subprocess.Popen(command, env=environment, stdout=subprocess.DEVNULL, stderr=subprocess.PIPE) as process:
+            assert process.stderr is not None
+            time.sleep(tenths / 20)
+            process.send_signal(signal.SIGINT)
+            said = process.stderr.read()
+            status = process.wait(PATIENCE)
+        cases.same(f"Ctrl-C after {tenths * 50} ms", (said, status), (b"", -signal.SIGINT))
 
 
 def ends_waiting(cases: Cases, kept: str, environment: dict[str, str]) -> None:
@@ -352,7 +378,7 @@ def shown_on_terminal(command: list[str], environment: dict[str, str], width: in
 def main() -> int:
     """All cases."""
     # a shell has what it starts beside itself ignore Ctrl-C, and who runs this may ignore the others
-    for number in (signal.SIGTERM, signal.SIGHUP):
+    for number in SIGNALS:
         signal.signal(number, signal.SIG_DFL)
     signal.signal(signal.SIGINT, signal.default_int_handler)
     cases = Cases()

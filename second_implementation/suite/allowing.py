@@ -1,12 +1,12 @@
 """What memory models allow: the rows of a table, and the machines of tests/machines."""
 import os
 import re
-import sys
 from typing import NamedTuple
 
 from second.memory_models import FORM, memory_model_of
 from second.quoting import quoted, shown
 
+from .calling import PYTHON
 from .files import File
 from .refusing import Refusal
 
@@ -80,9 +80,9 @@ class Machines:
         """Whether there are any."""
         return bool(self.names)
 
-    def command(self, name: str, test: File) -> list[str]:
+    def command(self, name: str, path: str) -> list[str]:
         """What says of a test what the machine of this name allows."""
-        return [sys.executable, "-B", os.path.join(self.folder, "verdicts.py"), name, test.path]
+        return [*PYTHON, os.path.join(self.folder, "verdicts.py"), name, path]
 
 
 class MemoryModels:

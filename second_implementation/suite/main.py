@@ -2,9 +2,10 @@
 import os
 import signal
 import sys
+import tempfile
 import traceback
 from types import FrameType
-from typing import Mapping, Sequence
+from typing import Callable, Mapping, Sequence
 
 from second.quoting import shown
 
@@ -12,6 +13,7 @@ from .allowing import Machines, Rows
 from .axioms import Axioms, run_axioms
 from .beside import Lint
 from .calling import Calls
+from .files import Copies
 from .keeping import Folder, State
 from .programs import checker_of, program_digest
 from .refusing import Interrupted, Refusal
@@ -20,7 +22,19 @@ from .tables import width_of_terminal
 from .telling import Unread, open_streams, put, tell
 from .words import Words, folder_of, number_of_jobs, number_of_seconds, read_words
 
-ENDING = (signal.SIGINT, signal.SIGTERM, signal.SIGHUP)
+# the signals that end a process without a fault of its own
+ENDING = (
+    signal.SIGINT,
+    signal.SIGTERM,
+    signal.SIGHUP,
+    signal.SIGQUIT,
+    signal.SIGUSR1,
+    signal.SIGUSR2,
+    signal.SIGALRM,
+    signal.SIGVTALRM,
+    signal.SIGPROF,
+    signal.SIGXCPU,
+)
 NO_TABLE = 2
 # deep formulas are read by calls within calls
 RECURSION = 20_000
@@ -50,8 +64,10 @@ def pairs(asked: Words, environ: Mapping[str, str], top: str, seconds: float, jo
     checker = checker_of(environ, top, seconds, Calls())
     state = State(folder, program_digest(checker.command))
     state.read()
-    run = Suite(asked, rows, Machines(os.path.join(top, "tests", "machines")), checker, state)
-    lines, count = run_suite(run, Lint(top, asked.tests, checker.calls), jobs, seconds, width_of_terminal(environ))
+    machines = Machines(os.path.join(top, "tests", "machines"))
+    with tempfile.TemporaryDirectory() as place:
+        run = Suite(asked, Copies(place, [*asked.models, *asked.tests]), rows, machines, checker, state)
+        lines, count = run_suite(run, Lint(top, asked.tests, checker.calls), jobs, seconds, width_of_terminal(environ))
     status = count.status
     try:
         folder.write_cells([(model, test, cell) for (model, test), cell in run.cells().items()])
@@ -70,16 +86,22 @@ def interrupt(number: int, _: FrameType | None) -> None:
     raise Interrupted(number)
 
 
+def handle_signals(handler: Callable[[int, FrameType | None], None] | signal.Handlers) -> None:
+    """Has each signal that ends a process do so. What is ignored, as HUP behind nohup, stays ignored."""
+    for number in ENDING:
+        if signal.getsignal(number) is not signal.SIG_IGN:
+            signal.signal(number, handler)
+
+
 def main(words: Sequence[str], top: str, text: str) -> int:
     """The status. Where a signal ended the suite it ends this process, too, once nothing is left behind."""
     sys.setrecursionlimit(RECURSION)
     open_streams()
-    for number in ENDING:
-        # what is ignored, as HUP behind nohup, stays ignored
-        if signal.getsignal(number) is not signal.SIG_IGN:
-            signal.signal(number, interrupt)
     try:
+        handle_signals(interrupt)
         status = answer(words, top, text)
+        # nothing is left that would have to be cleared
+        handle_signals(signal.SIG_DFL)
     except Interrupted as interrupted:
         signal.signal(interrupted.number, signal.SIG_DFL)
         os.kill(os.getpid(), interrupted.number)
@@ -101,6 +123,8 @@ def answer(words: Sequence[str], top: str, text: str) -> int:
     except OSError as error:
         place = f": {shown(str(error.filename))}" if error.filename else ""
         tell(f"suite: {error.strerror}{place}")
+    except MemoryError:
+        tell("suite: memory was refused")
     except Exception:  # pylint: disable=broad-exception-caught
         # Python's own status for this is 1, which says that there are bugs
         tell(traceback.format_exc(), end="")

@@ -14,8 +14,9 @@ OBSERVABLE, UNOBSERVABLE = "observable", "unobservable"
 STATUSES = {OBSERVABLE: 0, UNOBSERVABLE: 1}
 SWEPT = "swept"
 OK, BUG, STRICTER, TIME, UNNAMED, FAULT = "ok", "BUG", "stricter", "time", "unnamed", "fault"
-CERTIFICATE, UNREADABLE, UNWRITTEN = "certificate", "unreadable", "unwritten"
+CERTIFICATE, UNREADABLE, UNWRITTEN, MACHINE = "certificate", "unreadable", "unwritten", "machine"
 REFUSED = re.compile(rb"refused ([a-z]+) ([a-z0-9-]+) at [0-9]+:[0-9]+")
+STATED_WORDS = ("unstated", "permitted", "forbidden")
 STATED = re.compile(rb"test (?:(unstated)|(permitted|forbidden): (?:ok|BUG|stricter))")
 SUMMARY = re.compile(rb"sweep [0-9]+")
 # the lines that are looked at are short
@@ -52,16 +53,16 @@ class Checker:
         """Calls the program with these words."""
         return self.calls.status([*self.command, *words], self.kib, self.seconds, out)
 
-    def found(self, model: str, test: File, out: IO[bytes], part: str) -> Found:
-        """Checks a pair. The certificate goes to a file, which has this path."""
-        status = self.status([test.kind.check, model, test.path], out)
+    def found(self, model: str, test: File, path: str, out: IO[bytes], part: str) -> Found:
+        """Checks a pair: a model, and a test at this path. The certificate goes to a file, which has the last path."""
+        status = self.status([test.kind.check, model, path], out)
         lines = os.pread(out.fileno(), HEAD, 0).split(b"\n")
         first, second = lines[0], lines[1] if len(lines) > 1 else b""
         if test.kind.verify is None and status == 0 and SUMMARY.fullmatch(first):
             return rows_found(out)
         verdict = first.decode("latin-1")
         if test.kind.verify is not None and verdict in STATUSES and status == STATUSES[verdict]:
-            return self.judged(verdict, second, [test.kind.verify, model, test.path, part])
+            return self.judged(verdict, second, [test.kind.verify, model, path, part])
         return Found(fault=fault_of(status, first))
 
     def judged(self, verdict: str, second: bytes, words: list[str]) -> Found:

@@ -9,9 +9,9 @@ from .allowing import Machines, MemoryModels, Rows
 from .beside import Answer, Judges, Lint
 from .calling import Calls, side_by_side
 from .counting import Count, Progress
-from .files import File
+from .files import Copies, File
 from .keeping import State, new_file, take_place
-from .pairs import FAULT, OBSERVABLE, OK, SWEPT, TIME, UNNAMED, UNOBSERVABLE, UNWRITTEN
+from .pairs import FAULT, MACHINE, OBSERVABLE, OK, SWEPT, TIME, UNNAMED, UNOBSERVABLE, UNWRITTEN
 from .pairs import Checker, Found, cell_of, cell_of_rows, remove
 from .tables import table_of_models
 from .telling import tell
@@ -28,8 +28,11 @@ Pair = tuple[File, File]
 class Suite:
     """All models on all tests."""
 
-    def __init__(self, words: Words, rows: Rows, machines: Machines, checker: Checker, state: State) -> None:
+    def __init__(
+        self, words: Words, copies: Copies, rows: Rows, machines: Machines, checker: Checker, state: State
+    ) -> None:
         self.words = words
+        self.copies = copies
         self.rows = rows
         self.machines = machines
         self.known = MemoryModels(rows, machines)
@@ -93,7 +96,7 @@ class Suite:
         try:
             with new_file(place) as (out, part):
                 try:
-                    found = self.checker.found(model.path, test, out, part)
+                    found = self.checker.found(self.copies.path(model), test, self.copies.path(test), out, part)
                 except OSError:
                     found = Found(fault=FAULT)
                 if found.verdict:
@@ -106,7 +109,7 @@ class Suite:
 
     def ask_machines(self, jobs: int, seconds: float) -> None:
         """Asks the machines of patterns, each within the limit of a call, and of tests of one's own, all within it."""
-        judges = Judges(self.machines, self.calls)
+        judges = Judges(self.machines, self.copies, self.calls)
         for is_pattern in (True, False):
             asked = list(dict.fromkeys(self.asked(is_pattern)))
             deadline = time.monotonic() + seconds
@@ -145,9 +148,11 @@ class Suite:
             return found.fault
         if name is None:
             return UNNAMED
+        answer = self.answers.get((name, test.base), Answer())
+        if answer.fault:
+            return MACHINE
         if not found.is_swept:
             return cell_of(found, self.rows.allowed(name, test))
-        answer = self.answers.get((name, test.base), Answer())
         if answer.rows is None:
             return TIME if answer.is_late else SWEPT
         return cell_of_rows(found, answer.rows)
@@ -179,7 +184,10 @@ class Suite:
                 continue
             found, answer = self.found[model.name, test.base], self.answers.get((name, test.base), Answer())
             is_missing |= not self.machines.is_there
-            if answer.is_late:
+            if answer.fault:
+                verdict = "" if found.is_swept else f"{model.name} says {found.verdict}, and "
+                yield f"{shown(test.path)}: {verdict}the machine of {name} failed: {answer.fault}"
+            elif answer.is_late:
                 late.add(test.path)
             elif answer.rows is not None:
                 yield from lines_of_rows(model, test, name, found.rows, answer.rows)

@@ -5,8 +5,8 @@
 
 Of a test it writes `yes` or `no`: whether the outcome comes up. Of a pattern it writes what its open reads get, a line
 `row ..` for each way, as a sweep does, and `end`. The status is 3 where the machine does not run such tests, or where the
-machines read other micro-ops than the second implementation, which takes each test that has no fault: they are made for usual
-layouts.
+machines do not read them, or read other micro-ops than the second implementation, which takes each test that has no fault:
+they are made for usual layouts.
 """
 import os
 import sys
@@ -14,7 +14,7 @@ from importlib import import_module
 from types import ModuleType
 
 from listing import read_file
-from litmus import Reads, Test, Value
+from litmus import NotRun, Reads, Test, Value
 
 TOP = os.path.dirname(os.path.dirname(os.path.dirname(os.path.realpath(__file__))))
 sys.path.append(os.path.join(TOP, "second_implementation"))
@@ -68,10 +68,17 @@ def is_alike(test: Test, case: Case) -> bool:
 
 def main(name: str, path: str) -> int:
     """Writes what the machine says, and answers the exit status."""
-    machine, test = import_module(name), read_file(path)
+    machine = import_module(name)
+    try:
+        test = read_file(path)
+    except (LookupError, ValueError):
+        return NOT_RUN
     if not runs(machine, test) or not is_alike(test, case_of(path)):
         return NOT_RUN
-    rows = rows_allowed(machine, test)
+    try:
+        rows = rows_allowed(machine, test)
+    except NotRun:
+        return NOT_RUN
     if os.path.splitext(path)[1] == PATTERN:
         for line in sorted(map(line_of, rows)):
             print(line)
