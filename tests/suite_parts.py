@@ -19,6 +19,7 @@ import termios
 import time
 from dataclasses import replace
 from typing import Callable
+from unittest.mock import patch
 
 TOP = os.path.dirname(os.path.dirname(os.path.realpath(__file__)))
 sys.dont_write_bytecode = True
@@ -28,6 +29,7 @@ sys.path[0] = os.path.join(TOP, "second_implementation")
 from second.memory_models import memory_model_of
 from second.quoting import quoted
 from second.scopes import read_model
+from suite import kept
 from suite.axioms import without
 from suite.files import File, model_file, test_file
 from suite.keeping import Folder, State, write_anew
@@ -171,6 +173,28 @@ def states(cases: Cases) -> None:
         for text in (b"", b"{", b"[]", b'{"program": "the program", "pairs": {"tutorial/MP.test": {"verdict": 1}}}'):
             write_anew(state.place, text)
             cases.same(f"a state of {text!r} is none", stands(), None)
+
+
+def kept_verdicts(cases: Cases) -> None:
+    """What was not taken for longest goes, where there is more than the limit; and nothing else in the folder does."""
+    model, found = model_file(MODEL), Found("unobservable", "forbidden")
+    tests = [replace(test_file(TEST), digest=letter) for letter in "abc"]
+    text = b"unobservable\n" + b"x" * 1000
+    with tempfile.TemporaryDirectory() as path:
+        for name in ("mine", "0" * 64 + ".part", "0" * 64 + "." + "0" * 32 + ".part"):
+            with open(os.path.join(path, name), "wb") as file:
+                file.write(text)
+            os.utime(os.path.join(path, name), (0, 0))
+        verdicts = kept.Kept(path, "the program")
+        for age, test in enumerate(tests):
+            verdicts.keep(model, test, found, text)
+            os.utime(verdicts.place(model, test), (1000 - age, 1000 - age))
+        cases.same("a verdict is taken", verdicts.found(model, tests[2]), (found, text))
+        with patch.object(kept, "MOST_BYTES", 2500):
+            verdicts.shorten()
+        left = {os.path.basename(verdicts.place(model, test)) for test in (tests[0], tests[2])}
+        wanted = left | {"mine", "0" * 64 + ".part"}
+        cases.same("the one that was not taken for longest goes, with what is half written", {*os.listdir(path)}, wanted)
 
 
 def models_without_axioms(cases: Cases) -> None:
@@ -382,7 +406,9 @@ def main() -> int:
         signal.signal(number, signal.SIG_DFL)
     signal.signal(signal.SIGINT, signal.default_int_handler)
     cases = Cases()
-    for part in (names_of_memory_models, commands, tables, states, models_without_axioms, ends, terminals):
+    for part in (
+        names_of_memory_models, commands, tables, states, kept_verdicts, models_without_axioms, ends, terminals
+    ):
         part(cases)
     return 1 if cases.has_failed else 0
 

@@ -89,15 +89,26 @@ class Calls:
         status = self.finished(self.started(command, out, None, signal.SIGTERM), None)
         return 1 if status is None else status
 
+    def opened(self, command: Sequence[str], kib: int | None, said: IO[bytes]) -> Process:
+        """Starts a program that is asked by its standard input, and answers by its standard output. It has a limit of
+        address space, and one of time of its own."""
+        under_limits = limited(command, kib, None)
+        return self.started(under_limits, subprocess.PIPE, said, signal.SIGKILL, subprocess.PIPE)
+
     def started(
-        self, command: Sequence[str], out: IO[bytes], said: IO[bytes] | int | None, ending: signal.Signals
+        self,
+        command: Sequence[str],
+        out: IO[bytes] | int,
+        said: IO[bytes] | int | None,
+        ending: signal.Signals,
+        asked: int = subprocess.DEVNULL,
     ) -> Process:
         """Starts a call and notes that it runs, at one moment."""
         with self.lock:
             if self.is_stopped:
                 raise Stopped
             process = subprocess.Popen(  # pylint: disable=consider-using-with
-                command, stdin=subprocess.DEVNULL, stdout=out, stderr=said, start_new_session=True
+                command, stdin=asked, stdout=out, stderr=said, start_new_session=True
             )
             self.running[process] = ending
             return process
@@ -145,7 +156,7 @@ class Calls:
                 end_group(process, signal.SIGKILL)
 
 
-def limited(command: Sequence[str], kib: int | None, seconds: float) -> list[str]:
+def limited(command: Sequence[str], kib: int | None, seconds: float | None) -> list[str]:
     """The command under a limit of address space, and of the processor time that it may take on all processors."""
     # the shell would take a dash for an option
     first = os.path.join(".", command[0]) if command[0].startswith("-") else command[0]
@@ -154,10 +165,12 @@ def limited(command: Sequence[str], kib: int | None, seconds: float) -> list[str
     return ["/bin/sh", "-c", LIMITED, str(processor_limit(seconds)), str(space), first, *command[1:]]
 
 
-def processor_limit(seconds: float) -> int:
+def processor_limit(seconds: float | None) -> int | str:
     """The processor time in seconds of a call that may last so long. A limit that stands is never raised."""
-    most = math.ceil(seconds) * len(os.sched_getaffinity(0)) + 1
     standing = standing_limit(resource.RLIMIT_CPU)
+    if seconds is None:
+        return "unlimited" if standing is None else standing
+    most = math.ceil(seconds) * len(os.sched_getaffinity(0)) + 1
     return most if standing is None else min(most, standing)
 
 

@@ -148,8 +148,9 @@ def judge_present(path: str) -> None:
 
 def judge_distinct(kind: str, files: list[File]) -> None:
     """Refuses two files of one name."""
-    seen: set[str] = set()
+    seen: dict[str, File] = {}
     for file in files:
-        if file.name in seen:
-            raise Refusal(f"two {kind}s have one name: {file.name}")
-        seen.add(file.name)
+        other = seen.setdefault(file.name, file)
+        if other is not file:
+            paths = f"{shown(other.path)} and {shown(file.path)}"
+            raise Refusal(f"two {kind}s have one name: {file.name}: {paths}; a link gives one of them another name")

@@ -8,7 +8,7 @@ import json
 import os
 import stat
 from contextlib import contextmanager, suppress
-from typing import IO, Iterator
+from typing import IO, Iterator, Mapping
 
 from second.quoting import shown
 
@@ -96,9 +96,9 @@ class Folder:
         """Where the certificate of a pair is kept, or the text of a sweep."""
         return os.path.join(self.path, model.name, test.base + (ROWS if test.is_pattern else CERTIFICATE))
 
-    def write_cells(self, rows: list[tuple[str, str, str]]) -> None:
+    def write_cells(self, cells: Mapping[tuple[str, str], str]) -> None:
         """Keeps the rows of a table: model, test and cell."""
-        text = "".join("\t".join(row) + "\n" for row in rows)
+        text = "".join("\t".join((*pair, cell)) + "\n" for pair, cell in cells.items())
         write_anew(self.cells, os.fsencode(text))
 
 
