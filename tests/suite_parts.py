@@ -6,6 +6,7 @@ interrupted suite, a model without an axiom; and, with programs that answer noth
 Prints a line for each case; the status is 1 where one fails.
 """
 import fcntl
+import json
 import os
 import pty
 import shutil
@@ -18,6 +19,7 @@ import termios
 import time
 from dataclasses import replace
 from typing import Callable
+from unittest.mock import patch
 
 TOP = os.path.dirname(os.path.dirname(os.path.realpath(__file__)))
 sys.dont_write_bytecode = True
@@ -27,6 +29,7 @@ sys.path[0] = os.path.join(TOP, "second_implementation")
 from second.memory_models import memory_model_of
 from second.quoting import quoted
 from second.scopes import read_model
+from suite import kept
 from suite.axioms import without
 from suite.files import File, model_file, test_file
 from suite.keeping import Folder, State, write_anew
@@ -38,6 +41,11 @@ from suite.tables import table_of_models
 SUITE = os.path.join(TOP, "examples", "suite")
 MODEL = os.path.join(TOP, "examples", "models", "tutorial.uspec")
 TEST = os.path.join(TOP, "examples", "tests", "MP.test")
+# those that end a process without a fault of its own
+SIGNALS = (
+    signal.SIGTERM, signal.SIGHUP, signal.SIGINT, signal.SIGQUIT, signal.SIGUSR1, signal.SIGUSR2, signal.SIGALRM,
+    signal.SIGVTALRM, signal.SIGPROF, signal.SIGXCPU,
+)
 # how long a process may take to come to where it is looked at
 PATIENCE = 120.0
 
@@ -128,8 +136,10 @@ def states(cases: Cases) -> None:
         folder = Folder(path)
         folder.make_room(model)
         state = State(folder, "the program")
+        certificate = b"unobservable\ntest forbidden: ok\nend\n"
         for name, kept, is_kept in (
-            ("with its certificate", b"a certificate", True),
+            ("with its certificate", certificate, True),
+            ("with a certificate of another verdict", b"observable\n", False),
             ("without its certificate", None, False),
         ):
             if kept is not None:
@@ -139,9 +149,7 @@ def states(cases: Cases) -> None:
             state.pairs = {}
             state.note(model, test, found)
             cases.same(f"a verdict {name} is noted", bool(state.pairs), is_kept)
-        write_anew(folder.place(model, test), b"a certificate")
-        state.note(model, replace(test, text=b"other bytes"), found)
-        cases.same("a verdict is not noted where a file changed meanwhile", bool(state.pairs), False)
+        write_anew(folder.place(model, test), certificate)
         state.note(model, test, found)
         state.write()
 
@@ -156,11 +164,37 @@ def states(cases: Cases) -> None:
         cases.same("one of another model does not", stands(of_model=replace(model, digest="other bytes")), None)
         cases.same("one of another test does not", stands(of_test=replace(test, digest="other bytes")), None)
         cases.same("one of a test that another word checks does not", stands(of_test=listing), None)
-        write_anew(folder.place(model, test), b"another certificate")
+        write_anew(folder.place(model, test), certificate + b"more")
         cases.same("one with another certificate does not", stands(), None)
+        observable = json.dumps({"program": "the program", "pairs": state.pairs}).replace("unobservable", "observable")
+        write_anew(folder.place(model, test), certificate)
+        write_anew(state.place, observable.encode("ascii"))
+        cases.same("one that its certificate does not say does not", stands(), None)
         for text in (b"", b"{", b"[]", b'{"program": "the program", "pairs": {"tutorial/MP.test": {"verdict": 1}}}'):
             write_anew(state.place, text)
             cases.same(f"a state of {text!r} is none", stands(), None)
+
+
+def kept_verdicts(cases: Cases) -> None:
+    """What was not taken for longest goes, where there is more than the limit; and nothing else in the folder does."""
+    model, found = model_file(MODEL), Found("unobservable", "forbidden")
+    tests = [replace(test_file(TEST), digest=letter) for letter in "abc"]
+    text = b"unobservable\n" + b"x" * 1000
+    with tempfile.TemporaryDirectory() as path:
+        for name in ("mine", "0" * 64 + ".part", "0" * 64 + "." + "0" * 32 + ".part"):
+            with open(os.path.join(path, name), "wb") as file:
+                file.write(text)
+            os.utime(os.path.join(path, name), (0, 0))
+        verdicts = kept.Kept(path, "the program")
+        for age, test in enumerate(tests):
+            verdicts.keep(model, test, found, text)
+            os.utime(verdicts.place(model, test), (1000 - age, 1000 - age))
+        cases.same("a verdict is taken", verdicts.found(model, tests[2]), (found, text))
+        with patch.object(kept, "MOST_BYTES", 2500):
+            verdicts.shorten()
+        left = {os.path.basename(verdicts.place(model, test)) for test in (tests[0], tests[2])}
+        wanted = left | {"mine", "0" * 64 + ".part"}
+        cases.same("the one that was not taken for longest goes, with what is half written", {*os.listdir(path)}, wanted)
 
 
 def models_without_axioms(cases: Cases) -> None:
@@ -210,12 +244,13 @@ def ends(cases: Cases) -> None:
     with tempfile.TemporaryDirectory() as folder:
         # a child of the checker goes on where the checker alone is ended, and so does one that ignores signals
         checker = os.path.join(folder, "checker")
+        ignored = " ".join(number.name.removeprefix("SIG") for number in SIGNALS)
         with open(checker, "w", encoding="ascii") as file:
-            file.write('#!/bin/sh\n[ $# -gt 0 ] || exit 2\ntrap "" TERM HUP INT\necho observable\nsleep 300 &\nwait\n')
+            file.write(f'#!/bin/sh\n[ $# -gt 0 ] || exit 2\ntrap "" {ignored}\necho observable\nsleep 300 &\nwait\n')
         os.chmod(checker, 0o755)
         kept = os.path.join(folder, "kept")
         environment = {**os.environ, "PIPECHECK": checker, "SUITE_FOLDER": kept, "SUITE_SECONDS": "300"}
-        for number in (signal.SIGTERM, signal.SIGHUP, signal.SIGINT):
+        for number in SIGNALS:
             with subprocess.Popen([SUITE, MODEL, TEST], env=environment, stdout=subprocess.DEVNULL) as process:
                 is_there = wait_until(lambda: len(running(checker)) > 0 and len(parts_in(kept)) > 0)
                 groups = {os.getpgid(child) for child in running(checker)}
@@ -232,9 +267,24 @@ def ends(cases: Cases) -> None:
             cases.same("HUP does not end a suite that ignores it, as behind nohup", process.poll(), None)
             process.send_signal(signal.SIGTERM)
             process.wait(PATIENCE)
+        ends_early(cases, environment)
         ends_waiting(cases, kept, environment)
         limits(cases, folder)
         ends_build(cases, folder)
+
+
+def ends_early(cases: Cases, environment: dict[str, str]) -> None:
+    """Ctrl-C while Python still loads what the suite is made of ends it without a word."""
+    # another Python may stand before the one that is meant
+    command = [sys.executable, "-E", "-S", SUITE, MODEL, TEST]
+    for tenths in range(1, 5):
+        with subprocess.Popen(command, env=environment, stdout=subprocess.DEVNULL, stderr=subprocess.PIPE) as process:
+            assert process.stderr is not None
+            time.sleep(tenths / 20)
+            process.send_signal(signal.SIGINT)
+            said = process.stderr.read()
+            status = process.wait(PATIENCE)
+        cases.same(f"Ctrl-C after {tenths * 50} ms", (said, status), (b"", -signal.SIGINT))
 
 
 def ends_waiting(cases: Cases, kept: str, environment: dict[str, str]) -> None:
@@ -352,11 +402,13 @@ def shown_on_terminal(command: list[str], environment: dict[str, str], width: in
 def main() -> int:
     """All cases."""
     # a shell has what it starts beside itself ignore Ctrl-C, and who runs this may ignore the others
-    for number in (signal.SIGTERM, signal.SIGHUP):
+    for number in SIGNALS:
         signal.signal(number, signal.SIG_DFL)
     signal.signal(signal.SIGINT, signal.default_int_handler)
     cases = Cases()
-    for part in (names_of_memory_models, commands, tables, states, models_without_axioms, ends, terminals):
+    for part in (
+        names_of_memory_models, commands, tables, states, kept_verdicts, models_without_axioms, ends, terminals
+    ):
         part(cases)
     return 1 if cases.has_failed else 0
 

@@ -1,12 +1,13 @@
 """What memory models allow: the rows of a table, and the machines of tests/machines."""
+import math
 import os
 import re
-import sys
 from typing import NamedTuple
 
 from second.memory_models import FORM, memory_model_of
 from second.quoting import quoted, shown
 
+from .calling import PYTHON
 from .files import File
 from .refusing import Refusal
 
@@ -52,6 +53,10 @@ class Rows:
         """The memory models that have a row."""
         return {name for name, _ in self.rows}
 
+    def has(self, test: File) -> bool:
+        """Whether a row of any memory model is of this test."""
+        return any(self.allowed(name, test) is not None for name in self.memory_models)
+
     def allowed(self, memory_model: str, test: File) -> bool | None:
         """What the row of a test says; None where the test has none."""
         row = self.rows.get((memory_model, test.name))
@@ -80,9 +85,9 @@ class Machines:
         """Whether there are any."""
         return bool(self.names)
 
-    def command(self, name: str, test: File) -> list[str]:
-        """What says of a test what the machine of this name allows."""
-        return [sys.executable, "-B", os.path.join(self.folder, "verdicts.py"), name, test.path]
+    def command(self, name: str, seconds: float) -> list[str]:
+        """What says of test after test what the machine of this name allows, each within these seconds."""
+        return [*PYTHON, os.path.join(self.folder, "verdicts.py"), name, "--within", str(math.ceil(seconds) + 1)]
 
 
 class MemoryModels:

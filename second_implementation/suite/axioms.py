@@ -13,7 +13,7 @@ from second.tokens import Fault, tokens
 
 from .calling import side_by_side
 from .counting import Progress
-from .files import File
+from .files import Copies, File
 from .keeping import new_file
 from .pairs import FAULT, TIME, Checker, Found
 from .refusing import Refusal
@@ -76,9 +76,10 @@ class Axioms:
                 with open(os.path.join(folder, f"{number}.uspec"), "wb") as file:
                     # the first is the whole
                     file.write(without(self.text, self.axioms[number - 1]) if number else self.text)
+            copies = Copies(folder, self.tests)
             pairs = [(number, test) for number in range(len(self.axioms) + 1) for test in self.tests]
             progress = Progress(len(pairs))
-            tasks = [partial(self.found, folder, number, test) for number, test in pairs]
+            tasks = [partial(self.found, copies, number, test) for number, test in pairs]
             try:
                 answers = side_by_side(self.checker.calls, jobs, tasks, lambda _, __: progress.step())
             finally:
@@ -91,12 +92,12 @@ class Axioms:
             for number, axiom in enumerate(self.axioms, 1)
         ]
 
-    def found(self, folder: str, number: int, test: File) -> Found:
+    def found(self, copies: Copies, number: int, test: File) -> Found:
         """The verdict on a test without an axiom, or of the whole model."""
-        model = os.path.join(folder, f"{number}.uspec")
+        model = os.path.join(copies.folder, f"{number}.uspec")
         try:
             with new_file(f"{model}.{test.base}") as (out, part):
-                return self.checker.found(model, test, out, part)
+                return self.checker.found(model, test, copies.path(test), out, part)
         except OSError:
             return Found(fault=FAULT)
 

@@ -9,6 +9,7 @@ import queue
 import resource
 import signal
 import subprocess
+import sys
 import threading
 from contextlib import suppress
 from typing import IO, Callable, Sequence, TypeVar
@@ -21,6 +22,8 @@ from .refusing import Refusal
 # in place of a signal that ends the program. The limit of processor time is for a call whose suite was ended by force.
 LIMITED = 'trap "" XFSZ; ulimit -S -t "$0" && ulimit -S -v "$1" || exit 125; shift; exec "$@"'
 MOST_DIGITS = 11
+# Python as the suite starts it: no variable of the environment, and nothing that is installed beside it, changes it
+PYTHON = (sys.executable, "-E", "-S", "-B")
 # how long what cleans up after itself may take to end
 GRACE = 10.0
 
@@ -73,24 +76,39 @@ class Calls:
         self.late: set[Process] = set()
         self.is_stopped = False
 
-    def status(self, command: Sequence[str], kib: int | None, seconds: float, out: IO[bytes]) -> int | None:
-        """Calls a program within these limits and has it write to a file; nothing is seen of its standard error. The
-        status, as a shell has it; None where it is not done in time."""
+    def status(
+        self, command: Sequence[str], kib: int | None, seconds: float, out: IO[bytes], said: IO[bytes] | None = None
+    ) -> int | None:
+        """Calls a program within these limits and has it write to a file; its standard error goes to another one, or is
+        not seen. The status, as a shell has it; None where it is not done in time."""
         under_limits = limited(command, kib, seconds)
-        return self.finished(self.started(under_limits, out, subprocess.DEVNULL, signal.SIGKILL), seconds)
+        return self.finished(self.started(under_limits, out, said or subprocess.DEVNULL, signal.SIGKILL), seconds)
 
     def status_of_build(self, command: Sequence[str], out: IO[bytes]) -> int:
         """Calls what builds the program, without limits. It may clean up when it is ended."""
         status = self.finished(self.started(command, out, None, signal.SIGTERM), None)
         return 1 if status is None else status
 
-    def started(self, command: Sequence[str], out: IO[bytes], said: int | None, ending: signal.Signals) -> Process:
+    def opened(self, command: Sequence[str], kib: int | None, said: IO[bytes]) -> Process:
+        """Starts a program that is asked by its standard input, and answers by its standard output. It has a limit of
+        address space, and one of time of its own."""
+        under_limits = limited(command, kib, None)
+        return self.started(under_limits, subprocess.PIPE, said, signal.SIGKILL, subprocess.PIPE)
+
+    def started(
+        self,
+        command: Sequence[str],
+        out: IO[bytes] | int,
+        said: IO[bytes] | int | None,
+        ending: signal.Signals,
+        asked: int = subprocess.DEVNULL,
+    ) -> Process:
         """Starts a call and notes that it runs, at one moment."""
         with self.lock:
             if self.is_stopped:
                 raise Stopped
             process = subprocess.Popen(  # pylint: disable=consider-using-with
-                command, stdin=subprocess.DEVNULL, stdout=out, stderr=said, start_new_session=True
+                command, stdin=asked, stdout=out, stderr=said, start_new_session=True
             )
             self.running[process] = ending
             return process
@@ -100,7 +118,7 @@ class Calls:
         timer = None if seconds is None else threading.Timer(seconds, self.end_late, [process])
         if timer is not None:
             timer.daemon = True
-            timer.start()
+            start([timer])
         # it is not reaped yet, so that the number of its group stays its own
         os.waitid(os.P_PID, process.pid, os.WEXITED | os.WNOWAIT)
         if timer is not None:
@@ -138,7 +156,7 @@ class Calls:
                 end_group(process, signal.SIGKILL)
 
 
-def limited(command: Sequence[str], kib: int | None, seconds: float) -> list[str]:
+def limited(command: Sequence[str], kib: int | None, seconds: float | None) -> list[str]:
     """The command under a limit of address space, and of the processor time that it may take on all processors."""
     # the shell would take a dash for an option
     first = os.path.join(".", command[0]) if command[0].startswith("-") else command[0]
@@ -147,10 +165,12 @@ def limited(command: Sequence[str], kib: int | None, seconds: float) -> list[str
     return ["/bin/sh", "-c", LIMITED, str(processor_limit(seconds)), str(space), first, *command[1:]]
 
 
-def processor_limit(seconds: float) -> int:
+def processor_limit(seconds: float | None) -> int | str:
     """The processor time in seconds of a call that may last so long. A limit that stands is never raised."""
-    most = math.ceil(seconds) * len(os.sched_getaffinity(0)) + 1
     standing = standing_limit(resource.RLIMIT_CPU)
+    if seconds is None:
+        return "unlimited" if standing is None else standing
+    most = math.ceil(seconds) * len(os.sched_getaffinity(0)) + 1
     return most if standing is None else min(most, standing)
 
 
@@ -186,8 +206,7 @@ def side_by_side(
 
     threads = [threading.Thread(target=work) for _ in range(min(jobs, len(tasks)))]
     try:
-        for thread in threads:
-            thread.start()
+        start(threads)
         for _ in tasks:
             place, error = ended.get()
             if error is not None:
@@ -201,6 +220,17 @@ def side_by_side(
     finally:
         join(threads, None)
     return [answers[place] for place in range(len(tasks))]
+
+
+def start(threads: Sequence[threading.Thread]) -> None:
+    """Starts threads, as many as the system gives."""
+    for place, thread in enumerate(threads):
+        try:
+            thread.start()
+        except RuntimeError as error:
+            if place == 0:
+                raise Refusal("the system gives no thread: memory, or the number of processes, is limited") from error
+            return
 
 
 def join(threads: Sequence[threading.Thread], seconds: float | None) -> None:

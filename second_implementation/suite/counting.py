@@ -2,7 +2,7 @@
 import sys
 from typing import Sequence
 
-from .pairs import BUG, OBSERVABLE, OK, STRICTER, SWEPT, TIME, UNOBSERVABLE
+from .pairs import BUG, NOT_TAKEN, OBSERVABLE, OK, STRICTER, SWEPT, TIME, UNOBSERVABLE
 from .telling import tell
 
 UNSTATED = (OBSERVABLE, UNOBSERVABLE, SWEPT)
@@ -22,22 +22,24 @@ class Count:
     @property
     def faults(self) -> int:
         """How many cells are faults."""
-        return len(self.cells) - self.of(OK, BUG, STRICTER, TIME, *UNSTATED)
+        return len(self.cells) - self.of(OK, BUG, STRICTER, TIME, NOT_TAKEN, *UNSTATED)
 
     @property
     def line(self) -> str:
         """The line."""
-        unstated = self.of(*UNSTATED)
         counted = f"{self.of(OK)} ok, {self.of(BUG)} BUG, {self.of(STRICTER)} stricter, "
-        counted += f"{unstated} unstated, " if unstated else ""
+        for word, number in (("unstated", self.of(*UNSTATED)), (NOT_TAKEN, self.of(NOT_TAKEN))):
+            counted += f"{number} {word}, " if number else ""
         return f"{len(self.cells)} pairs: {counted}{self.of(TIME)} time, {self.faults} faults, in {int(self.seconds)} s"
 
     @property
     def status(self) -> int:
-        """2 where some are time or a fault, 1 where some are BUG or stricter."""
+        """2 where some are time or a fault, 1 where some are BUG, 3 where some are stricter and none is BUG."""
         if self.of(TIME) or self.faults:
             return 2
-        return 1 if self.of(BUG, STRICTER) else 0
+        if self.of(BUG):
+            return 1
+        return 3 if self.of(STRICTER) else 0
 
 
 class Progress:

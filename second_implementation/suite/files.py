@@ -3,6 +3,7 @@ import hashlib
 import os
 import stat
 from dataclasses import dataclass
+from typing import Sequence
 
 from second.quoting import CONTROL, quoted, shown
 
@@ -58,6 +59,30 @@ class File:
     def is_pattern(self) -> bool:
         """Whether it is a test whose reads may be open."""
         return ending_of(self.path) == PATTERN_ENDING
+
+
+class Copies:
+    """What is called reads copies of the bytes that were read, so that it judges these where a file is replaced."""
+
+    def __init__(self, folder: str, files: Sequence[File]) -> None:
+        self.folder = folder
+        for file in files:
+            # of a file that is past reading there is no copy: whoever reads it says so
+            if file.text is not None:
+                self.write(self.path(file), file)
+
+    def path(self, file: File) -> str:
+        """Where the copy of a file is. What has one name in the table may be a model and a test."""
+        return os.path.join(self.folder, "tests" if is_test(file.path) else "models", file.base)
+
+    def write(self, path: str, file: File) -> None:
+        """Writes a copy."""
+        try:
+            os.makedirs(os.path.dirname(path), exist_ok=True)
+            with open(path, "xb") as copy:
+                copy.write(file.text or b"")
+        except OSError as error:
+            raise Refusal(f"{shown(file.path)} cannot be copied into {shown(self.folder)}: {error.strerror}") from error
 
 
 def ending_of(path: str) -> str:
@@ -123,8 +148,9 @@ def judge_present(path: str) -> None:
 
 def judge_distinct(kind: str, files: list[File]) -> None:
     """Refuses two files of one name."""
-    seen: set[str] = set()
+    seen: dict[str, File] = {}
     for file in files:
-        if file.name in seen:
-            raise Refusal(f"two {kind}s have one name: {file.name}")
-        seen.add(file.name)
+        other = seen.setdefault(file.name, file)
+        if other is not file:
+            paths = f"{shown(other.path)} and {shown(file.path)}"
+            raise Refusal(f"two {kind}s have one name: {file.name}: {paths}; a link gives one of them another name")

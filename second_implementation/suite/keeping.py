@@ -6,13 +6,14 @@ stood before stands until the new one is whole.
 import fcntl
 import json
 import os
+import stat
 from contextlib import contextmanager, suppress
-from typing import IO, Iterator
+from typing import IO, Iterator, Mapping
 
 from second.quoting import shown
 
-from .files import CELLS, PART, File, contents, digest_of
-from .pairs import STATUSES, Found
+from .files import CELLS, PART, File, digest_of
+from .pairs import STATED_WORDS, STATUSES, Found
 from .refusing import Refusal
 from .telling import tell
 
@@ -95,9 +96,9 @@ class Folder:
         """Where the certificate of a pair is kept, or the text of a sweep."""
         return os.path.join(self.path, model.name, test.base + (ROWS if test.is_pattern else CERTIFICATE))
 
-    def write_cells(self, rows: list[tuple[str, str, str]]) -> None:
+    def write_cells(self, cells: Mapping[tuple[str, str], str]) -> None:
         """Keeps the rows of a table: model, test and cell."""
-        text = "".join("\t".join(row) + "\n" for row in rows)
+        text = "".join("\t".join((*pair, cell)) + "\n" for pair, cell in cells.items())
         write_anew(self.cells, os.fsencode(text))
 
 
@@ -118,8 +119,11 @@ class State:
             found = json.loads(contents_of_any_length(self.place))
             pairs = found["pairs"] if found["program"] == self.program != "" else {}
             self.pairs = {name: pair for name, pair in pairs.items() if is_texts(pair)}
-        except (OSError, ValueError, KeyError, TypeError, AttributeError):
+        except FileNotFoundError:
             self.pairs = {}
+        except (OSError, ValueError, KeyError, TypeError, AttributeError, RecursionError):
+            self.pairs = {}
+            tell(f"suite: {shown(self.place)} is spoilt: it is made anew")
 
     def found(self, model: File, test: File) -> Found | None:
         """The verdict of a pair, where it is known for these bytes and the certificate of then is there."""
@@ -127,14 +131,14 @@ class State:
         if pair is None or "" in (model.digest, test.digest):
             return None
         certificate = contents_of_place(self.folder.place(model, test))
-        wanted = {**self.origin(model, test, certificate), "verdict": pair.get("verdict"), "stated": pair.get("stated")}
-        return Found(pair["verdict"], pair["stated"]) if pair == wanted and pair["verdict"] in STATUSES else None
+        found = Found(verdict_of(certificate), pair.get("stated", ""))
+        is_same = pair == {**self.origin(model, test, certificate), "verdict": found.verdict, "stated": found.stated}
+        return found if is_same and found.stated in STATED_WORDS else None
 
     def note(self, model: File, test: File, found: Found) -> None:
-        """Notes a verdict whose certificate is kept, unless the files changed meanwhile."""
+        """Notes a verdict whose certificate is kept."""
         certificate = contents_of_place(self.folder.place(model, test))
-        is_known = self.program != "" and found.verdict in STATUSES and certificate is not None
-        if is_known and is_unchanged(model) and is_unchanged(test):
+        if self.program != "" and verdict_of(certificate) == found.verdict != "":
             origin = self.origin(model, test, certificate)
             self.pairs[self.key(model, test)] = {**origin, "verdict": found.verdict, "stated": found.stated}
 
@@ -180,9 +184,10 @@ def is_texts(pair: object) -> bool:
     return isinstance(pair, dict) and all(isinstance(text, str) for text in (*pair.keys(), *pair.values()))
 
 
-def is_unchanged(file: File) -> bool:
-    """Whether a file has the bytes that it had."""
-    return contents(file.path) == file.text is not None
+def verdict_of(certificate: bytes | None) -> str:
+    """The verdict that the first line of a certificate says; empty where it says none."""
+    first = (certificate or b"").split(b"\n", 1)[0].decode("ascii", "replace")
+    return first if first in STATUSES else ""
 
 
 def contents_of_place(place: str) -> bytes | None:
@@ -194,6 +199,9 @@ def contents_of_place(place: str) -> bytes | None:
 
 
 def contents_of_any_length(place: str) -> bytes:
-    """The bytes of a file of the suite's own; no link is followed."""
-    with os.fdopen(os.open(place, os.O_RDONLY | os.O_NOFOLLOW | os.O_CLOEXEC), "rb") as file:
+    """The bytes of a file of the suite's own; no link is followed, and no pipe is waited for."""
+    handle = os.open(place, os.O_RDONLY | os.O_NOFOLLOW | os.O_NONBLOCK | os.O_CLOEXEC)
+    with os.fdopen(handle, "rb") as file:
+        if not stat.S_ISREG(os.fstat(handle).st_mode):
+            raise OSError(f"{place} is no file")
         return file.read()

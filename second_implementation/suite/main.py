@@ -2,26 +2,50 @@
 import os
 import signal
 import sys
+import tempfile
 import traceback
+from functools import partial
 from types import FrameType
-from typing import Mapping, Sequence
+from typing import Callable, Iterator, Mapping, Sequence
 
 from second.quoting import shown
 
 from .allowing import Machines, Rows
 from .axioms import Axioms, run_axioms
+from .baselines import Baseline, Cells
 from .beside import Lint
 from .calling import Calls
+from .counting import Count
+from .files import Copies
+from .junit import Case, junit
 from .keeping import Folder, State
+from .kept import Kept
+from .leaving_out import LeftOut
 from .programs import checker_of, program_digest
 from .refusing import Interrupted, Refusal
-from .running import Suite, run_suite
+from .reports import judge_place, write_report
+from .running import Result, Suite, run_suite
+from .sarif import rules_in, sarif
 from .tables import width_of_terminal
 from .telling import Unread, open_streams, put, tell
-from .words import Words, folder_of, number_of_jobs, number_of_seconds, read_words
+from .words import BASELINE, JUNIT, SARIF, Words, folder_of, number_of_jobs, number_of_seconds, read_words
 
-ENDING = (signal.SIGINT, signal.SIGTERM, signal.SIGHUP)
+# the signals that end a process without a fault of its own
+ENDING = (
+    signal.SIGINT,
+    signal.SIGTERM,
+    signal.SIGHUP,
+    signal.SIGQUIT,
+    signal.SIGUSR1,
+    signal.SIGUSR2,
+    signal.SIGALRM,
+    signal.SIGVTALRM,
+    signal.SIGPROF,
+    signal.SIGXCPU,
+)
 NO_TABLE = 2
+# the path of a file, and what writes it
+Writer = tuple[str, Callable[[], None]]
 # deep formulas are read by calls within calls
 RECURSION = 20_000
 
@@ -42,25 +66,87 @@ def pairs(asked: Words, environ: Mapping[str, str], top: str, seconds: float, jo
     """Runs all pairs."""
     table = environ.get("SUITE_TABLE", "")
     rows = Rows(table or os.path.join(top, "examples", "memory-models.tsv"), by_name=bool(table))
+    reports = Reports(asked, top)
     # one suite at a time writes into a folder
     folder = Folder(folder_of(environ, top))
     folder.wait_in_turn()
     for model in asked.models:
         folder.make_room(model)
     checker = checker_of(environ, top, seconds, Calls())
-    state = State(folder, program_digest(checker.command))
+    program = program_digest(checker.command)
+    state = State(folder, program)
     state.read()
-    run = Suite(asked, rows, Machines(os.path.join(top, "tests", "machines")), checker, state)
-    lines, count = run_suite(run, Lint(top, asked.tests, checker.calls), jobs, seconds, width_of_terminal(environ))
-    status = count.status
-    try:
-        folder.write_cells([(model, test, cell) for (model, test), cell in run.cells().items()])
-    except OSError as error:
-        tell(f"suite: {shown(folder.cells)} cannot be written: {error.strerror}")
-        status = NO_TABLE
+    kept = kept_in(environ, program)
+    machines = Machines(os.path.join(top, "tests", "machines"))
+    beside = Lint(top, asked.tests, checker.calls), LeftOut(top, checker.calls)
+    with tempfile.TemporaryDirectory() as place:
+        run = Suite(asked, Copies(place, [*asked.models, *asked.tests]), rows, machines, checker, state, kept)
+        result = run_suite(run, *beside, jobs, seconds, width_of_terminal(environ))
+    status = Count([*reports.cells_that_count(result).values()], 0).status
+    writers: list[Writer] = [*reports.writers(run, result), (folder.cells, partial(folder.write_cells, result.cells))]
+    for path, write in writers:
+        try:
+            write()
+        except OSError as error:
+            tell(f"suite: {shown(path)} cannot be written: {error.strerror}")
+            status = NO_TABLE
     state.clear()
-    put([*lines, f"certificates: {shown(folder.path)}", count.line + checker.said])
+    if kept is not None:
+        kept.shorten()
+    count = Count([*result.cells.values()], result.seconds)
+    last = [f"certificates: {shown(folder.path)}", count.line + checker.said]
+    put([*result.table, *result.below, *reports.new(result), *last])
     return status
+
+
+def kept_in(environ: Mapping[str, str], program: str) -> Kept | None:
+    """The verdicts that are kept over suites, where a folder for them is named."""
+    path = environ.get("SUITE_KEPT")
+    if not path:
+        return None
+    if not program:
+        tell(f"suite: nothing is kept in {shown(path)}: PIPECHECK is not one binary")
+    return Kept(path, program)
+
+
+class Reports:
+    """What is new beside a baseline, and the files that are written for other programs."""
+
+    def __init__(self, asked: Words, top: str) -> None:
+        self.asked = asked
+        self.top = top
+        for option in (JUNIT, SARIF):
+            if option in asked.options:
+                judge_place(option, asked.options[option])
+        self.baseline = Baseline(asked.options[BASELINE]) if BASELINE in asked.options else None
+
+    def cells_that_count(self, result: Result) -> Cells:
+        """The cells that the status goes by."""
+        return result.cells if self.baseline is None else self.baseline.new(result.cells)
+
+    def new(self, result: Result) -> list[str]:
+        """What is new beside the baseline, in lines."""
+        return [] if self.baseline is None else self.baseline.lines(result.cells)
+
+    def writers(self, run: Suite, result: Result) -> Iterator[Writer]:
+        """The paths of the files, each with what writes it."""
+        if JUNIT in self.asked.options:
+            path = self.asked.options[JUNIT]
+            yield path, lambda: write_report(path, junit(self.cases(run, result), result.seconds))
+        if SARIF in self.asked.options:
+            place = self.asked.options[SARIF]
+            files = [*self.asked.models, *self.asked.tests]
+            yield place, lambda: write_report(place, sarif(result.below, files, rules_in(self.top)))
+
+    def cases(self, run: Suite, result: Result) -> list[Case]:
+        """The pairs, model by model."""
+        cases = []
+        for model, test in run.pairs:
+            pair = (model.name, test.name)
+            is_as_before = self.baseline is not None and self.baseline.has(pair, result.cells[pair])
+            lines = [*run.lines_of_pair(model, test), *run.lines_of_fault(model, test, result.below)]
+            cases.append(Case(model, test, result.cells[pair], is_as_before, lines))
+        return cases
 
 
 def interrupt(number: int, _: FrameType | None) -> None:
@@ -70,16 +156,22 @@ def interrupt(number: int, _: FrameType | None) -> None:
     raise Interrupted(number)
 
 
+def handle_signals(handler: Callable[[int, FrameType | None], None] | signal.Handlers) -> None:
+    """Has each signal that ends a process do so. What is ignored, as HUP behind nohup, stays ignored."""
+    for number in ENDING:
+        if signal.getsignal(number) is not signal.SIG_IGN:
+            signal.signal(number, handler)
+
+
 def main(words: Sequence[str], top: str, text: str) -> int:
     """The status. Where a signal ended the suite it ends this process, too, once nothing is left behind."""
     sys.setrecursionlimit(RECURSION)
     open_streams()
-    for number in ENDING:
-        # what is ignored, as HUP behind nohup, stays ignored
-        if signal.getsignal(number) is not signal.SIG_IGN:
-            signal.signal(number, interrupt)
     try:
+        handle_signals(interrupt)
         status = answer(words, top, text)
+        # nothing is left that would have to be cleared
+        handle_signals(signal.SIG_DFL)
     except Interrupted as interrupted:
         signal.signal(interrupted.number, signal.SIG_DFL)
         os.kill(os.getpid(), interrupted.number)
@@ -101,6 +193,8 @@ def answer(words: Sequence[str], top: str, text: str) -> int:
     except OSError as error:
         place = f": {shown(str(error.filename))}" if error.filename else ""
         tell(f"suite: {error.strerror}{place}")
+    except MemoryError:
+        tell("suite: memory was refused")
     except Exception:  # pylint: disable=broad-exception-caught
         # Python's own status for this is 1, which says that there are bugs
         tell(traceback.format_exc(), end="")

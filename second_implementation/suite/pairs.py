@@ -14,8 +14,12 @@ OBSERVABLE, UNOBSERVABLE = "observable", "unobservable"
 STATUSES = {OBSERVABLE: 0, UNOBSERVABLE: 1}
 SWEPT = "swept"
 OK, BUG, STRICTER, TIME, UNNAMED, FAULT = "ok", "BUG", "stricter", "time", "unnamed", "fault"
-CERTIFICATE, UNREADABLE, UNWRITTEN = "certificate", "unreadable", "unwritten"
-REFUSED = re.compile(rb"refused ([a-z]+) ([a-z0-9-]+) at [0-9]+:[0-9]+")
+NOT_TAKEN = "not taken"
+# cells that are no bug, nothing lost and no fault
+GOOD = (OK, OBSERVABLE, UNOBSERVABLE, SWEPT, NOT_TAKEN)
+CERTIFICATE, UNREADABLE, UNWRITTEN, MACHINE = "certificate", "unreadable", "unwritten", "machine"
+REFUSED = re.compile(rb"refused ([a-z]+) ([a-z0-9-]+) at ([0-9]+:[0-9]+)")
+STATED_WORDS = ("unstated", "permitted", "forbidden")
 STATED = re.compile(rb"test (?:(unstated)|(permitted|forbidden): (?:ok|BUG|stricter))")
 SUMMARY = re.compile(rb"sweep [0-9]+")
 # the lines that are looked at are short
@@ -25,12 +29,14 @@ HEAD = 4096
 @dataclass(frozen=True)
 class Found:
     """What is known of a pair: a verdict whose certificate is judged, with what the test states of its outcome; or the
-    rows of a sweep that are observable, each as the sweep writes it; or the cell of a fault."""
+    rows of a sweep that are observable, each as the sweep writes it; or the cell of a fault, with the place in a file
+    that is refused."""
 
     verdict: str = ""
     stated: str = ""
     fault: str = ""
     rows: frozenset[str] = frozenset()
+    place: str = ""
 
     @property
     def is_swept(self) -> bool:
@@ -52,17 +58,18 @@ class Checker:
         """Calls the program with these words."""
         return self.calls.status([*self.command, *words], self.kib, self.seconds, out)
 
-    def found(self, model: str, test: File, out: IO[bytes], part: str) -> Found:
-        """Checks a pair. The certificate goes to a file, which has this path."""
-        status = self.status([test.kind.check, model, test.path], out)
+    def found(self, model: str, test: File, path: str, out: IO[bytes], part: str) -> Found:
+        """Checks a pair: a model, and a test at this path. The certificate goes to a file, which has the last path."""
+        status = self.status([test.kind.check, model, path], out)
         lines = os.pread(out.fileno(), HEAD, 0).split(b"\n")
         first, second = lines[0], lines[1] if len(lines) > 1 else b""
         if test.kind.verify is None and status == 0 and SUMMARY.fullmatch(first):
-            return rows_found(out)
+            out.seek(0)
+            return rows_found(out.read())
         verdict = first.decode("latin-1")
         if test.kind.verify is not None and verdict in STATUSES and status == STATUSES[verdict]:
-            return self.judged(verdict, second, [test.kind.verify, model, test.path, part])
-        return Found(fault=fault_of(status, first))
+            return self.judged(verdict, second, [test.kind.verify, model, path, part])
+        return fault_of(status, first)
 
     def judged(self, verdict: str, second: bytes, words: list[str]) -> Found:
         """The verdict, where the judge of certificates says the same."""
@@ -79,20 +86,20 @@ class Checker:
         return Found(verdict, (stated[1] or stated[2]).decode("ascii"))
 
 
-def fault_of(status: int | None, first: bytes) -> str:
-    """The cell of a call that gave no verdict."""
+def fault_of(status: int | None, first: bytes) -> Found:
+    """The fault of a call that gave no verdict."""
     refused = REFUSED.fullmatch(first)
     if status is None:
-        return TIME
+        return Found(fault=TIME)
     if status == 3 and refused is not None:
-        return f"{refused[1].decode('ascii')}:{refused[2].decode('ascii')}"
-    return UNREADABLE if status == 4 else f"status:{status}"
+        kind, word, place = (part.decode("ascii") for part in refused.groups())
+        return Found(fault=f"{kind}:{word}", place=place)
+    return Found(fault=UNREADABLE if status == 4 else f"status:{status}")
 
 
-def rows_found(out: IO[bytes]) -> Found:
+def rows_found(text: bytes) -> Found:
     """The rows of a sweep that are observable."""
-    out.seek(0)
-    lines = out.read().decode("latin-1").splitlines()
+    lines = text.decode("latin-1").splitlines()
     if lines[-1:] != ["end"]:
         return Found(fault=FAULT)
     ending = f" {OBSERVABLE}"

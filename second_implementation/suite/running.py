@@ -1,19 +1,24 @@
 """The run of a suite: all pairs, side by side, and then the table with what stands below it."""
 import time
+from dataclasses import dataclass
 from functools import partial
 from typing import Callable, Iterator, Mapping, Sequence
 
 from second.quoting import shown
 
 from .allowing import Machines, MemoryModels, Rows
-from .beside import Answer, Judges, Lint
+from .beside import Lint
 from .calling import Calls, side_by_side
-from .counting import Count, Progress
-from .files import File
-from .keeping import State, new_file, take_place
-from .pairs import FAULT, OBSERVABLE, OK, SWEPT, TIME, UNNAMED, UNOBSERVABLE, UNWRITTEN
+from .counting import Progress
+from .files import Copies, File
+from .keeping import State, new_file, take_place, write_anew
+from .kept import Kept
+from .leaving_out import LeftOut
+from .machines import Answer, Judges
+from .pairs import FAULT, MACHINE, NOT_TAKEN, OBSERVABLE, OK, SWEPT, TIME, UNNAMED, UNOBSERVABLE, UNWRITTEN
 from .pairs import Checker, Found, cell_of, cell_of_rows, remove
 from .tables import table_of_models
+from .taking import takes
 from .telling import tell
 from .words import Words
 
@@ -28,14 +33,25 @@ Pair = tuple[File, File]
 class Suite:
     """All models on all tests."""
 
-    def __init__(self, words: Words, rows: Rows, machines: Machines, checker: Checker, state: State) -> None:
+    def __init__(
+        self,
+        words: Words,
+        copies: Copies,
+        rows: Rows,
+        machines: Machines,
+        checker: Checker,
+        state: State,
+        kept: Kept | None,
+    ) -> None:
         self.words = words
+        self.copies = copies
         self.rows = rows
         self.machines = machines
         self.known = MemoryModels(rows, machines)
         self.checker = checker
         self.folder = state.folder
         self.state = state
+        self.kept = kept
         self.memory_models = {model.name: self.known.name(model) for model in words.models}
         self.found: dict[tuple[str, str], Found] = {}
         # by memory model and test
@@ -80,6 +96,8 @@ class Suite:
                 tell(f"suite: {len(self.state.pairs)} pairs are kept, and the next suite goes on from there")
             raise
         progress.end()
+        if self.kept is not None and self.kept.taken:
+            tell(f"suite: {len(self.kept.taken)} pairs stand from {shown(self.kept.path)}")
 
     def keep_state(self) -> None:
         """Keeps what stands so far, now and then: an end by force says nothing before."""
@@ -88,15 +106,22 @@ class Suite:
             self.written = time.monotonic()
 
     def check_pair(self, model: File, test: File) -> Found:
-        """Checks a pair and keeps its certificate."""
+        """Checks a pair, or takes what is kept of it, and keeps its certificate."""
         place = self.folder.place(model, test)
+        kept = self.kept.found(model, test) if self.kept is not None else None
         try:
+            if kept is not None:
+                write_anew(place, kept[1])
+                return kept[0]
             with new_file(place) as (out, part):
                 try:
-                    found = self.checker.found(model.path, test, out, part)
+                    found = self.checker.found(self.copies.path(model), test, self.copies.path(test), out, part)
                 except OSError:
                     found = Found(fault=FAULT)
                 if found.verdict:
+                    if self.kept is not None:
+                        out.seek(0)
+                        self.kept.keep(model, test, found, out.read())
                     take_place(place)
                 else:
                     remove(place)
@@ -106,19 +131,19 @@ class Suite:
 
     def ask_machines(self, jobs: int, seconds: float) -> None:
         """Asks the machines of patterns, each within the limit of a call, and of tests of one's own, all within it."""
-        judges = Judges(self.machines, self.calls)
+        judges = Judges(self.machines, self.copies, seconds, self.calls)
         for is_pattern in (True, False):
             asked = list(dict.fromkeys(self.asked(is_pattern)))
             deadline = time.monotonic() + seconds
-            tasks: list[Callable[[], Answer]] = []
-            for name, test in asked:
-                tasks.append(
-                    partial(answer_in_time, judges, name, test, seconds)
-                    if is_pattern
-                    else partial(judges.answer, name, test, deadline)
-                )
-            for (name, test), answer in zip(asked, side_by_side(self.calls, jobs, tasks, lambda _, __: None)):
+            tasks: list[Callable[[], Answer]] = [
+                partial(judges.answer_in_time, name, test)
+                if is_pattern
+                else partial(judges.answer, name, test, deadline)
+                for name, test in asked
+            ]
+            for (name, test), answer in zip(asked, side_by_side(self.calls, jobs, tasks, ignore)):
                 self.answers[name, test.base] = answer
+        judges.end_all()
 
     def asked(self, is_pattern: bool) -> Iterator[tuple[str, File]]:
         """The machines that are asked, with the tests: those that have no row."""
@@ -130,24 +155,30 @@ class Suite:
                 yield name, test
 
     def is_own(self, model: File, test: File) -> bool:
-        """Whether a pair has a verdict, or rows, and no row of the table that says what they should be."""
+        """Whether a pair has a verdict, or rows, that mean something, and no row of the table says what they should
+        be."""
         name = self.memory_models[model.name]
-        has_verdict = self.found[model.name, test.base].verdict != ""
+        has_verdict = self.found_of(model, test).verdict != "" and takes(model, test)
         return name is not None and has_verdict and self.rows.allowed(name, test) is None
 
     # what is shown
 
     def cell(self, model: File, test: File) -> str:
         """The cell of a pair."""
-        found = self.found[model.name, test.base]
+        found = self.found_of(model, test)
         name = self.memory_models[model.name]
         if found.fault:
             return found.fault
+        if not takes(model, test):
+            return NOT_TAKEN
         if name is None:
-            return UNNAMED
+            # its own word decides on a test of one's own, whatever the memory model
+            return UNNAMED if found.is_swept or self.rows.has(test) else cell_of(found, None)
+        answer = self.answers.get((name, test.base), Answer())
+        if answer.fault:
+            return MACHINE
         if not found.is_swept:
             return cell_of(found, self.rows.allowed(name, test))
-        answer = self.answers.get((name, test.base), Answer())
         if answer.rows is None:
             return TIME if answer.is_late else SWEPT
         return cell_of_rows(found, answer.rows)
@@ -161,7 +192,7 @@ class Suite:
         lines = [
             self.known.fault(model)
             for model in self.words.models
-            if any(self.cell(model, test) == UNNAMED for test in self.words.tests)
+            if self.memory_models[model.name] is None and any(not self.found_of(model, test).fault for test in self.words.tests)
         ]
         lines += self.lines_of_machines()
         for said in linted:
@@ -177,19 +208,38 @@ class Suite:
             name = self.memory_models[model.name]
             if name is None or not self.is_own(model, test):
                 continue
-            found, answer = self.found[model.name, test.base], self.answers.get((name, test.base), Answer())
             is_missing |= not self.machines.is_there
-            if answer.is_late:
+            if self.answers.get((name, test.base), Answer()).is_late:
                 late.add(test.path)
-            elif answer.rows is not None:
-                yield from lines_of_rows(model, test, name, found.rows, answer.rows)
-            elif answer.is_allowed is not None:
-                yield from lines_of_words(model, test, name, found, answer.is_allowed)
+            yield from self.lines_of_pair(model, test)
         if late:
             said = f"{len(late)} {'test' if len(late) == 1 else 'tests'}, the first {shown(min(late))}"
             yield f"not compared with a machine within the limit of time: {said}"
         if is_missing:
             yield f"not compared with machines: there are none in {shown(self.machines.folder)}"
+
+    def found_of(self, model: File, test: File) -> Found:
+        """What is known of a pair."""
+        return self.found[model.name, test.base]
+
+    def lines_of_pair(self, model: File, test: File) -> Iterator[str]:
+        """What a machine says of a pair that differs from it."""
+        name = self.memory_models[model.name]
+        if name is None or not self.is_own(model, test):
+            return
+        found, answer = self.found_of(model, test), self.answers.get((name, test.base), Answer())
+        if answer.fault:
+            verdict = "" if found.is_swept else f"{model.name} says {found.verdict}, and "
+            yield f"{shown(test.path)}: {verdict}the machine of {name} failed: {answer.fault}"
+        elif answer.rows is not None:
+            yield from lines_of_rows(model, test, name, found.rows, answer.rows)
+        elif answer.is_allowed is not None:
+            yield from lines_of_words(model, test, name, found, answer.is_allowed)
+
+    def lines_of_fault(self, model: File, test: File, below: Sequence[str]) -> list[str]:
+        """The lines below the table that speak of the files of a pair without a verdict."""
+        paths = tuple(f"{shown(file.path)}:" for file in (model, test))
+        return [line for line in below if line.startswith(paths)] if self.found_of(model, test).fault else []
 
     def table(self, cells: Mapping[tuple[str, str], str], width: int | None) -> list[str]:
         """The table, with the rows that the options ask for."""
@@ -201,11 +251,6 @@ class Suite:
             if is_shown and not ("--bad" in self.words.options and set(row) == {OK}):
                 rows.append([test.name, *row])
         return table_of_models(models, rows, width)
-
-
-def answer_in_time(judges: Judges, name: str, test: File, seconds: float) -> Answer:
-    """What a machine says within a time from now on."""
-    return judges.answer(name, test, time.monotonic() + seconds)
 
 
 def lines_of_words(model: File, test: File, name: str, found: Found, is_allowed: bool) -> Iterator[str]:
@@ -228,12 +273,43 @@ def lines_of_rows(model: File, test: File, name: str, seen: frozenset[str], allo
             yield f"{shown(test.path)}: {model.name}: {sentence}: {', '.join(words)}"
 
 
-def run_suite(suite: Suite, lint: Lint, jobs: int, seconds: float, width: int | None) -> tuple[list[str], Count]:
-    """Runs all, and answers the lines of the table with what stands below it, and what is counted."""
+@dataclass(frozen=True)
+class Result:
+    """What a suite found: its cells, the lines of its table and those below, and how long it took."""
+
+    cells: dict[tuple[str, str], str]
+    table: list[str]
+    below: list[str]
+    seconds: float
+
+
+def run_suite(suite: Suite, lint: Lint, left_out: LeftOut, jobs: int, seconds: float, width: int | None) -> Result:
+    """Runs all."""
     suite.check_pairs(jobs)
-    taken = time.monotonic() - suite.begun
     suite.ask_machines(jobs, seconds)
-    tasks = [partial(lint.lines, model) for model in suite.words.models]
-    linted = side_by_side(suite.calls, jobs, tasks, lambda _, __: None)
+    linted = side_by_side(suite.calls, jobs, [partial(lint.lines, model) for model in suite.words.models], ignore)
+    lines = suite.lines_below(linted)
+    second = dict(zip(suite.words.tests, left_out_lines(suite, left_out, jobs)))
+    below = [line for first in lines for line in (first, *second_of(first, second))]
     cells = suite.cells()
-    return suite.table(cells, width) + suite.lines_below(linted), Count(list(cells.values()), taken)
+    return Result(cells, suite.table(cells, width), below, time.monotonic() - suite.begun)
+
+
+def left_out_lines(suite: Suite, left_out: LeftOut, jobs: int) -> list[str]:
+    """Of each test what to do about it, where it is a listing that is refused; or an empty line."""
+    tasks = [
+        partial(left_out.line, test, suite.copies.path(test), [suite.found_of(model, test) for model in suite.words.models])
+        for test in suite.words.tests
+    ]
+    return side_by_side(suite.calls, jobs, tasks, ignore)
+
+
+def second_of(first: str, second: Mapping[File, str]) -> Iterator[str]:
+    """The line that follows that of a refused listing."""
+    for line in second.values():
+        if line and first.startswith(line[: line.index(": left-out: ")] + ": "):
+            yield line
+
+
+def ignore(_: int, __: object) -> None:
+    """What is told of a task that nobody waits for."""

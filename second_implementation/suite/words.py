@@ -12,13 +12,16 @@ from .refusing import Refusal
 SECONDS = re.compile(r"[0-9]{1,9}(\.[0-9]+)?", re.ASCII)
 JOBS = re.compile(r"[0-9]{1,4}", re.ASCII)
 OPTIONS = ("--differ", "--bad", "--axioms")
+# options that a path follows
+BASELINE, JUNIT, SARIF = "--baseline", "--junit", "--sarif"
+OPTIONS_OF_PATHS = (BASELINE, JUNIT, SARIF)
 
 
 @dataclass(frozen=True)
 class Words:
-    """What the suite is asked for: options, models and tests."""
+    """What the suite is asked for: options, some with a path, models and tests."""
 
-    options: frozenset[str]
+    options: Mapping[str, str]
     models: list[File]
     tests: list[File]
 
@@ -47,29 +50,44 @@ def read_words(words: Sequence[str], environ: Mapping[str, str], top: str) -> Wo
         raise Refusal("--axioms takes one model, which is named")
     if not paths.tests and not paths.folders:
         take_folder(paths, environ.get("SUITE_TESTS") or os.path.join(top, "examples", "tests"))
-    found = Words(options, [model_file(path) for path in models], [test_file(path) for path in paths.tests])
+    models, tests = once(models), once(paths.tests)
+    found = Words(options, [model_file(path) for path in models], [test_file(path) for path in tests])
     judge_distinct("model", found.models)
     judge_distinct("test", found.tests)
     return found
 
 
-def options_of(words: Sequence[str]) -> tuple[frozenset[str], list[str]]:
-    """The options, and the other words."""
-    options: set[str] = set()
+def once(paths: Sequence[str]) -> list[str]:
+    """The paths without those of a file that stands among them before."""
+    found: dict[str, str] = {}
+    for path in paths:
+        # a link is a file of its own: it gives another name
+        found.setdefault(os.path.join(os.path.realpath(os.path.dirname(path)), os.path.basename(path)), path)
+    return list(found.values())
+
+
+def options_of(words: Sequence[str]) -> tuple[Mapping[str, str], list[str]]:
+    """The options, with the paths that follow them, and the other words."""
+    options: dict[str, str] = {}
     rest: list[str] = []
-    for place, word in enumerate(words):
+    waiting = iter(words)
+    for word in waiting:
         if word == "--":
-            rest += words[place + 1 :]
-            break
-        if word in OPTIONS:
-            options.add(word)
+            rest += waiting
+        elif word in OPTIONS:
+            options[word] = ""
+        elif word in OPTIONS_OF_PATHS:
+            path = next(waiting, "")
+            if not path or word in options:
+                raise Refusal(f"{word} takes one file, which is named behind it")
+            options[word] = path
         elif word.startswith("-"):
             raise Refusal(f"there is no option {quoted(word)}; --help shows how it is called")
         else:
             rest.append(word)
     if "--axioms" in options and len(options) > 1:
         raise Refusal("--axioms takes no other option beside it")
-    return frozenset(options), rest
+    return options, rest
 
 
 def take_word(paths: Paths, word: str) -> None:

@@ -41,6 +41,10 @@ Item = TypeVar("Item")
 Reached = TypeVar("Reached", bound=Hashable)
 
 
+class NotRun(ValueError):
+    """A machine does not run tests of this layout, and why."""
+
+
 @dataclass(frozen=True)
 class Op:
     """A micro-op. `place` is its number in test order; `core` is the place of its core in `Test.cores`; `instruction` is

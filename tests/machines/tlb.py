@@ -23,7 +23,7 @@ where it sets a mark. A run that translates otherwise, or goes to another page, 
 """
 from typing import Iterator, NamedTuple
 
-from litmus import Address, Memory, Op, Outcome, ReadValues, Test, Value, ends, in_test_order, replaced
+from litmus import Address, Memory, NotRun, Op, Outcome, ReadValues, Test, Value, ends, in_test_order, replaced
 
 # the machine runs tests of format 2, and no others
 TAKES_ENTRIES = True
@@ -101,11 +101,11 @@ def instructions(ops: tuple[Op, ...]) -> Iterator[Instruction]:
         marks = [op for op in rest if op.kind == "Write" and "Mark" in op.types]
         accesses = [op for op in rest if op not in walks + marks]
         if len(accesses) != 1 or len(walks) > 1 or len(marks) > len(walks):
-            raise ValueError(f"instruction {number} has not one access, and at most a walk and its mark")
+            raise NotRun(f"instruction {number} has not one access, and at most a walk and its mark")
         found = Instruction(accesses[0], *[one[0] if one else None for one in (walks, marks)])
         for op in walks + marks:
             if not found.is_translated or op.address != found.access.virtual[:1]:
-                raise ValueError(f"instruction {number} has a walk that is not of the page it accesses")
+                raise NotRun(f"instruction {number} has a walk that is not of the page it accesses")
         yield found
 
 

@@ -12,7 +12,7 @@ drain. That is partial store order (The SPARC Architecture Manual, version 8); s
 """
 from typing import Iterator, NamedTuple
 
-from litmus import Item, Memory, Op, Outcome, ReadValues, Test, ends, in_test_order, replaced
+from litmus import Item, Memory, NotRun, Op, Outcome, ReadValues, Test, ends, in_test_order, replaced
 
 
 # whether a test may have instructions of two micro-ops
@@ -63,7 +63,7 @@ def runs_locked(state: State, core: int, read: Op, write: Op) -> Iterator[State]
     """Both micro-ops of a locked instruction at one moment."""
     is_pair = (read.kind, write.kind) == ("Read", "Write") and read.address == write.address
     if not is_pair or "Locked" not in read.types & write.types:
-        raise ValueError(f"instruction {read.instruction} is no locked read-modify-write of one address")
+        raise NotRun(f"instruction {read.instruction} is no locked read-modify-write of one address")
     if not state.buffers[core]:
         yield state._replace(
             done=at(state.done, core, state.done[core] + 2),

@@ -2,19 +2,25 @@
 """Says what a machine allows of a test.
 
     tests/machines/verdicts.py MACHINE TEST
+    tests/machines/verdicts.py MACHINE --within SECONDS
 
 Of a test it writes `yes` or `no`: whether the outcome comes up. Of a pattern it writes what its open reads get, a line
 `row ..` for each way, as a sweep does, and `end`. The status is 3 where the machine does not run such tests, or where the
-machines read other micro-ops than the second implementation, which takes each test that has no fault: they are made for usual
-layouts.
+machines do not read them, or read other micro-ops than the second implementation, which takes each test that has no fault:
+they are made for usual layouts.
+
+The second form says it of one test after another: standard input has their paths, each with a NUL behind it, and after
+what is said of a test a NUL stands too; `not run` in place of status 3. Each may take so many seconds of a processor.
 """
 import os
+import resource
 import sys
 from importlib import import_module
 from types import ModuleType
+from typing import Iterator
 
 from listing import read_file
-from litmus import Reads, Test, Value
+from litmus import NotRun, Reads, Test, Value
 
 TOP = os.path.dirname(os.path.dirname(os.path.dirname(os.path.realpath(__file__))))
 sys.path.append(os.path.join(TOP, "second_implementation"))
@@ -66,19 +72,65 @@ def is_alike(test: Test, case: Case) -> bool:
     return here == there and read == (len(case.dependencies), len(case.initial), len(case.final))
 
 
-def main(name: str, path: str) -> int:
-    """Writes what the machine says, and answers the exit status."""
-    machine, test = import_module(name), read_file(path)
+def lines_of(machine: ModuleType, path: str) -> list[str] | None:
+    """What a machine says of a test; None where it does not run such tests, or does not read this one."""
+    try:
+        test = read_file(path)
+    except (LookupError, ValueError):
+        return None
     if not runs(machine, test) or not is_alike(test, case_of(path)):
-        return NOT_RUN
-    rows = rows_allowed(machine, test)
+        return None
+    try:
+        rows = rows_allowed(machine, test)
+    except NotRun:
+        return None
     if os.path.splitext(path)[1] == PATTERN:
-        for line in sorted(map(line_of, rows)):
-            print(line)
-        print("end")
-    else:
-        print("yes" if rows else "no")
+        return [*sorted(map(line_of, rows)), "end"]
+    return ["yes" if rows else "no"]
+
+
+def say_one(machine: ModuleType, path: str) -> int:
+    """Says it of one test, and answers the exit status."""
+    lines = lines_of(machine, path)
+    if lines is None:
+        return NOT_RUN
+    print(*lines, sep="\n")
     return 0
+
+
+def say_all(machine: ModuleType, seconds: int) -> int:
+    """Says it of each test that standard input names."""
+    standing = resource.getrlimit(resource.RLIMIT_CPU)
+    for path in paths_asked():
+        limit_time(seconds, standing)
+        lines = lines_of(machine, path)
+        print(*(["not run"] if lines is None else lines), sep="\n", end="\0", flush=True)
+    return 0
+
+
+def paths_asked() -> Iterator[str]:
+    """The paths that standard input names, as they come."""
+    text = b""
+    while part := os.read(sys.stdin.fileno(), 65_536):
+        *whole, text = (text + part).split(b"\0")
+        yield from map(os.fsdecode, whole)
+
+
+def limit_time(seconds: int, standing: tuple[int, int]) -> None:
+    """Has the system end this process when it takes so many seconds more of a processor, or before by a limit that stands."""
+    used = resource.getrusage(resource.RUSAGE_SELF)
+    most = int(used.ru_utime + used.ru_stime) + 1 + seconds
+    limits = [limit for limit in standing if limit != resource.RLIM_INFINITY]
+    resource.setrlimit(resource.RLIMIT_CPU, (min([most, *limits]), standing[1]))
+
+
+def main(name: str, *words: str) -> int:
+    """Says what the machine allows, and answers the exit status."""
+    machine = import_module(name)
+    if len(words) == 2 and words[0] == "--within":
+        return say_all(machine, int(words[1]))
+    (path,) = words
+    return say_one(machine, path)
 
 
 if __name__ == "__main__":

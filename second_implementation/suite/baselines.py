@@ -1,0 +1,48 @@
+"""What is new beside the cells of an earlier suite."""
+from typing import Mapping
+
+from second.quoting import quoted, shown
+
+from .pairs import BUG, GOOD, STRICTER, TIME
+from .refusing import Refusal
+
+# by the names of model and test
+Cells = Mapping[tuple[str, str], str]
+FIRST = (BUG, STRICTER, TIME)
+
+
+class Baseline:
+    """The cells of an earlier suite, which the file `cells` of its folder has."""
+
+    def __init__(self, path: str) -> None:
+        self.path = path
+        try:
+            with open(path, encoding="utf-8", errors="surrogateescape", newline="\n") as file:
+                lines = file.read().split("\n")
+        except OSError as error:
+            raise Refusal(f"the baseline {shown(path)} cannot be read: {error.strerror}") from error
+        self.cells: dict[tuple[str, str], str] = {}
+        if lines.pop():
+            raise Refusal(f"the baseline {shown(path)} ends in the midst of a line")
+        for line in lines:
+            row = line.split("\t")
+            if len(row) != 3 or "" in row:
+                raise Refusal(f"the baseline {shown(path)} has a line that is no model, test and cell: {quoted(line)}")
+            self.cells[row[0], row[1]] = row[2]
+
+    def has(self, pair: tuple[str, str], cell: str) -> bool:
+        """Whether a pair had this cell."""
+        return self.cells.get(pair) == cell
+
+    def new(self, cells: Cells) -> dict[tuple[str, str], str]:
+        """The pairs that are BUG, stricter, late or a fault, and were not the same before."""
+        return {pair: cell for pair, cell in cells.items() if cell not in GOOD and not self.has(pair, cell)}
+
+    def lines(self, cells: Cells) -> list[str]:
+        """What is new, a line for each word of a cell."""
+        pairs: dict[str, list[str]] = {}
+        for (model, test), cell in self.new(cells).items():
+            pairs.setdefault(cell, []).append(f"{model} {test}")
+        order = [*(cell for cell in FIRST if cell in pairs), *sorted(cell for cell in pairs if cell not in FIRST)]
+        lines = [f"{len(pairs[cell])} new {cell}: {', '.join(pairs[cell])}" for cell in order]
+        return lines or [f"nothing is new beside {shown(self.path)}"]
