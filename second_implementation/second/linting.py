@@ -1,7 +1,7 @@
 """Slips in a model, in tests and in queries that no fault word tells, since what the files say is well-formed.
 
 A slip changes the question without a word: a type name that no axiom asks for orders nothing, and a value that nothing
-writes is never read. docs/lint.md has a row for each kind. A comment `Lint allows: KIND NAME..` in the model, or in the
+writes is never read. docs/lint.md has a row for each kind, and so has KINDS. A comment `Lint allows: KIND NAME..` in the model, or in the
 test or query, says that a kind, or these names of it, are meant.
 """
 from dataclasses import replace
@@ -12,19 +12,23 @@ from .linting_bindings import Bindings
 from .linting_constants import Constants, constant_slips
 from .linting_edges import edge_slips, query_edge_slips
 from .linting_idle import Idle
-from .linting_made import made_tests
+from .linting_kinds import KINDS
+from .linting_made import ENTRY_PREDICATES, made_tests
+from .linting_mixed import mixed_slips
 from .linting_nodes import FreeNodes
-from .linting_order import order_slips, thread_slips
+from .linting_order import fence_slips, order_slips, thread_slips
+from .linting_parts import Parts
 from .linting_slips import QueryFile, Slip, TestFile, allowed, counted, unless_meant
 from .linting_stages import query_stage_slips, stage_slips
+from .linting_titles import swallowed_slips, title_slips
 from .linting_unexpanded import unexpanded_slips
-from .linting_values import page_slips, value_slips
+from .linting_values import address_slips, initial_write_slips, page_slips, value_slips
 from .listings import read_file_items
-from .models import Model
+from .models import Axiom, Model
 from .queries import read_query
 from .tokens import tokens
 
-__all__ = ["Asked", "QueryFile", "Slip", "TestFile", "read_query_file", "read_test", "slips"]
+__all__ = ["KINDS", "Asked", "QueryFile", "Slip", "TestFile", "read_query_file", "read_test", "slips"]
 
 
 def read_test(path: str, text: bytes) -> TestFile:
@@ -51,6 +55,7 @@ class Linter:
         self, path: str, text: bytes, model: Model, tests: list[TestFile], queries: Sequence[QueryFile]
     ) -> None:
         self.path = path
+        self.text = text
         self.model = model
         self.tests = tests
         self.queries = queries
@@ -58,12 +63,13 @@ class Linter:
         self.asked = Asked(model, [query.formula for query in queries])
         self.cases = [test.case for test in tests]
         self.made = made_tests(self.asked)
+        self.has_entries = bool(self.asked.predicates & ENTRY_PREDICATES)
         self.constants = Constants(model)
         self.bindings = Bindings(path, model)
         # what constants decide is told as that
-        axioms = [axiom for axiom in model.axioms if self.constants.of(axiom.body) is None]
-        self.idle = Idle(path, model, axioms)
-        self.free_nodes = FreeNodes(path, model, axioms, self.bindings.from_outside)
+        self.axioms = [axiom for axiom in model.axioms if self.constants.of(axiom.body) is None]
+        self.idle = Idle(path, model, self.axioms)
+        self.free_nodes = FreeNodes(path, model, self.axioms, self.bindings.from_outside)
 
     def slips(self) -> Iterator[Slip]:
         """The lines in their order."""
@@ -77,15 +83,30 @@ class Linter:
     def model_slips(self) -> Iterator[Slip]:
         """What is said of the model, by itself and beside all tests."""
         yield from constant_slips(self.path, self.model, self.constants)
+        yield from title_slips(self.path, self.text, self.model)
+        yield from swallowed_slips(self.path, self.text)
         yield from unexpanded_slips(self.path, self.model, self.asked)
         yield from edge_slips(self.path, self.model)
         yield from self.bindings.model_slips()
         yield from stage_slips(self.path, self.model, self.asked.bodies)
+        yield from mixed_slips(self.path, self.model, self.asked.bodies, self.has_entries)
         yield from missing_names(self.path, self.asked, self.tests, self.meant)
-        if self.made:
-            yield from self.idle.true_slips([*self.cases, *self.made])
+        idle = list(self.idle.true_slips(self.made, self.cases)) if self.made else []
+        yield from idle
+        yield from self.part_slips({slip.at for slip in idle})
         if not self.tests:
             yield from self.free_nodes.of_made(self.made)
+
+    def part_slips(self, idle: set[int]) -> list[Slip]:
+        """What is said of parts of axioms, and of macros that are expanded. Of an axiom that is said to ask for nothing,
+        at these places, no part is told."""
+        places = {axiom.at for axiom in self.axioms} - idle
+        items = [
+            item
+            for item in self.model.items
+            if (item.at in places if isinstance(item, Axiom) else item.name.name in self.asked.expanded)
+        ]
+        return Parts(self.path, self.model, self.has_entries).slips(items)
 
     def shared_slips(self) -> Iterator[Slip]:
         """What is said of a test beside the model, and in other words of other tests: one line each."""
@@ -108,6 +129,10 @@ class Linter:
             yield with_more(group, lambda more: f" and {counted(more, 'more test')}")
         for group in free.values():
             yield with_more(group, lambda more: f", and {more} more of them")
+        if self.tests:
+            # what is said of a model alone is said of it beside tests, too
+            of_made = (slip for slip in self.free_nodes.of_made(self.made) if slip.name not in free)
+            yield from unless_meant(self.meant, of_made)
 
     def query_slips(self, query: QueryFile) -> Iterator[Slip]:
         """What is said of a query beside the model."""
@@ -122,7 +147,10 @@ def test_slips(test: TestFile) -> Iterator[Slip]:
     """What is said of a test by itself."""
     yield from order_slips(test)
     yield from thread_slips(test)
+    yield from fence_slips(test)
     yield from value_slips(test)
+    yield from initial_write_slips(test)
+    yield from address_slips(test)
     yield from page_slips(test)
 
 

@@ -28,9 +28,12 @@ class Idle:
         self.may_be_false = [axiom for axiom in self.axioms if settling.may_be_sure(axiom.body, False)]
         self.steps = {True: Steps(STEPS), False: Steps(STEPS)}
 
-    def true_slips(self, cases: list[Case]) -> Iterator[Slip]:
-        """Axioms that are true of each case by what it says."""
-        truths = [Truth(self.macros, self.guards, case, self.steps[True]) for case in cases]
+    def true_slips(self, made: list[Case], given: list[Case]) -> Iterator[Slip]:
+        """Axioms that are true of each case by what it says: first of those that are made, which no test changes, and
+        then of the others."""
+        steps = self.steps[True], Steps(STEPS)
+        truths = [Truth(self.macros, self.guards, case, steps[0]) for case in made]
+        truths += [Truth(self.macros, self.guards, case, steps[1]) for case in given]
         try:
             for axiom in self.may_be_true:
                 if all(truth.is_sure(axiom.body, {}, True) for truth in truths):

@@ -36,22 +36,23 @@ class FreeNodes:
 
     def of_test(self, test: TestFile) -> Iterator[Slip]:
         """A line for each free node in a test."""
-        for op, term in self.found(test.case):
+        for op, term in self.found(test.case, self.steps):
             yield self.slip(term, f"the {op.access.lower()} {op.g}.{op.n} of {shown(test.path)}")
 
     def of_made(self, cases: list[Case]) -> Iterator[Slip]:
         """A line for each stage of a free node in one of these cases, which have no names."""
         told: set[str] = set()
+        steps = Steps(STEPS)
         for case in cases:
-            for op, term in self.found(case):
+            for op, term in self.found(case, steps):
                 if term.stage.name not in told:
                     told.add(term.stage.name)
                     yield self.slip(term, f"every {op.access.lower()}")
 
-    def found(self, case: Case) -> list[tuple[Op, NodeTerm]]:
+    def found(self, case: Case, steps: Steps) -> list[tuple[Op, NodeTerm]]:
         """The micro-ops of the free nodes in a case, each with the first term that names the node."""
         try:
-            return NodeUses(self, case).free_nodes(self.axioms)
+            return NodeUses(self, case, steps).free_nodes(self.axioms)
         except OutOfSteps:
             return []
 
@@ -104,9 +105,10 @@ def either(left: Use, right: Use) -> Use:
 class NodeUses:
     """The uses of nodes by a model in one test. A node is known by a number, and by the term that named it first."""
 
-    def __init__(self, model: FreeNodes, case: Case) -> None:
+    def __init__(self, model: FreeNodes, case: Case, steps: Steps) -> None:
         self.model = model
         self.case = case
+        self.steps = steps
         self.numbers: dict[Node, int] = {}
         self.terms: list[NodeTerm] = []
         # expansions of one macro with the same values
@@ -129,7 +131,7 @@ class NodeUses:
         ends at `~`."""
         if isinstance(formula, Static):
             return self.holds(formula, env) is wanted
-        self.model.steps.take()
+        self.steps.take()
         if isinstance(formula, Not):
             return self.use(formula.operand, env, not wanted, False)
         if isinstance(formula, Binary):
@@ -154,7 +156,7 @@ class NodeUses:
 
     def holds(self, formula: Static, env: Environment) -> bool:
         """Whether a predicate holds."""
-        self.model.steps.take()
+        self.steps.take()
         return holds(self.case, formula, env)
 
     def quantified(self, formula: Quantified, env: Environment, wanted: bool, in_premise: bool) -> Use | bool:

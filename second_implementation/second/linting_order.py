@@ -1,4 +1,5 @@
-"""Program order that a test may not have as its writer thought: the instruction numbers and the threads make it."""
+"""Program order that a test may not have as its writer thought: the instruction numbers and the threads make it. And
+fences that have nothing to order."""
 from typing import Iterator
 
 from .cases import OpItem
@@ -31,6 +32,22 @@ def thread_slips(test: TestFile) -> Iterator[Slip]:
         listed = f"{', '.join(names[:-1])} and {names[-1]}"
         sentence = f"core {core} runs threads {listed}, and there is no program order between two threads"
         yield Slip(test.path, item.thread_at, "threads", "", sentence)
+
+
+def fence_slips(test: TestFile) -> Iterator[Slip]:
+    """Fences with no access before or behind them on their core."""
+    ends: dict[int, tuple[int, int]] = {}
+    for op in test.case.ops:
+        if op.access != "Fence":
+            first, last = ends.get(op.core, (op.g, op.g))
+            ends[op.core] = min(first, op.g), max(last, op.g)
+    for item in op_items(test):
+        if item.op.access == "Fence":
+            first, last = ends.get(item.op.core, (item.op.g, item.op.g))
+            sides = [side for side, is_there in (("before", first < item.op.g), ("behind", last > item.op.g)) if not is_there]
+            if sides:
+                sentence = f"no access stands {' or '.join(sides)} this fence on core {item.op.core}, so that it orders nothing"
+                yield Slip(test.path, item.at, "lonely-fence", "", sentence)
 
 
 def op_items(test: TestFile) -> Iterator[OpItem]:

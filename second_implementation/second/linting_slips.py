@@ -6,7 +6,7 @@ from typing import Iterable, Iterator
 from .cases import Case, Item
 from .models import Formula
 
-ALLOWS = re.compile(rb"(?:%|//|\(\*)[ \t]*Lint allows:[ \t]*([a-z-]+)([^\r\n*]*)", re.IGNORECASE)
+ALLOWS = re.compile(rb"(?:%|//|\(\*)[ \t]*Lint allows:[ \t]*([a-z'-]+)([^\r\n*]*)", re.IGNORECASE)
 # of a name, that every name of the kind is meant
 ALL = "*"
 

@@ -1,10 +1,13 @@
-"""Stages that no axiom names, and stages whose place is named in two ways."""
+"""Stages that no axiom names, and stages whose place is named in two ways, or once as nowhere else."""
 from dataclasses import dataclass, field
 from typing import Iterable, Iterator
 
 from .linting_slips import Slip, counted
 from .models import Edges, Formula, Model, NodeTerm, Nodes, Number
 from .scopes import parts
+
+# where a stage stands so often on one core, and once on another, this one may be a slip
+MANY = 3
 
 
 @dataclass
@@ -42,6 +45,21 @@ def stage_slips(path: str, model: Model, bodies: list[Formula]) -> Iterator[Slip
         elif mentions.own and mentions.named:
             here, others = sorted((mentions.own, mentions.named), key=len)
             yield two_places(path, here, others)
+        else:
+            yield from odd_places(path, mentions.named)
+
+
+def odd_places(path: str, nodes: list[NodeTerm]) -> Iterator[Slip]:
+    """The one node of a stage on another core, by its number, than all others of three or more have."""
+    by_core: dict[int, list[NodeTerm]] = {}
+    for node in nodes:
+        if not isinstance(node.core, Number):
+            return
+        by_core.setdefault(node.core.value, []).append(node)
+    rare, *others = sorted(by_core.values(), key=len) or [[]]
+    if len(rare) == 1 and len(others) == 1 and len(others[0]) >= MANY:
+        there = f"{written(others[0][0])} in {counted(len(others[0]), 'place')}"
+        yield Slip(path, rare[0].stage.at, "odd-place", rare[0].stage.name, f"{written(rare[0])} here alone, and {there}")
 
 
 def query_stage_slips(path: str, formula: Formula, bodies: list[Formula]) -> Iterator[Slip]:

@@ -1,4 +1,5 @@
-"""Values and pages of a test: what nothing writes, what is written twice, and one address with two pages."""
+"""Values and pages of a test: what nothing writes, what is written twice or for nothing, what nobody has, and one address
+with two pages."""
 from typing import Iterator
 
 from .cases import Address, EntryAddress, OpItem, Page, Value, ValueItem
@@ -31,6 +32,30 @@ def value_slips(test: TestFile) -> Iterator[Slip]:
             if item.pa in pages or test.case.initial_at(item.pa) != item.value:
                 sentence = f"no write of {item.pa} has the value {item.value}, so that no axiom about writes can see this"
                 yield Slip(test.path, item.at, "final-unwritten", "", sentence)
+
+
+def initial_write_slips(test: TestFile) -> Iterator[Slip]:
+    """Writes of the value at the start, where no earlier write of the core made it another one."""
+    changed: set[tuple[Address, int, int]] = set()
+    items = (item for item in test.items if isinstance(item, OpItem) and item.op.access == "Write")
+    for item in sorted(items, key=lambda one: (one.op.g, one.op.n)):
+        op = item.op
+        if op.pa is None:
+            continue
+        if op.value != test.case.initial_at(op.pa):
+            changed.add((op.pa, op.core, op.thread))
+        elif (op.pa, op.core, op.thread) not in changed:
+            sentence = f"{op.value} is the value of {op.pa} at the start: a read does not tell which of the two it sees"
+            yield Slip(test.path, item.value_at, "initial-write", "", sentence)
+
+
+def address_slips(test: TestFile) -> Iterator[Slip]:
+    """Values that are stated of an address that no micro-op has. What `final-unwritten` says is not said again."""
+    addresses = {op.pa for op in test.case.ops}
+    for item in test.items:
+        if isinstance(item, ValueItem) and item.pa not in addresses:
+            if item.word == "Init" or test.case.initial_at(item.pa) == item.value:
+                yield Slip(test.path, item.at, "nobody's", "", f"no micro-op is at {item.pa}, so that no axiom can see this")
 
 
 def page_slips(test: TestFile) -> Iterator[Slip]:
