@@ -116,17 +116,18 @@ class Search:
     def narrowed(self, orders: Iterable[Order]) -> list[Order]:
         """Of orders that lose outcomes those that lose none where the reads among their micro-ops get what the outcome
         says, and that some outcome is kept with. What two micro-ops get has to do with each other where they are akin."""
-        found = []
+        narrow = []
         for order in orders:
-            if any(map(partial(self.is_as_stated, order), order.lost)):
-                continue
-            narrow = replace(order, parts=tuple(replace(part, where=self.reads(part.edge)) for part in order.parts))
-            met = [outcome for outcome in self.others if self.active(narrow, outcome)]
-            some = [outcome for outcome in met if len(self.active(narrow, outcome)) < len(order.parts)]
-            if met and not any(self.never(outcome, [narrow]) for outcome in some):
+            if not any(map(partial(self.is_as_stated, order), order.lost)):
                 edge = order.parts[0].edge
-                found.append(replace(narrow, relation=self.relations.of(edge, self.case), lost=()))
-        return found
+                parts = tuple(replace(part, where=self.reads(part.edge)) for part in order.parts)
+                narrow.append(Order(parts, self.relations.of(edge, self.case)))
+        narrow = [order for order in narrow if any(self.active(order, outcome) for outcome in self.others)]
+        for outcome in self.others:
+            some = [order for order in narrow if 0 < len(self.active(order, outcome)) < len(order.parts)]
+            lost = set(self.never(outcome, some))
+            narrow = [order for order in narrow if order not in lost]
+        return narrow
 
     def is_as_stated(self, order: Order, outcome: Outcome) -> bool:
         """Whether the reads among the micro-ops of an order get in an outcome what the test states; or what they get has
@@ -185,16 +186,20 @@ class Search:
         while left:
             # what is wanted is asked for together, as long as the program knows a run with it
             worlds = self.stretched(outcome, [edge for order in left for edge in edges[order]], together)
-            together = together * 2 if worlds else max(together // 2, FEW_TOGETHER)
-            if not worlds:
+            fewer = self.unseen(worlds, {order: edges[order] for order in left})
+            together = together * 2 if len(fewer) < len(left) else max(together // 2, FEW_TOGETHER)
+            if len(fewer) == len(left):
                 count = fitting([len(edges[order]) for order in left])
                 worlds = self.questions.worlds(outcome, [edges[order] for order in left[:count]])
-                if not worlds:
+                if worlds:
+                    fewer = self.unseen(worlds, {order: edges[order] for order in left})
+                else:
                     found += left[:count]
-                    left = left[count:]
-                    continue
+                    fewer = left[count:]
+                if len(fewer) == len(left):
+                    raise AssertionError("the run has none of the orders that were asked for")
             self.worlds[outcome] += worlds
-            left = self.unseen(worlds, {order: edges[order] for order in left})
+            left = fewer
         return found
 
     def unseen(self, worlds: Sequence[World], edges: dict[Order, list[Edge]]) -> list[Order]:
