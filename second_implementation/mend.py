@@ -76,7 +76,7 @@ class Mending:
         model = read_model(model_text)
         case, _ = read_file_items(test_path, test_text)
         self.checker = checker
-        self.program = program_of(case, model)
+        self.program = program_of(case)
         self.questions = Questions(checker, folder, model, model_text, self.program, Names(model_text, test_text))
         self.machines = Machines(os.path.join(TOP, "tests", "machines"))
         self.memory_model = memory_model_of(model_text).name
@@ -85,13 +85,13 @@ class Mending:
     def lines(self) -> tuple[list[str], int]:
         """What is said, and the status."""
         shown = list(self.questions.shown(self.questions.model_path))
-        stated = [outcome for outcome in shown if self.program.is_stated(outcome)]
-        others = [outcome for outcome in shown if not self.program.is_stated(outcome)]
+        stated = self.program.stated
+        others = [outcome for outcome in shown if outcome != stated]
         allowed = None
         if self.memory_model in self.machines.names:
             allowed = outcomes_allowed(self.questions, self.machines, self.memory_model)
         kept = others if allowed is None else [outcome for outcome in others if outcome in allowed]
-        is_allowed = None if allowed is None else any(outcome in allowed for outcome in stated)
+        is_allowed = None if allowed is None else stated in allowed
         found = Search(self.questions, stated, kept).found()
         lines = [*self.telling.heading(is_allowed, len(others), len(kept)), "", *self.orders(found, kept)]
         is_mended = any(not order.lost for order in found.orders)

@@ -1,6 +1,7 @@
 """Questions to the program, each a call: what it says of copies of a test, and of formulas on them."""
 import os
 import tempfile
+from functools import cache
 from typing import Iterator, Sequence
 
 from second.answers import Asked, read_answer
@@ -34,6 +35,8 @@ class Questions:
         self.program = program
         self.names = names
         self.nodes = NodeNames(model, program.case)
+        # the same few nodes come in each run
+        self.read = cache(self.nodes.read)
         self.paths: dict[Outcome, str] = {}
         self.count = 0
 
@@ -69,7 +72,7 @@ class Questions:
     def world(self, outcome: Outcome) -> World:
         """A run that shows an outcome which is observable."""
         said = self.called("check", self.model_path, self.path_of(outcome))
-        return World(self.nodes, said.decode("ascii").split("\n")[2:-2])
+        return World(self.read, said.decode("ascii").split("\n")[2:-2])
 
     def worlds(self, outcome: Outcome, orders: Sequence[Sequence[Edge]]) -> list[World]:
         """Runs that show an outcome, one with all edges of one of these orders, and one with those of none; none where
@@ -80,7 +83,7 @@ class Questions:
         assert isinstance(answer, Asked)
         if answer.word not in ("always", "sometimes"):
             return []
-        return [World(self.nodes, part.lines[2:-1]) for part in answer.parts if part.lines[0] == OBSERVABLE]
+        return [World(self.read, part.lines[2:-1]) for part in answer.parts if part.lines[0] == OBSERVABLE]
 
     def pattern(self, final: Final) -> bytes:
         """The program with its reads open, and these final values."""

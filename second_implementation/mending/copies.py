@@ -2,17 +2,15 @@
 outcomes of its program, of each of which there is such a copy.
 """
 from dataclasses import dataclass, replace
-from itertools import product
+from itertools import islice, product
 from typing import Iterator
 
 from second.cases import Address, Case, Entry, EntryAddress, Op, Page, Value
-from second.linting_asked import Asked
-from second.models import Model
 from second.patterns import values_at
 
-# how many outcomes of a program are looked at, and how many final values of it beside each other
+# how many outcomes of a program are looked at, and how many final values among them
 MOST_OUTCOMES = 256
-MOST_FINALS = 16
+MOST_FINALS = 64
 NAME = "Named"
 
 Final = tuple[tuple[Address, Value], ...]
@@ -28,8 +26,8 @@ class Outcome:
 
 @dataclass(frozen=True)
 class Program:
-    """A test without its outcome: the reads that are left open, by their places; what each may get; and the final
-    values that are told apart, those that the test states first."""
+    """A test without its outcome: the reads that are left open, by their places; what each may get; and what the addresses
+    may have at the end of which the test states that."""
 
     case: Case
     opens: tuple[int, ...]
@@ -46,11 +44,6 @@ class Program:
         """The outcomes with these final values, as a sweep has its rows."""
         return (Outcome(reads, final) for reads in product(*self.choices))
 
-    def is_stated(self, outcome: Outcome) -> bool:
-        """Whether an outcome is one of those that the test states."""
-        stated = self.stated
-        return outcome.reads == stated.reads and dict(outcome.final).items() >= dict(stated.final).items()
-
     def case_of(self, outcome: Outcome) -> Case:
         """The test that states an outcome."""
         ops = self.case.ops[:]
@@ -59,18 +52,10 @@ class Program:
         return replace(self.case, ops=ops, final=dict(outcome.final))
 
 
-def program_of(case: Case, model: Model) -> Program:
-    """The program of a test. Of an address with several writes the final values are told apart too, where the model
-    asks for final values; of a large program fewer of them are, and fewer reads are open."""
-    asks_final = "DataFromFinalStateAtPA" in Asked(model).predicates
-    stated = {address: final_values(case, address) for address in case.final}
-    others = [op.pa for op in case.ops if op.access == "Write" and op.pa is not None and op.pa not in stated]
-    several = {address: final_values(case, address) for address in others if others.count(address) > 1}
-    addresses = dict(stated)
-    for address, values in several.items() if asks_final else ():
-        if size([*addresses.values(), values]) <= MOST_FINALS:
-            addresses[address] = values
-    finals = [tuple(zip(addresses, values)) for values in product(*addresses.values())][:MOST_OUTCOMES]
+def program_of(case: Case) -> Program:
+    """The program of a test. Of a large one fewer reads are open."""
+    addresses = {address: final_values(case, address) for address in case.final}
+    finals = [tuple(zip(addresses, values)) for values in islice(product(*addresses.values()), MOST_FINALS)]
     opens: list[int] = []
     choices: list[tuple[Value, ...]] = []
     for place, op in enumerate(case.ops):

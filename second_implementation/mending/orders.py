@@ -19,7 +19,7 @@ from .worlds import Edge, World
 
 # how many edges one question is about, and how many are asked about at all: the nearest
 AT_ONCE = 48
-MOST_EDGES = 4000
+MOST_EDGES = 2000
 FEW_TOGETHER = 12
 # how many are counted by the outcomes that they lose, where all lose some
 MOST_COUNTED = 400
@@ -57,9 +57,9 @@ class Found:
 
 
 class Search:
-    """Looks for orders that forbid outcomes and keep others."""
+    """Looks for orders that forbid an outcome and keep others."""
 
-    def __init__(self, questions: Questions, stated: Sequence[Outcome], others: Sequence[Outcome]) -> None:
+    def __init__(self, questions: Questions, stated: Outcome, others: Sequence[Outcome]) -> None:
         self.questions = questions
         self.program = questions.program
         self.case = questions.program.case
@@ -67,10 +67,10 @@ class Search:
         self.stated = stated
         self.others = others
         # all runs that the program has shown, by their outcomes
-        self.worlds = {outcome: [questions.world(outcome)] for outcome in [*stated, *others]}
+        self.worlds = {outcome: [questions.world(outcome)] for outcome in [stated, *others]}
 
     def found(self) -> Found:
-        """The orders that forbid the stated outcomes and keep as many of the others as can be. One edge is tried before
+        """The orders that forbid the stated outcome and keep as many of the others as can be. One edge is tried before
         all edges of a relation, and what holds of all values before what holds of those that the outcome has."""
         edges = self.edges()
         single = self.judged([Order((Part(edge),), self.relations.of(edge)) for edge in edges])
@@ -115,13 +115,14 @@ class Search:
 
     def narrowed(self, orders: Iterable[Order]) -> list[Order]:
         """Of orders that lose outcomes those that lose none where the reads among their micro-ops get what the outcome
-        says, and that some outcome is kept with. What two micro-ops get has to do with each other where they are akin."""
+        says, and that some outcome is kept with. They are between one read and what is akin to it."""
         narrow = []
         for order in orders:
             if not any(map(partial(self.is_as_stated, order), order.lost)):
                 edge = order.parts[0].edge
                 parts = tuple(replace(part, where=self.reads(part.edge)) for part in order.parts)
-                narrow.append(Order(parts, self.relations.of(edge, self.case)))
+                if all(len(part.where) < 2 for part in parts):
+                    narrow.append(Order(parts, self.relations.of(edge, self.case)))
         narrow = [order for order in narrow if any(self.active(order, outcome) for outcome in self.others)]
         for outcome in self.others:
             some = [order for order in narrow if 0 < len(self.active(order, outcome)) < len(order.parts)]
@@ -155,10 +156,9 @@ class Search:
     # what the program says
 
     def judged(self, orders: Sequence[Order]) -> list[Order]:
-        """Those of the orders that forbid the stated outcomes, with others that they lose: all of them, where each has
+        """Those of the orders that forbid the stated outcome, with others that they lose: all of them, where each has
         other values than the test; and one that has the same."""
-        for outcome in self.stated:
-            orders = self.never(outcome, orders)
+        orders = self.never(self.stated, orders)
         lost: dict[Order, list[Outcome]] = {order: [] for order in orders}
         useless: set[Order] = set()
         for outcome in self.others:

@@ -1,9 +1,8 @@
 """The runs that the program answers with: graphs, and which of their nodes are before which."""
 from collections import Counter
-from typing import Iterable
+from typing import Callable, Iterable
 
 from second.grounding import Node
-from second.positions import NodeNames
 
 Edge = tuple[Node, Node]
 
@@ -11,15 +10,15 @@ Edge = tuple[Node, Node]
 class World:
     """A run: its nodes, and all that is before another one."""
 
-    def __init__(self, names: NodeNames, lines: Iterable[str]) -> None:
+    def __init__(self, read: Callable[[str], Node | None], lines: Iterable[str]) -> None:
         self.later: dict[Node, set[Node]] = {}
         for line in lines:
             word, *nodes = line.split(" ")
-            read = [node for node in map(names.read, nodes) if node is not None]
+            known = [node for node in map(read, nodes) if node is not None]
             if word == "node":
-                self.later.setdefault(read[0], set())
+                self.later.setdefault(known[0], set())
             elif word == "edge":
-                self.later[read[0]].add(read[1])
+                self.later[known[0]].add(known[1])
         for node in self.backwards():
             self.later[node] = self.later[node].union(*(self.later[end] for end in self.later[node]))
 
