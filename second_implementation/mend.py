@@ -1,0 +1,187 @@
+#!/usr/bin/env python3
+"""Names the order that a model lacks, of an outcome that it shows. The program says all verdicts.
+
+    mend.py MODEL TEST
+
+The exit status is 0 where an order is named that forbids the outcome and keeps what else the program does, 1 where there
+is none or the model does not show the outcome, 3 where a file is refused, 4 where one cannot be read, 5 where standard
+output could not be written, 7 where memory was refused, and 125 where this program fails.
+"""
+import os
+import signal
+import sys
+import tempfile
+from types import FrameType
+from typing import Iterator
+
+from mending.allowed import outcomes_allowed
+from mending.asking import Questions, Unanswered, answer_of
+from mending.copies import Names, Outcome, program_of
+from mending.orders import Found, Search
+from mending.suite_tests import SuiteTests
+from mending.telling import MOST_SHOWN, MOST_STRONGER, TITLE, Telling
+from second.listings import ENDING, read_file_items
+from second.memory_models import memory_model_of
+from second.naming import Names as ModelNames
+from second.scopes import read_model
+from second.standard_output import FAILED, UNREAD, status_of
+from second.wrapping import width_of_output, within
+from suite.allowing import Machines
+from suite.calling import Calls, side_by_side
+from suite.pairs import Checker
+from suite.programs import checker_of
+from suite.refusing import Interrupted, Refusal
+
+TOP = os.path.dirname(os.path.dirname(os.path.realpath(__file__)))
+LIMIT = 1_048_576
+# how long one call of the program may take, in seconds
+SECONDS = 60.0
+ENDING_SIGNALS = (signal.SIGHUP, signal.SIGINT, signal.SIGQUIT, signal.SIGTERM)
+# of `check`, and those of a call without an answer that stand for themselves
+SHOWN, NOT_SHOWN, REFUSED, NO_MEMORY = 0, 1, 3, 7
+
+
+class Said(Exception):
+    """The program says the answer itself: its status, and what it wrote."""
+
+    def __init__(self, status: int, text: str) -> None:
+        super().__init__(text)
+        self.status = status
+        self.text = text
+
+
+def contents(path: str) -> bytes:
+    """The bytes of a file, with one more than the limit where there are more."""
+    with open(path, "rb") as file:
+        return file.read(LIMIT + 1)
+
+
+def checked(questions_of: Checker, model_path: str, test_path: str) -> None:
+    """Has the program check the files; what is no verdict, and that nothing is to mend, is all that is said."""
+    word = "check86" if test_path.endswith(ENDING) else "check"
+    try:
+        said = answer_of(questions_of, word, model_path, test_path, statuses=(SHOWN, NOT_SHOWN))
+    except Unanswered as unanswered:
+        if unanswered.status in (REFUSED, NO_MEMORY):
+            raise Said(unanswered.status, unanswered.said.decode("ascii", "replace")) from unanswered
+        raise
+    if said.startswith(b"unobservable"):
+        raise Said(1, "The model does not show this outcome: there is nothing to mend. `core` says what forbids it.\n")
+
+
+class Mending:
+    """A model and a test whose outcome it shows."""
+
+    def __init__(self, checker: Checker, folder: str, model_text: bytes, test_path: str, test_text: bytes) -> None:
+        model = read_model(model_text)
+        case, _ = read_file_items(test_path, test_text)
+        self.checker = checker
+        self.program = program_of(case)
+        self.questions = Questions(checker, folder, model, model_text, self.program, Names(model_text, test_text))
+        self.machines = Machines(os.path.join(TOP, "tests", "machines"))
+        self.memory_model = memory_model_of(model_text).name
+        self.telling = Telling(ModelNames(model, case, model_text), self.program, self.memory_model)
+
+    def lines(self) -> tuple[list[str], int]:
+        """What is said, and the status."""
+        shown = list(self.questions.shown(self.questions.model_path))
+        stated = self.program.stated
+        others = [outcome for outcome in shown if outcome != stated]
+        allowed = None
+        if self.memory_model in self.machines.names:
+            allowed = outcomes_allowed(self.questions, self.machines, self.memory_model)
+        kept = others if allowed is None else [outcome for outcome in others if outcome in allowed]
+        is_allowed = None if allowed is None else stated in allowed
+        found = Search(self.questions, stated, kept).found()
+        lines = [*self.telling.heading(is_allowed, len(others), len(kept)), "", *self.orders(found, kept)]
+        is_mended = any(not order.lost for order in found.orders)
+        return [*lines, f"The program was asked {self.questions.count} times."], 0 if is_mended else 1
+
+    def orders(self, found: Found, kept: list[Outcome]) -> Iterator[str]:
+        """The orders, the first of them with their axioms, and then those that order more."""
+        if not found.orders:
+            yield "No order of two nodes forbids it and keeps some other outcome."
+        elif found.orders[0].lost:
+            yield "No order forbids it and keeps all of these. The ones that lose the fewest:"
+        else:
+            yield "Each of these orders forbids it and keeps all of these; the nearest first:"
+        yield ""
+        tests = SuiteTests(self.checker, TOP, self.memory_model, self.questions.model_path) if found.orders else None
+        for order in found.orders[:MOST_SHOWN]:
+            yield self.telling.order(order)
+            yield from self.telling.lost(order)
+            if order.relation is not None and tests is not None:
+                axiom = order.relation.axiom(self.questions.model, TITLE)
+                path = self.questions.model_with("\n".join(axiom))
+                shown = set(self.questions.shown(path))
+                counts = tests.counts(path) if tests.is_known else None
+                yield from self.telling.axiom(axiom, sum(it in shown for it in kept), len(kept), counts)
+            yield ""
+        more = [*found.orders[MOST_SHOWN:], *found.stronger]
+        if more:
+            yield "These do it as well, and most of them order more:"
+            yield from (f"    {self.telling.order(order)}" for order in more[:MOST_STRONGER])
+            if len(more) > MOST_STRONGER:
+                yield f"    and {len(more) - MOST_STRONGER} more"
+            yield ""
+
+
+def answer(model_path: str, test_path: str) -> tuple[list[str], int]:
+    """What is said of the files, and the status."""
+    model_text, test_text = contents(model_path), contents(test_path)
+    calls = Calls()
+    checker = checker_of(os.environ, TOP, SECONDS, calls)
+    with tempfile.TemporaryDirectory() as folder:
+        paths = os.path.join(folder, "given.uspec"), os.path.join(folder, f"given{os.path.splitext(test_path)[1]}")
+        for path, text in zip(paths, (model_text, test_text)):
+            with open(path, "wb") as file:
+                file.write(text)
+
+        def work() -> tuple[list[str], int]:
+            checked(checker, *paths)
+            return Mending(checker, folder, model_text, test_path, test_text).lines()
+
+        # a signal comes to this thread, and ends the calls of the other one
+        (said,) = side_by_side(calls, 1, [work], lambda _, __: None)
+    return said
+
+
+def main(model_path: str, test_path: str) -> int:
+    """Writes what is said of the files, and answers the exit status."""
+    try:
+        lines, status = answer(model_path, test_path)
+    except Said as said:
+        print(said.text, end="")
+        return said.status
+    except (Refusal, Unanswered) as problem:
+        print(f"pipecheck: {str(problem).removeprefix('suite: ')}", file=sys.stderr)
+        return FAILED
+    except OSError as error:
+        return UNREAD if error.filename in (model_path, test_path) else unkept(error)
+    except Interrupted as interrupted:
+        signal.signal(interrupted.number, signal.SIG_DFL)
+        os.kill(os.getpid(), interrupted.number)
+        return FAILED
+    for line in within(lines, width_of_output()):
+        print(line)
+    return status
+
+
+def unkept(error: OSError) -> int:
+    """That a temporary file could not be made."""
+    print(f"pipecheck: mend: {error.strerror}: {tempfile.gettempdir()}; TMPDIR names another folder", file=sys.stderr)
+    return FAILED
+
+
+def interrupt(number: int, _: FrameType | None) -> None:
+    """Ends this program, once."""
+    for other in ENDING_SIGNALS:
+        signal.signal(other, signal.SIG_IGN)
+    raise Interrupted(number)
+
+
+if __name__ == "__main__":
+    for signal_number in ENDING_SIGNALS:
+        if signal.getsignal(signal_number) is not signal.SIG_IGN:
+            signal.signal(signal_number, interrupt)
+    sys.exit(status_of(main, sys.argv[1:]))
