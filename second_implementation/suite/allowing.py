@@ -85,9 +85,13 @@ class Machines:
         """Whether there are any."""
         return bool(self.names)
 
-    def command(self, name: str, seconds: float) -> list[str]:
-        """What says of test after test what the machine of this name allows, each within these seconds."""
-        return [*PYTHON, os.path.join(self.folder, "verdicts.py"), name, "--within", str(math.ceil(seconds) + 1)]
+    def command(self, name: str, *words: str) -> list[str]:
+        """What says what the machine of this name allows of a test, which the word names."""
+        return [*PYTHON, os.path.join(self.folder, "verdicts.py"), name, *words]
+
+    def command_of_many(self, name: str, seconds: float) -> list[str]:
+        """What says it of test after test, each within these seconds."""
+        return self.command(name, "--within", str(math.ceil(seconds) + 1))
 
 
 class MemoryModels:

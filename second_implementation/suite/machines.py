@@ -112,7 +112,7 @@ class Judges:
             self.end(machine)
             machine = None
         if machine is None:
-            machine = Machine(name, self.machines.command(name, self.seconds), self.calls)
+            machine = Machine(name, self.machines.command_of_many(name, self.seconds), self.calls)
             self.by_thread[threading.get_ident()] = machine
         return machine
 
