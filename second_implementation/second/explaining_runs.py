@@ -96,10 +96,10 @@ class Run:
         while ready:
             node = self.nodes[heapq.heappop(ready)]
             found.append(node)
-            for end in map(numbers.__getitem__, self.after[node]):
-                before[end] -= 1
-                if before[end] == 0:
-                    heapq.heappush(ready, end)
+            for number in (numbers[end] for end in self.after[node]):
+                before[number] -= 1
+                if before[number] == 0:
+                    heapq.heappush(ready, number)
         return found
 
     def origins(self) -> dict[Edge, Origin | None]:

@@ -113,7 +113,7 @@ class Search:
             return bool(self.choice(("type", word, ops[0]), (True, False)))
         if name == "HasDependency":
             return bool(self.choice(("dependency", word, *ops), (True, False)))
-        return RULES[name](self, *ops)
+        return OF_ONE[name](self, ops[0]) if name in OF_ONE else OF_TWO[name](self, ops[0], ops[1])
 
     # what micro-ops are
 
@@ -123,8 +123,7 @@ class Search:
 
     def core(self, op: int) -> int:
         """The core of a micro-op."""
-        number = self.counted("core", "of", op)
-        return number
+        return self.counted("core", "of", op)
 
     def named_core(self, value: Value) -> int:
         """The core of a variable or of a number, which are the same for two numbers that are the same."""
@@ -207,7 +206,7 @@ class Search:
         return bool(maps) and bool(self.choice((mark, "of", op), (False, True)))
 
 
-def of_accesses(part: Callable[[Search, int], object]) -> Callable[..., bool]:
+def of_accesses(part: Callable[[Search, int], object]) -> Callable[[Search, int, int], bool]:
     """Two accesses are alike in this part of them."""
     return lambda search, i, j: search.is_access(i) and search.is_access(j) and part(search, i) == part(search, j)
 
@@ -240,10 +239,16 @@ def maps_tag_of(search: Search, i: int, j: int) -> bool:
     return value[0] == "Maps" and value[1] == search.counted("tag", "physical", j)
 
 
-RULES: dict[str, Callable[..., bool]] = {
+OF_ONE: dict[str, Callable[[Search, int], bool]] = {
     "IsAnyRead": lambda search, i: search.access(i) == "Read",
     "IsAnyWrite": lambda search, i: search.access(i) == "Write",
     "IsAnyFence": lambda search, i: search.access(i) == "Fence",
+    "DataFromInitialStateAtPA": lambda search, i: search.is_stated(i, "Init"),
+    "DataFromFinalStateAtPA": lambda search, i: search.is_stated(i, "Final"),
+    "MarkedAccessed": lambda search, i: search.is_marked(i, "accessed"),
+    "MarkedDirty": lambda search, i: search.is_marked(i, "dirty"),
+}
+OF_TWO: dict[str, Callable[[Search, int, int], bool]] = {
     "SameCore": lambda search, i, j: search.core(i) == search.core(j),
     "SameThread": lambda search, i, j: search.counted("thread", i) == search.counted("thread", j),
     "SameMicroop": lambda search, i, j: i == j,
@@ -256,10 +261,6 @@ RULES: dict[str, Callable[..., bool]] = {
     "SamePhysicalTag": same_physical_tag,
     "SameIndex": of_accesses(lambda search, i: search.counted("index", "virtual", i)),
     "SameData": of_accesses(Search.data),
-    "DataFromInitialStateAtPA": lambda search, i: search.is_stated(i, "Init"),
-    "DataFromFinalStateAtPA": lambda search, i: search.is_stated(i, "Final"),
     "EntryOf": entry_of,
     "MapsTagOf": maps_tag_of,
-    "MarkedAccessed": lambda search, i: search.is_marked(i, "accessed"),
-    "MarkedDirty": lambda search, i: search.is_marked(i, "dirty"),
 }
