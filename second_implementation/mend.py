@@ -92,8 +92,11 @@ class Mending:
             allowed = outcomes_allowed(self.questions, self.machines, self.memory_model)
         kept = others if allowed is None else [outcome for outcome in others if outcome in allowed]
         is_allowed = None if allowed is None else stated in allowed
+        heading = [*self.telling.heading(is_allowed, len(others), len(kept)), ""]
+        if not kept:
+            return [*heading, "So no order can be told from one that forbids the whole program: take a test with more."], 1
         found = Search(self.questions, stated, kept).found()
-        lines = [*self.telling.heading(is_allowed, len(others), len(kept)), "", *self.orders(found, kept)]
+        lines = [*heading, *self.orders(found, kept)]
         is_mended = bool(found.choices) or any(not order.lost for order in found.orders)
         return [*lines, f"The program was asked {self.questions.count} times."], 0 if is_mended else 1
 
