@@ -19,7 +19,7 @@ from mending.asking import Questions, Unanswered, answer_of
 from mending.copies import Names, Outcome, program_of
 from mending.orders import Found, Search
 from mending.suite_tests import SuiteTests
-from mending.telling import MOST_SHOWN, MOST_STRONGER, TITLE, Telling
+from mending.telling import MOST_CHOICES, MOST_SHOWN, MOST_STRONGER, TITLE, Telling
 from second.listings import ENDING, read_file_items
 from second.memory_models import memory_model_of
 from second.naming import Names as ModelNames
@@ -113,7 +113,7 @@ class Mending:
         yield ""
         is_counted = bool(found.orders or found.choices)
         tests = SuiteTests(self.checker, TOP, self.memory_model, self.questions.model_path) if is_counted else None
-        for choice in found.choices[:MOST_SHOWN]:
+        for choice in found.choices[:MOST_CHOICES]:
             yield from self.telling.choice(choice)
             yield from self.axiom(choice.axiom(self.questions.model, TITLE), tests, kept)
             yield ""

@@ -15,7 +15,7 @@ from second.grounding import Node
 from .asking import Questions
 from .choices import Choice
 from .copies import Outcome
-from .relations import Place, Relation, Relations
+from .relations import OWN, Place, Relation, Relations
 from .worlds import Edge, World
 
 # how many edges one question is about, and how many are asked about at all: the nearest
@@ -145,14 +145,16 @@ class Search:
         return outcome.reads[self.program.opens.index(op)]
 
     def choices(self) -> list[Choice]:
-        """The orders of reads before newer writes, by the places of nodes."""
+        """The orders of reads before newer writes, by the places of nodes: first at what all cores share, late places of
+        writes before early ones, and early places of reads, which order less, before late ones."""
         nodes = self.worlds[self.stated][0].nodes
         places: dict[str, list[Place]] = {"Read": [], "Write": [], "Fence": []}
         for node in nodes:
             place = self.relations.place(node, node[0])
             if place is not None:
                 places[self.case.ops[node[0]].access].append(place)
-        return [Choice(read, write) for write in dict.fromkeys(places["Write"]) for read in dict.fromkeys(places["Read"])]
+        found = [Choice(read, write) for write in dict.fromkeys(places["Write"]) for read in dict.fromkeys(places["Read"])]
+        return sorted(found, key=lambda it: (it.write.core == OWN, -it.write.stage, it.read.core == OWN, it.read.stage))
 
     def keeps_all(self, choice: Choice) -> bool:
         """Whether a choice forbids the stated outcome and no other."""

@@ -14,6 +14,7 @@ from .suite_tests import Counts
 TITLE = "mend"
 # how many orders are shown with an axiom, and how many that order more
 MOST_SHOWN = 4
+MOST_CHOICES = 2
 MOST_STRONGER = 24
 
 
