@@ -11,10 +11,12 @@ import os
 import re
 import sys
 
+from second.expecting import sentence_of
 from second.linting import QueryFile, TestFile, read_query_file, read_test, slips
 from second.linting_lines import line_of
 from second.models import Model
 from second.queries import InModel
+from second.quoting import shown
 from second.scopes import read_model
 from second.standard_output import UNREAD, status_of
 from second.tokens import Fault
@@ -50,6 +52,11 @@ def sentence(kind: str, word: str) -> str:
     return found.group(1) if found else ""
 
 
+def is_test(text: bytes) -> bool:
+    """Whether a text has the form of a test."""
+    return re.search(rb'^[ \t]*Litmus2?[ \t]+"', text, re.MULTILINE) is not None
+
+
 class Files:
     """The files that are read, by their paths; and whether one was refused."""
 
@@ -83,6 +90,11 @@ class Files:
         """The line of a fault."""
         self.is_refused = True
         print(line_of(path, self.texts[path], fault.place, f"{fault.word}: {sentence(kind, fault.word)}"))
+        expected = sentence_of(fault)
+        if expected:
+            print(f"pipecheck: {expected}", file=sys.stderr)
+        if fault.word == "syntax" and kind == "model" and is_test(self.texts[path]):
+            print(f"pipecheck: {shown(path)} is a test, and stands for the model: lint MODEL [TEST..] [QUERY..]", file=sys.stderr)
 
 
 def main(model_path: str, *paths: str) -> int:

@@ -300,7 +300,7 @@ class CaseReader(Reader):
     def types(self) -> tuple[tuple[str, int], ...]:
         """All names that follow, with their places."""
         found = []
-        while self.next.kind == "name":
+        while self.sees_kind("name"):
             token = self.take()
             found.append((token.piece, token.at))
         return tuple(found)

@@ -106,7 +106,9 @@ class Linter:
             for item in self.model.items
             if (item.at in places if isinstance(item, Axiom) else item.name.name in self.asked.expanded)
         ]
-        return Parts(self.path, self.model, self.has_entries).slips(items)
+        # an access at an entry has no physical tag
+        may_be_at_entries = self.has_entries or "SamePhysicalTag" in self.asked.predicates
+        return Parts(self.path, self.model, may_be_at_entries).slips(items)
 
     def shared_slips(self) -> Iterator[Slip]:
         """What is said of a test beside the model, and in other words of other tests: one line each."""

@@ -11,6 +11,7 @@ RESERVED = frozenset(
 )
 NAME = re.compile(r"[A-Za-z][A-Za-z0-9_']*\Z")
 OPENERS = 128
+QUOTED_NAME = "a name in quotes"
 # the connectives, the loosest first
 CONNECTIVES = ("=>", "\\/", "/\\")
 
@@ -200,7 +201,7 @@ class ModelReader(Reader):
         """A macro, after its first word."""
         name = self.quoted_name()
         parameters = []
-        while self.next.kind == "text":
+        while self.sees_kind("text", QUOTED_NAME):
             parameters.append(self.quoted_name())
         return Macro(name, tuple(parameters), self.body())
 
@@ -213,14 +214,16 @@ class ModelReader(Reader):
 
     def quoted_name(self) -> Word:
         """A text whose content is a name that is not reserved."""
-        if self.next.kind != "text" or not NAME.match(self.next.content) or self.next.content in RESERVED:
+        is_reserved = self.next.kind == "text" and self.next.content in RESERVED
+        is_text = self.sees_kind("text", f"{QUOTED_NAME}, and no reserved word," if is_reserved else QUOTED_NAME)
+        if not is_text or is_reserved or not NAME.match(self.next.content):
             raise self.refuse()
         token = self.take()
         return Word(token.content, token.at)
 
     def is_name(self) -> bool:
         """Whether a name that is not reserved comes next."""
-        return self.next.kind == "name" and self.next.piece not in RESERVED
+        return self.sees_kind("name") and self.next.piece not in RESERVED
 
     def name(self) -> Word:
         """A name that is not reserved."""
@@ -288,9 +291,11 @@ class ModelReader(Reader):
         """A predicate, a list of nodes or edges, or an expansion."""
         if self.is_name():
             return Static(self.name(), self.args())
-        first = self.expect(
-            "AddEdge", "EdgeExists", "AddEdges", "EdgesExist", "NodeExists", "NodesExist", "ExpandMacro"
-        )
+        if not self.sees("AddEdge", "EdgeExists", "AddEdges", "EdgesExist", "NodeExists", "NodesExist", "ExpandMacro"):
+            # what begins one is more than a line has room for
+            self.looked_for[:] = ["a formula"]
+            raise self.refuse()
+        first = self.take()
         if first.piece == "ExpandMacro":
             return Expand(first.at, self.name(), self.args())
         if first.piece in ("AddEdge", "EdgeExists"):
@@ -315,13 +320,13 @@ class ModelReader(Reader):
     def args(self) -> tuple[Arg, ...]:
         """All names and numbers that follow."""
         found = []
-        while self.is_name() or self.next.kind == "number":
+        while self.is_name() or self.sees_kind("number"):
             found.append(self.arg())
         return tuple(found)
 
     def arg(self) -> Arg:
         """A name or a number."""
-        if self.next.kind == "number":
+        if self.sees_kind("number"):
             token = self.take()
             return Number(int(token.piece), token.at)
         return self.name()

@@ -20,8 +20,7 @@ def read_query(data: bytes, model: Model) -> Formula:
     denial as the last axiom of a model that has no fault itself."""
     reader = ModelReader(tokens(data))
     formula = reader.formula()
-    if reader.next.kind != "end":
-        raise reader.refuse()
+    reader.expect_kind("end")
     asked = with_axiom(model, Not(formula))
     judge_macros(asked)
     judge_sizes(asked)

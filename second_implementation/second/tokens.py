@@ -18,13 +18,19 @@ PIECE = re.compile(
 )
 
 
-class Fault(Exception):
-    """The first fault of a file: its word, and its place as a number of bytes before it."""
+# how what could stand at a place is called, by its kind
+KINDS = {"name": "a name", "number": "a number", "text": "a text in quotes", "end": "the end of the file"}
 
-    def __init__(self, word: str, place: int) -> None:
+
+class Fault(Exception):
+    """The first fault of a file: its word, and its place as a number of bytes before it. One of syntax has what could
+    stand there, too."""
+
+    def __init__(self, word: str, place: int, expected: tuple[str, ...] = ()) -> None:
         super().__init__(f"{word} at byte {place}")
         self.word = word
         self.place = place
+        self.expected = expected
 
 
 @dataclass(frozen=True)
@@ -62,11 +68,13 @@ def tokens(data: bytes, piece: re.Pattern[bytes] = PIECE, start: int = 0) -> lis
 
 
 class Reader:
-    """Walks over tokens. What it does not find at its place is a fault of syntax there."""
+    """Walks over tokens. What it does not find at its place is a fault of syntax there. What it looked for since the last
+    token is what could stand there."""
 
     def __init__(self, all_tokens: list[Token]) -> None:
         self.all_tokens = all_tokens
         self.next_index = 0
+        self.looked_for: list[str] = []
 
     @property
     def next(self) -> Token:
@@ -77,14 +85,16 @@ class Reader:
         """The next token, which is left after it."""
         token = self.next
         self.next_index += 1
+        self.looked_for.clear()
         return token
 
     def refuse(self) -> Fault:
         """The fault that no text goes on with the next token."""
-        return Fault("syntax", self.next.at)
+        return Fault("syntax", self.next.at, tuple(dict.fromkeys(self.looked_for)))
 
     def sees(self, *pieces: str) -> bool:
         """Whether the next token is one of these names or symbols."""
+        self.looked_for += [f"`{piece}`" for piece in pieces]
         return self.next.kind in ("name", "symbol") and self.next.piece in pieces
 
     def expect(self, *pieces: str) -> Token:
@@ -93,9 +103,14 @@ class Reader:
             raise self.refuse()
         return self.take()
 
+    def sees_kind(self, kind: str, called: str = "") -> bool:
+        """Whether the next token is of this kind, which may be called otherwise at this place."""
+        self.looked_for.append(called or KINDS[kind])
+        return self.next.kind == kind
+
     def expect_kind(self, kind: str) -> Token:
         """The next token, which has to be of this kind."""
-        if self.next.kind != kind:
+        if not self.sees_kind(kind):
             raise self.refuse()
         return self.take()
 
