@@ -261,10 +261,10 @@ def prove(tree: Tree, name: str, processes: Processes, where: str, work: str) ->
     for part, spent in time_functions(name, work, begun).items():
         tree.functions[f"{name}::{part.replace('.', '::')}"] = spent * scale
     if not tree.is_program(name):
+        # one that a call left which was ended may be there
+        shutil.rmtree(tree.rlib(name), ignore_errors=True)
         os.makedirs(os.path.dirname(tree.rlib(name)), exist_ok=True)
-        for it in os.listdir(where):
-            if it.startswith(name) and it not in PROVED:
-                shutil.move(f"{where}/{it}", f"{os.path.dirname(tree.rlib(name))}/{it}")
+        shutil.move(made, tree.rlib(name))
     return seconds
 
 
