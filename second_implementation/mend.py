@@ -19,7 +19,7 @@ from mending.asking import Questions, Unanswered, answer_of
 from mending.copies import Names, Outcome, program_of
 from mending.orders import Found, Search
 from mending.suite_tests import SuiteTests
-from mending.telling import MOST_SHOWN, MOST_STRONGER, TITLE, Telling
+from mending.telling import MOST_CHOICES, MOST_SHOWN, MOST_STRONGER, TITLE, Telling
 from second.listings import ENDING, read_file_items
 from second.memory_models import memory_model_of
 from second.naming import Names as ModelNames
@@ -92,30 +92,36 @@ class Mending:
             allowed = outcomes_allowed(self.questions, self.machines, self.memory_model)
         kept = others if allowed is None else [outcome for outcome in others if outcome in allowed]
         is_allowed = None if allowed is None else stated in allowed
+        heading = [*self.telling.heading(is_allowed, len(others), len(kept)), ""]
+        if not kept:
+            return [*heading, "So no order can be told from one that forbids the whole program: take a test with more."], 1
         found = Search(self.questions, stated, kept).found()
-        lines = [*self.telling.heading(is_allowed, len(others), len(kept)), "", *self.orders(found, kept)]
-        is_mended = any(not order.lost for order in found.orders)
+        lines = [*heading, *self.orders(found, kept)]
+        is_mended = bool(found.choices) or any(not order.lost for order in found.orders)
         return [*lines, f"The program was asked {self.questions.count} times."], 0 if is_mended else 1
 
     def orders(self, found: Found, kept: list[Outcome]) -> Iterator[str]:
         """The orders, the first of them with their axioms, and then those that order more."""
-        if not found.orders:
+        if found.choices:
+            yield "No order of two nodes forbids it and keeps all of these. These choices do:"
+        elif not found.orders:
             yield "No order of two nodes forbids it and keeps some other outcome."
         elif found.orders[0].lost:
             yield "No order forbids it and keeps all of these. The ones that lose the fewest:"
         else:
             yield "Each of these orders forbids it and keeps all of these; the nearest first:"
         yield ""
-        tests = SuiteTests(self.checker, TOP, self.memory_model, self.questions.model_path) if found.orders else None
+        is_counted = bool(found.orders or found.choices)
+        tests = SuiteTests(self.checker, TOP, self.memory_model, self.questions.model_path) if is_counted else None
+        for choice in found.choices[:MOST_CHOICES]:
+            yield from self.telling.choice(choice)
+            yield from self.axiom(choice.axiom(self.questions.model, TITLE), tests, kept)
+            yield ""
         for order in found.orders[:MOST_SHOWN]:
             yield self.telling.order(order)
             yield from self.telling.lost(order)
-            if order.relation is not None and tests is not None:
-                axiom = order.relation.axiom(self.questions.model, TITLE)
-                path = self.questions.model_with("\n".join(axiom))
-                shown = set(self.questions.shown(path))
-                counts = tests.counts(path) if tests.is_known else None
-                yield from self.telling.axiom(axiom, sum(it in shown for it in kept), len(kept), counts)
+            if order.relation is not None:
+                yield from self.axiom(order.relation.axiom(self.questions.model, TITLE), tests, kept)
             yield ""
         more = [*found.orders[MOST_SHOWN:], *found.stronger]
         if more:
@@ -124,6 +130,13 @@ class Mending:
             if len(more) > MOST_STRONGER:
                 yield f"    and {len(more) - MOST_STRONGER} more"
             yield ""
+
+    def axiom(self, lines: list[str], tests: SuiteTests | None, kept: list[Outcome]) -> Iterator[str]:
+        """An axiom, with what it does to the program and to the shipped tests."""
+        path = self.questions.model_with("\n".join(lines))
+        shown = set(self.questions.shown(path))
+        counts = tests.counts(path) if tests is not None and tests.is_known else None
+        yield from self.telling.axiom(lines, sum(outcome in shown for outcome in kept), len(kept), counts)
 
 
 def answer(model_path: str, test_path: str) -> tuple[list[str], int]:

@@ -13,7 +13,7 @@ compadd() {
     print -rl -- 'candidate '\$^found
     builtin compadd \"\$@\"
 }
-show() { print begin; _main_complete; print end; zle kill-buffer }
+show() { print begin; _main_complete; print -- '<end>'; zle kill-buffer }
 zle -C show complete-word show
 bindkey '^I' show
 print ready"
@@ -23,7 +23,8 @@ zpty -w -n line "$2"$'\t'
 while zpty -r line text; do
     case $text in
     (*candidate\ *) print -r -- "${${text##*candidate }%%[$'\r\n']*}" ;;
-    (*end*) break ;;
+    # a word of the line that is typed may have these letters
+    (*'<end>'*) break ;;
     esac
 done
 zpty -d line

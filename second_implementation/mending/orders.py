@@ -13,8 +13,9 @@ from second.cases import Value
 from second.grounding import Node
 
 from .asking import Questions
+from .choices import Choice
 from .copies import Outcome
-from .relations import Relation, Relations
+from .relations import OWN, Place, Relation, Relations
 from .worlds import Edge, World
 
 # how many edges one question is about, and how many are asked about at all: the nearest
@@ -50,10 +51,12 @@ class Order:
 
 @dataclass(frozen=True)
 class Found:
-    """The orders that lose least, the nearest first; and those that order more than one of these."""
+    """The orders that lose least, the nearest first; those that order more than one of these; and where all lose some, the
+    choices of two edges that lose none."""
 
     orders: list[Order]
     stronger: list[Order]
+    choices: list[Choice]
 
 
 class Search:
@@ -82,13 +85,14 @@ class Search:
             best = [order for order in of_relations if not order.lost]
         if not best and not narrow:
             narrow = self.narrowed([order for order in self.judged(list(self.of_values(edges))) if order.lost])
-        if not best and not narrow:
+        choices = [] if best or narrow else [choice for choice in self.choices() if self.keeps_all(choice)]
+        if not best and not narrow and not choices:
             best = self.nearest(self.counted([*single, *of_relations][:MOST_COUNTED]))
         later = self.later()
         kept = self.weakest(best, best, later)
         kept_narrow = self.weakest(narrow, [*narrow, *best], later)
         more = [order for order in [*best, *narrow] if order not in kept and order not in kept_narrow]
-        return Found(self.sorted([*kept, *kept_narrow]), self.sorted(more))
+        return Found(self.sorted([*kept, *kept_narrow]), self.sorted(more), choices)
 
     # what is asked about
 
@@ -139,6 +143,25 @@ class Search:
     def gets(self, op: int, outcome: Outcome) -> Value:
         """What an open read gets."""
         return outcome.reads[self.program.opens.index(op)]
+
+    def choices(self) -> list[Choice]:
+        """The orders of reads before newer writes, by the places of nodes: first at what all cores share, late places of
+        writes before early ones, and early places of reads, which order less, before late ones."""
+        nodes = self.worlds[self.stated][0].nodes
+        places: dict[str, list[Place]] = {"Read": [], "Write": [], "Fence": []}
+        for node in nodes:
+            place = self.relations.place(node, node[0])
+            if place is not None:
+                places[self.case.ops[node[0]].access].append(place)
+        found = [Choice(read, write) for write in dict.fromkeys(places["Write"]) for read in dict.fromkeys(places["Read"])]
+        return sorted(found, key=lambda it: (it.write.core == OWN, -it.write.stage, it.read.core == OWN, it.read.stage))
+
+    def keeps_all(self, choice: Choice) -> bool:
+        """Whether a choice forbids the stated outcome and no other."""
+        formula = "\n".join(choice.formula(self.questions.model, "mend"))
+        return not self.questions.asked(self.stated, formula) and all(
+            self.questions.asked(outcome, formula) for outcome in self.others
+        )
 
     def reads(self, edge: Edge) -> tuple[int, ...]:
         """The open reads among the micro-ops of an edge."""

@@ -6,6 +6,7 @@ from second.explaining import key
 from second.naming import Names
 from second.patterns import value_text
 
+from .choices import Choice
 from .copies import Outcome, Program
 from .orders import Order
 from .suite_tests import Counts
@@ -13,6 +14,7 @@ from .suite_tests import Counts
 TITLE = "mend"
 # how many orders are shown with an axiom, and how many that order more
 MOST_SHOWN = 4
+MOST_CHOICES = 2
 MOST_STRONGER = 24
 
 
@@ -42,6 +44,12 @@ class Telling:
     def order(self, order: Order) -> str:
         """An order in one line."""
         return "add " + " and ".join(self.names.fact((*part.edge, True)) for part in order.parts) + self.where(order)
+
+    def choice(self, choice: Choice) -> Iterator[str]:
+        """A choice in the words of the test, a line for each read and write."""
+        for read, write, source in choice.nodes(self.case):
+            node = self.names.node
+            yield f"add {node(read)} before {node(write)}, or {node(write)} before {node(source)}"
 
     def where(self, order: Order) -> str:
         """Of which values an order is."""
