@@ -73,7 +73,10 @@ class Refutation:
     def lines(self) -> Iterator[str]:
         """The steps. Of a split one of whose sides closes at once a line says what the other one gives, which goes on
         there. Of any other one both branches follow, one level further in."""
-        yield "Each split is a choice that the model leaves, and each branch ends in what cannot be:"
+        if any(step.startswith("split ") for step in self.steps):
+            yield "Each split is a choice that the model leaves, and each branch ends in what cannot be:"
+        else:
+            yield "The model leaves no choice, and what it asks for cannot be:"
         if self.positions.constant is None:
             self.add([(0, False)], "")
         while self.here < len(self.steps):

@@ -48,7 +48,7 @@ class Run:
             "No edge is between micro-ops of two cores."
         origins = self.origins()
         yield from (self.edge(edge, origins) for edge in between)
-        asked = [edge for edge, origin in origins.items() if origin is not None and self.names.is_query(origin.axiom)]
+        asked = [edge for edge, (first, *_) in origins.items() if first is not None and self.names.is_query(first.axiom)]
         if asked:
             yield ""
             yield "The edges that the query asks for:"
@@ -71,10 +71,10 @@ class Run:
         lines = [f"{number:4}  core {self.core(node)}  {cells[node]}" for number, node in enumerate(order, 1)]
         return ["One order of the run, a step a line, behind the micro-op's core:", "step", *lines]
 
-    def edge(self, edge: Edge, origins: dict[Edge, Origin | None]) -> str:
-        """An edge, with what asks for it."""
-        where = self.names.origin(origins[edge]) if edge in origins else "no axiom asks for it"
-        return f"  {self.names.fact((*edge, True))}{GAP}{where}"
+    def edge(self, edge: Edge, origins: dict[Edge, list[Origin | None]]) -> str:
+        """An edge, with what asks for it: the first place of each label."""
+        where = [self.names.origin(origin) for origin in origins.get(edge, [])] or ["no axiom asks for it"]
+        return f"  {self.names.fact((*edge, True))}{GAP}{'; '.join(where)}"
 
     def core(self, node: Node) -> int:
         """The core of a node's micro-op."""
@@ -102,10 +102,10 @@ class Run:
                     heapq.heappush(ready, number)
         return found
 
-    def origins(self) -> dict[Edge, Origin | None]:
-        """Of each edge the first position that asks for it, among those that are true in this run."""
+    def origins(self) -> dict[Edge, list[Origin | None]]:
+        """Of each edge the first position of each label that asks for it, among those that are true in this run."""
         truth = self.truth()
-        found: dict[Edge, Origin | None] = {}
+        found: dict[Edge, dict[str, Origin | None]] = {}
         waiting = [0] if self.positions.rows else []
         while waiting:
             here = waiting.pop()
@@ -114,8 +114,9 @@ class Run:
                 waiting += [side for side in (row.right, row.left) if truth[side]]
             elif row.end is not None and row.wanted:
                 edge = self.positions.nodes[row.start], self.positions.nodes[row.end]
-                found.setdefault(edge, self.positions.origins[here])
-        return found
+                origin = self.positions.origins[here]
+                found.setdefault(edge, {}).setdefault("" if origin is None else origin.label, origin)
+        return {edge: [*by_label.values()] for edge, by_label in found.items()}
 
     def truth(self) -> list[bool]:
         """Whether each position is true in this run; members stand after what they are members of."""
