@@ -64,5 +64,6 @@ def key(case: Case, names: Names) -> Iterator[str]:
     for word, values in (("at the start", case.initial), ("at the end", case.final)):
         for page, value in values.items():
             yield f"  {word} {names.page(page)} = {value}"
-    if names.has_letters:
-        yield "  " + ", ".join(f"[{letter}] is {page}" for page, letter in names.pages.items())
+    called = [f"[{name}] is {page}" for page, name in names.pages.items() if name != str(page)]
+    if called:
+        yield "  " + ", ".join(called)

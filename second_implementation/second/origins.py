@@ -20,11 +20,13 @@ class TooLarge(Exception):
 
 @dataclass(frozen=True)
 class Taken:
-    """What a quantifier took: its name, whether it is over micro-ops, and the value."""
+    """What a quantifier took: its name, whether it is over micro-ops, and the value; and whether that is one of which some
+    value is enough."""
 
     name: str
     is_microop: bool
     value: int
+    is_chosen: bool = False
 
 
 @dataclass(frozen=True)
@@ -94,7 +96,8 @@ class TracingGrounder(Grounder):
         """The body for each value of the variable."""
         members = []
         for inside in self.open_values(formula, env):
-            self.taken.append(Taken(formula.name, formula.over_microops, inside[formula.name]))
+            is_chosen = formula.universal is not wanted
+            self.taken.append(Taken(formula.name, formula.over_microops, inside[formula.name], is_chosen))
             members.append(self.tree(formula.body, inside, wanted))
             self.taken.pop()
         return self.join(formula.universal is wanted, members)

@@ -2,7 +2,7 @@
 import json
 import os
 import re
-from typing import Iterable, Iterator, NamedTuple, Sequence
+from typing import Iterable, Iterator, Mapping, NamedTuple, Sequence
 from urllib.parse import quote
 
 from second.quoting import shown
@@ -58,14 +58,13 @@ def sarif(cases: Sequence[Case], lines: Sequence[str], files: Iterable[File], ru
     known = {rule.name: rule for rule in rules}
     # the longest name first, since one may begin another
     names = sorted({shown(file.path): file.path for file in files}.items(), key=lambda item: len(item[0]), reverse=True)
-    results = [result_of_case(case, known[kind_of(case.cell)]) for case in cases if kind_of(case.cell) in FAILURES]
+    results = [result_of_case(known, case) for case in cases if kind_of(case.cell) in FAILURES]
     for line in lines:
         path, place = place_in(line, names)
         if place is not None:
             # the faults of names in a macro, and `unnamed`, have no row of their own
-            rule = known.setdefault(place[3], Rule(place[3], place[3], True))
-            results.append(result(rule, place[4], location(path, int(place[1]), int(place[2]))))
-    order = [*known]
+            known.setdefault(place[3], Rule(place[3], place[3], True))
+            results.append(result(known, place[3], place[4], location(path, int(place[1]), int(place[2]))))
     text = {
         "$schema": SCHEMA,
         "version": VERSION,
@@ -80,24 +79,30 @@ def sarif(cases: Sequence[Case], lines: Sequence[str], files: Iterable[File], ru
                         ],
                     }
                 },
-                "results": [{**found, "ruleIndex": order.index(str(found["ruleId"]))} for found in results],
+                "results": results,
             }
         ],
     }
     return json.dumps(text, indent=1).encode("ascii") + b"\n"
 
 
-def result(rule: Rule, said: str, place: dict[str, object]) -> dict[str, object]:
-    """A result at a place."""
-    level = "error" if rule.is_fault else "warning"
-    return {"ruleId": rule.name, "level": level, "message": {"text": writable(said)}, "locations": [place]}
+def result(rules: Mapping[str, Rule], name: str, said: str, place: dict[str, object]) -> dict[str, object]:
+    """A result by the rule of this name, at a place. Rules that come later stand behind."""
+    return {
+        "ruleId": name,
+        "ruleIndex": [*rules].index(name),
+        "level": "error" if rules[name].is_fault else "warning",
+        "message": {"text": writable(said)},
+        "locations": [place],
+    }
 
 
-def result_of_case(case: Case, rule: Rule) -> dict[str, object]:
+def result_of_case(rules: Mapping[str, Rule], case: Case) -> dict[str, object]:
     """That of a pair, at the model; the test stands beside it."""
     said = f"{shown(case.model.path)} on {shown(case.test.path)}: {sentence_of(case.cell, case.test)}"
-    found = result(rule, said, location(case.model.path, 1, 1))
-    return {**found, "relatedLocations": [location(case.test.path, 1, 1)]}
+    found = result(rules, kind_of(case.cell), said, location(case.model.path, 1, 1))
+    found["relatedLocations"] = [location(case.test.path, 1, 1)]
+    return found
 
 
 def place_in(line: str, names: Sequence[tuple[str, str]]) -> tuple[str, re.Match[str] | None]:
