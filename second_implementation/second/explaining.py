@@ -45,7 +45,7 @@ def body(model: Model, case: Case, names: Names, certificate: list[str], width: 
         return LiftedRefutation(model, case, names, certificate[3:-1], width).lines()
     positions = TracedPositions(model, case)
     if certificate[0] == "observable":
-        return Run(case, names, positions, certificate[2:-1], width).lines()
+        return Run(model, case, names, positions, certificate[2:-1], width).lines()
     return Refutation(names, positions, certificate[2:-1], width).lines()
 
 

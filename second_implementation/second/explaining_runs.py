@@ -4,11 +4,14 @@ from typing import Callable, Iterable, Iterator, Sequence
 
 from .cases import Case
 from .grounding import Node
+from .models import Model
 from .naming import Names
-from .origins import Origin, TracedPositions
+from .origins import Origin, TracedPositions, has_predicate
 from .positions import Inner, Leaf
 from .wrapping import GAP
 
+# what an axiom says of a read that gets the value of the start
+INITIAL = "DataFromInitialStateAtPA"
 Edge = tuple[Node, Node]
 # an edge, and where it comes from that it is asked for
 Asked = tuple[Edge, Origin | None]
@@ -18,8 +21,9 @@ class Run:
     """The lines of a graph: one order of the run, and the edges between micro-ops of two cores."""
 
     def __init__(
-        self, case: Case, names: Names, positions: TracedPositions, lines: list[str], width: int
+        self, model: Model, case: Case, names: Names, positions: TracedPositions, lines: list[str], width: int
     ) -> None:
+        self.model = model
         self.case = case
         self.names = names
         self.positions = positions
@@ -124,7 +128,8 @@ class Run:
         if read.value != self.case.initial_at(read.pa):
             return said + "no micro-op that the model names"
         for (start, end), origin in asked_for:
-            if start[0] == op and self.case.ops[end[0]].access == "Write" and self.case.ops[end[0]].pa == read.pa:
+            is_newer = self.case.ops[end[0]].access == "Write" and self.case.ops[end[0]].pa == read.pa
+            if start[0] == op and is_newer and origin is not None and has_predicate(self.model, origin.axiom, INITIAL):
                 return said + "the start" + GAP + self.names.origin(origin)
         return said + "the start"
 

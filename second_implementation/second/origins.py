@@ -6,6 +6,7 @@ from .cases import Case
 from .grounding import Conjunction, Disjunction, Environment, Grounder, Literal, Tree, nested
 from .models import Axiom, Binary, Edges, Expand, Formula, Model, Nodes, Not, Quantified, Static
 from .positions import Positions
+from .scopes import parts
 
 
 # How much of a test is traced: a formula at some values of its variables is one step, and a node or an edge, which is kept,
@@ -38,6 +39,20 @@ class Origin:
     macro: str | None
     at: int
     label: str = ""
+
+
+def has_predicate(model: Model, axiom: Axiom, name: str) -> bool:
+    """Whether an axiom has a predicate of the test, in a macro that it expands too."""
+    waiting, expanded = [axiom.body], set()
+    while waiting:
+        formula = waiting.pop()
+        if isinstance(formula, Static) and formula.predicate.name == name:
+            return True
+        if isinstance(formula, Expand) and formula.macro.name not in expanded:
+            expanded.add(formula.macro.name)
+            waiting.append(model.macros[formula.macro.name].body)
+        waiting += parts(formula)
+    return False
 
 
 def first_place(formula: Formula) -> int:

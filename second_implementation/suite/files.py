@@ -85,7 +85,7 @@ class Copies:
             # of a file that is past reading there is no copy: whoever reads it says so
             if file.text is not None:
                 self.write(self.path(file), file)
-            if file.asked_of is not None:
+            if file.asked_of is not None and file.asked_of.text is not None:
                 self.write(self.path_of_asked(file), file.asked_of)
 
     def path(self, file: File) -> str:
@@ -151,7 +151,8 @@ def test_file(path: str, folders: Sequence[str] = ()) -> File:
     if place is None:
         raise Refusal(f"{shown(path)} is asked of a test that is not there: {shown(name + TEST_ENDING)}")
     asked_of = file_at("test", place, name)
-    return replace(file, digest=digest_of(f"{file.digest} {asked_of.digest}".encode("ascii")), asked_of=asked_of, expected=expected)
+    digest = digest_of(f"{file.digest} {asked_of.digest}".encode("ascii")) if asked_of.digest else ""
+    return replace(file, digest=digest, asked_of=asked_of, expected=expected)
 
 
 def row_of_query(text: bytes) -> tuple[str, str]:
