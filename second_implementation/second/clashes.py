@@ -43,7 +43,9 @@ class Closed:
         if count <= MOST_BRANCHES:
             return
         ends = [f"{number} end in {ENDS[word]}" for word, number in self.words.items()]
-        said = f"Of {count} branches {', '.join(ends)}" if ends[1:] else f"All {count} branches end in {ENDS[next(iter(self.words))]}"
+        said = f"Of {count} branches {', '.join(ends)}"
+        if not ends[1:]:
+            said = f"All {count} branches end in {ENDS[next(iter(self.words))]}"
         common = [names.fact(fact) for fact in self.facts] or self.axioms
         shared = " and ".join(common[:MOST_COMMON]) + (" and more" if len(common) > MOST_COMMON else "")
         yield f"{said}; each by {shared}." if common else f"{said}; no one order or axiom closes all."

@@ -120,7 +120,8 @@ class Run:
         read = self.case.ops[op]
         assert read.pa is not None and read.value is not None
         said = f"  {self.names.microop(op)} reads {self.names.page(read.pa)} = {read.value} from "
-        found = [(start[0], origin) for (start, end), origin in asked_for if end[0] == op and self.is_source(start[0], op, origin)]
+        to_read = [(start[0], origin) for (start, end), origin in asked_for if end[0] == op]
+        found = [(source, origin) for source, origin in to_read if self.is_source(source, op, origin)]
         for access in ("Write", "Read"):
             for source, origin in found:
                 if self.case.ops[source].access == access:
@@ -136,8 +137,9 @@ class Run:
     def is_source(self, source: int, op: int, origin: Origin | None) -> bool:
         """Whether a formula chose a micro-op that has the value of a read, for that read."""
         one, read = self.case.ops[source], self.case.ops[op]
-        chosen = [taken.value for taken in origin.taken if taken.is_microop and taken.is_chosen] if origin is not None else []
-        return source != op and source in chosen and (one.pa, one.value) == (read.pa, read.value)
+        taken = origin.taken if origin is not None else ()
+        is_chosen = any(one.is_microop and one.is_chosen and one.value == source for one in taken)
+        return source != op and is_chosen and (one.pa, one.value) == (read.pa, read.value)
 
     def origins(self, asked_for: Iterable[Asked]) -> dict[Edge, list[Origin | None]]:
         """Of each edge the first position of each label that asks for it."""
