@@ -13,7 +13,8 @@ for line in $said; do
 done
 if (( $#described )); then
     _describe -t commands 'pipecheck' described
-elif (( $#endings > 1 )); then
+fi
+if (( $#endings > 1 )); then
     _files -g "(${(j:|:)endings})"
 elif (( $#endings )); then
     # in parentheses it would be taken for what is asked of files

@@ -20,7 +20,8 @@ from mending.copies import Names, Outcome, program_of
 from mending.orders import Found, Search
 from mending.suite_tests import SuiteTests
 from mending.telling import MOST_CHOICES, MOST_SHOWN, MOST_STRONGER, TITLE, Telling
-from second.listings import ENDING, read_file_items
+from second.address_names import case_with_names
+from second.listings import ENDING
 from second.memory_models import memory_model_of
 from second.naming import Names as ModelNames
 from second.scopes import read_model
@@ -74,7 +75,7 @@ class Mending:
 
     def __init__(self, checker: Checker, folder: str, model_text: bytes, test_path: str, test_text: bytes) -> None:
         model = read_model(model_text)
-        case, _ = read_file_items(test_path, test_text)
+        case = case_with_names(test_path, test_text)
         self.checker = checker
         self.program = program_of(case)
         self.questions = Questions(checker, folder, model, model_text, self.program, Names(model_text, test_text))

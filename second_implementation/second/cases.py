@@ -83,6 +83,8 @@ class Case:
     initial: dict[Address, Value] = field(default_factory=dict)
     final: dict[Address, Value] = field(default_factory=dict)
     expectation: str = "unstated"
+    # what comments call addresses, where that was looked for
+    names: dict[Address, str] = field(default_factory=dict, compare=False)
 
     @property
     def cores(self) -> range:

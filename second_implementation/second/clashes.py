@@ -1,10 +1,54 @@
 """What clashes at the end of a branch, in words."""
+from collections import Counter
+from dataclasses import dataclass, field
+from typing import Iterable, Iterator
+
 from .grounding import Node
 from .naming import Fact, Names
 
 # a clash of more facts is no part of a line; its facts are told apart from it
 MOST_FACTS = 4
+# Of more branches a line says first what closes them all, by so many orders or axioms at most.
+MOST_BRANCHES = 4
+MOST_COMMON = 3
+ENDS = {
+    "cycle": "a cycle",
+    "path": "an order that is denied",
+    "absent": "a node that is denied",
+    "false": "what is false in this test",
+}
 HEADINGS = {"cycle": "no order has one", "path": "this order is asked for and denied"}
+
+
+@dataclass
+class Closed:
+    """How branches end, and the facts and the axioms that close each of them."""
+
+    words: Counter[str] = field(default_factory=Counter)
+    facts: list[Fact] = field(default_factory=list)
+    axioms: list[str] = field(default_factory=list)
+
+    def add(self, word: str, facts: list[Fact], axioms: list[str]) -> None:
+        """One more branch."""
+        is_first = not self.words
+        self.words[word] += 1
+        self.facts = [fact for fact in (facts if is_first else self.facts) if fact in facts]
+        self.axioms = [axiom for axiom in dict.fromkeys(axioms if is_first else self.axioms) if axiom in axioms]
+
+    def line(self, names: Names, walk: Iterable[str]) -> Iterator[str]:
+        """Of many branches one line: how they end, and what of that they have in common. A walk adds them before."""
+        for _ in walk:
+            pass
+        count = sum(self.words.values())
+        if count <= MOST_BRANCHES:
+            return
+        ends = [f"{number} end in {ENDS[word]}" for word, number in self.words.items()]
+        said = f"Of {count} branches {', '.join(ends)}"
+        if not ends[1:]:
+            said = f"All {count} branches end in {ENDS[next(iter(self.words))]}"
+        common = [names.fact(fact) for fact in self.facts] or self.axioms
+        shared = " and ".join(common[:MOST_COMMON]) + (" and more" if len(common) > MOST_COMMON else "")
+        yield f"{said}; each by {shared}." if common else f"{said}; no one order or axiom closes all."
 
 
 def clash_nodes(word: str, facts: list[Fact]) -> list[Node]:

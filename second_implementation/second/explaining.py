@@ -45,7 +45,7 @@ def body(model: Model, case: Case, names: Names, certificate: list[str], width: 
         return LiftedRefutation(model, case, names, certificate[3:-1], width).lines()
     positions = TracedPositions(model, case)
     if certificate[0] == "observable":
-        return Run(case, names, positions, certificate[2:-1], width).lines()
+        return Run(model, case, names, positions, certificate[2:-1], width).lines()
     return Refutation(names, positions, certificate[2:-1], width).lines()
 
 
@@ -64,5 +64,6 @@ def key(case: Case, names: Names) -> Iterator[str]:
     for word, values in (("at the start", case.initial), ("at the end", case.final)):
         for page, value in values.items():
             yield f"  {word} {names.page(page)} = {value}"
-    if names.has_letters:
-        yield "  " + ", ".join(f"[{letter}] is {page}" for page, letter in names.pages.items())
+    called = [f"[{name}] is {page}" for page, name in names.pages.items() if name != str(page)]
+    if called:
+        yield "  " + ", ".join(called)

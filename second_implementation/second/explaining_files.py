@@ -1,10 +1,10 @@
 """What is said of a file: a certificate, or an answer of `core` or of `ask`."""
 from typing import Iterator
 
+from .address_names import case_with_names
 from .answers import Answer, Asked, is_answer, model_of, read_answer
 from .explaining import explain
 from .explaining_answers import explain_answer
-from .listings import read_file_items
 from .models import Model
 from .queries import read_query
 from .scopes import read_model
@@ -22,7 +22,7 @@ def explain_files(
     """The lines that are said of the certificate or answer, which judges have accepted. An answer of `ask` has a query
     beside it. The model is called by its name, and so is the query where it has one."""
     text = contents(model_path)
-    model, (case, _) = read_model(text), read_file_items(test_path, contents(test_path))
+    model, case = read_model(text), case_with_names(test_path, contents(test_path))
     data = contents(certificate_path)
     if not is_answer(data):
         return explain(model, case, text, model_name, data.decode("ascii").split("\n")[:-1])

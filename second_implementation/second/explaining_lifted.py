@@ -4,7 +4,7 @@ from typing import Iterator
 
 from .branches import branch_ends
 from .cases import Case
-from .clashes import clash_heading, clash_reason
+from .clashes import MOST_BRANCHES, Closed, clash_heading, clash_reason
 from .grounding import Literal
 from .lifted import ADDING, Fact, LiftedJudge, Said
 from .models import Arg, Binary, Edges, Expand, Formula, Model, NodeTerm, Nodes, Not, Number, Quantified, Static
@@ -87,15 +87,24 @@ class LiftedRefutation:
         self.here = 0
         self.level = 0
         self.waiting: list[Waiting] = []
+        self.closed = Closed()
 
     def lines(self) -> Iterator[str]:
-        """The steps. Of a split one side of which the test alone makes false, or a clash closes at once, a line says
-        what the other one adds, which goes on there. Of any other one both branches follow, one level further in."""
+        """The axioms, and the steps."""
         yield "The axioms are the first facts:"
         for number, axiom in enumerate(self.model.axioms):
             yield f"  {number}: {self.names.axiom(axiom)} at {self.names.place(axiom.at)}"
         yield ""
+        if sum(step.split(" ", 1)[0] not in ("split", *ADDING) for step in self.steps) > MOST_BRANCHES:
+            other = LiftedRefutation(self.model, self.case, self.names, self.steps, self.width)
+            yield from other.closed.line(self.names, other.walk())
         yield "Each line adds a fact, or splits a branch, or closes one by what cannot be:"
+        yield from self.walk()
+        yield "Every branch is closed."
+
+    def walk(self) -> Iterator[str]:
+        """The steps. Of a split one side of which the test alone makes false, or a clash closes at once, a line says
+        what the other one adds, which goes on there. Of any other one both branches follow, one level further in."""
         while self.here < len(self.steps):
             word, *rest = self.steps[self.here].split(" ")
             if word in ADDING:
@@ -104,7 +113,6 @@ class LiftedRefutation:
                 self.here += 1
             else:
                 yield from self.split() if word == "split" else self.leaf()
-        yield "Every branch is closed."
 
     def indent(self) -> str:
         """What stands before a line."""
@@ -153,6 +161,8 @@ class LiftedRefutation:
         step = self.steps[self.here]
         word, *rest = step.split(" ")
         facts = [self.facts[int(number)] for number in rest]
+        clash = [] if word == "false" else [literal(noted) for noted in facts]
+        self.closed.add(word, clash, [self.names.axiom(noted.origin.axiom) for noted in facts])
         if word == "false":
             yield f"{self.indent()}{step}: {self.falsity(facts[0])}"
         else:

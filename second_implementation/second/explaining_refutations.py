@@ -3,7 +3,7 @@ from dataclasses import dataclass
 from typing import Iterator
 
 from .branches import branch_ends
-from .clashes import clash_heading, clash_reason, is_long
+from .clashes import MOST_BRANCHES, Closed, clash_heading, clash_reason, is_long
 from .judging import VERSION_2, Signed
 from .naming import Fact, Names
 from .origins import Origin, TracedPositions
@@ -59,6 +59,7 @@ class Refutation:
         self.positions = positions
         self.width = width
         self.has_signs = lines[:1] == [VERSION_2]
+        self.written = lines
         self.steps = lines[1:] if self.has_signs else lines
         self.ends = branch_ends(self.steps)
         self.facts: dict[Fact, Source] = {}
@@ -69,19 +70,33 @@ class Refutation:
         self.waiting: list[Waiting] = []
         # where the last line was of a split one of whose sides closes at once
         self.group: Group | None = None
+        self.closed = Closed()
 
     def lines(self) -> Iterator[str]:
-        """The steps. Of a split one of whose sides closes at once a line says what the other one gives, which goes on
-        there. Of any other one both branches follow, one level further in."""
+        """What the refutation is, and its steps."""
+        if self.branches > MOST_BRANCHES:
+            other = Refutation(self.names, self.positions, self.written, self.width)
+            yield from other.closed.line(self.names, other.walk())
         if any(step.startswith("split ") for step in self.steps):
             yield "Each split is a choice that the model leaves, and each branch ends in what cannot be:"
         else:
             yield "The model leaves no choice, and what it asks for cannot be:"
+        yield from self.walk()
+        yield "Every branch is closed."
+
+    def walk(self) -> Iterator[str]:
+        """The steps. Of a split one of whose sides closes at once a line says what the other one gives, which goes on
+        there. Of any other one both branches follow, one level further in."""
         if self.positions.constant is None:
             self.add([(0, False)], "")
         while self.here < len(self.steps):
             yield from self.split() if self.steps[self.here].startswith("split ") else self.leaf()
-        yield "Every branch is closed."
+
+    @property
+    def branches(self) -> int:
+        """How many branches there are: one more for each split both sides of which go on."""
+        splits = [place for place, step in enumerate(self.steps) if step.startswith("split ")]
+        return 1 + sum(self.closed_side(place + 1, self.ends[place + 1]) is None for place in splits)
 
     def indent(self) -> str:
         """What stands before a line."""
@@ -138,6 +153,9 @@ class Refutation:
         """What clashes at the end of a branch, each fact with where it comes from. Then the branch that waited last
         goes on."""
         word, *written = self.steps[self.here].split(" ")
+        facts = [] if word == "false" else self.clash(word, written)
+        origins = (self.positions.origins[self.facts[fact].position] for fact in facts)
+        self.closed.add(word, facts, [self.names.axiom(origin.axiom) for origin in origins if origin is not None])
         yield from (self.indent() + line for line in self.clash_lines(word, written))
         if not self.waiting:
             self.here = len(self.steps)

@@ -1,23 +1,29 @@
 """A graph in the words of the model: one order of the run, as a table, and the edges that carry values."""
 import heapq
-from typing import Callable, Iterator
+from typing import Callable, Iterable, Iterator, Sequence
 
 from .cases import Case
 from .grounding import Node
+from .models import Model
 from .naming import Names
-from .origins import Origin, TracedPositions
+from .origins import Origin, TracedPositions, has_predicate
 from .positions import Inner, Leaf
 from .wrapping import GAP
 
+# what an axiom says of a read that gets the value of the start
+INITIAL = "DataFromInitialStateAtPA"
 Edge = tuple[Node, Node]
+# an edge, and where it comes from that it is asked for
+Asked = tuple[Edge, Origin | None]
 
 
 class Run:
     """The lines of a graph: one order of the run, and the edges between micro-ops of two cores."""
 
     def __init__(
-        self, case: Case, names: Names, positions: TracedPositions, lines: list[str], width: int
+        self, model: Model, case: Case, names: Names, positions: TracedPositions, lines: list[str], width: int
     ) -> None:
+        self.model = model
         self.case = case
         self.names = names
         self.positions = positions
@@ -46,8 +52,14 @@ class Run:
         between = [edge for edge in self.edges if self.core(edge[0]) != self.core(edge[1])]
         yield "The edges between micro-ops of two cores, which carry the values:" if between else \
             "No edge is between micro-ops of two cores."
-        origins = self.origins()
+        asked_for = [*self.asked_for()]
+        origins = self.origins(asked_for)
         yield from (self.edge(edge, origins) for edge in between)
+        reads = [op for op, one in enumerate(self.case.ops) if one.access == "Read"]
+        if reads:
+            yield ""
+            yield "Where the values of reads come from:"
+            yield from (self.value(op, asked_for) for op in reads)
         asked = [edge for edge, (first, *_) in origins.items() if first is not None and self.names.is_query(first.axiom)]
         if asked:
             yield ""
@@ -102,10 +114,43 @@ class Run:
                     heapq.heappush(ready, number)
         return found
 
-    def origins(self) -> dict[Edge, list[Origin | None]]:
-        """Of each edge the first position of each label that asks for it, among those that are true in this run."""
-        truth = self.truth()
+    def value(self, op: int, asked_for: Sequence[Asked]) -> str:
+        """Where the value of a read comes from: the micro-op that the model chose, a write first, whose edge leads to the
+        read; or else the start, where the value is that of the start. Behind it stands what asks for such an edge."""
+        read = self.case.ops[op]
+        assert read.pa is not None and read.value is not None
+        said = f"  {self.names.microop(op)} reads {self.names.page(read.pa)} = {read.value} from "
+        to_read = [(start[0], origin) for (start, end), origin in asked_for if end[0] == op]
+        found = [(source, origin) for source, origin in to_read if self.is_source(source, op, origin)]
+        for access in ("Write", "Read"):
+            for source, origin in found:
+                if self.case.ops[source].access == access:
+                    return said + self.names.microop(source) + GAP + self.names.origin(origin)
+        if read.value != self.case.initial_at(read.pa):
+            return said + "no micro-op that the model names"
+        for (start, end), origin in asked_for:
+            is_newer = self.case.ops[end[0]].access == "Write" and self.case.ops[end[0]].pa == read.pa
+            if start[0] == op and is_newer and origin is not None and has_predicate(self.model, origin.axiom, INITIAL):
+                return said + "the start" + GAP + self.names.origin(origin)
+        return said + "the start"
+
+    def is_source(self, source: int, op: int, origin: Origin | None) -> bool:
+        """Whether a formula chose a micro-op that has the value of a read, for that read."""
+        one, read = self.case.ops[source], self.case.ops[op]
+        taken = origin.taken if origin is not None else ()
+        is_chosen = any(one.is_microop and one.is_chosen and one.value == source for one in taken)
+        return source != op and is_chosen and (one.pa, one.value) == (read.pa, read.value)
+
+    def origins(self, asked_for: Iterable[Asked]) -> dict[Edge, list[Origin | None]]:
+        """Of each edge the first position of each label that asks for it."""
         found: dict[Edge, dict[str, Origin | None]] = {}
+        for edge, origin in asked_for:
+            found.setdefault(edge, {}).setdefault("" if origin is None else origin.label, origin)
+        return {edge: [*by_label.values()] for edge, by_label in found.items()}
+
+    def asked_for(self) -> Iterator[Asked]:
+        """The edges that positions ask for which are true in this run, each with where the position comes from."""
+        truth = self.truth()
         waiting = [0] if self.positions.rows else []
         while waiting:
             here = waiting.pop()
@@ -113,10 +158,7 @@ class Run:
             if isinstance(row, Inner):
                 waiting += [side for side in (row.right, row.left) if truth[side]]
             elif row.end is not None and row.wanted:
-                edge = self.positions.nodes[row.start], self.positions.nodes[row.end]
-                origin = self.positions.origins[here]
-                found.setdefault(edge, {}).setdefault("" if origin is None else origin.label, origin)
-        return {edge: [*by_label.values()] for edge, by_label in found.items()}
+                yield (self.positions.nodes[row.start], self.positions.nodes[row.end]), self.positions.origins[here]
 
     def truth(self) -> list[bool]:
         """Whether each position is true in this run; members stand after what they are members of."""

@@ -26,8 +26,11 @@ class Names:
         self.text = model_text
         pages = dict.fromkeys([op.pa for op in case.ops if op.pa is not None] + [*case.initial, *case.final])
         # those of a listing have names of their own
-        self.has_letters = 0 < len(pages) <= len(LETTERS) and not any(isinstance(page, Location) for page in pages)
-        self.pages = {page: LETTERS[k] if self.has_letters else str(page) for k, page in enumerate(pages)}
+        has_letters = len(pages) <= len(LETTERS) and not any(isinstance(page, Location) for page in pages)
+        letters = (letter for letter in LETTERS if letter not in case.names.values())
+        self.pages = {
+            page: case.names.get(page) or (next(letters) if has_letters else str(page)) for page in pages
+        }
 
     def microop(self, op: int) -> str:
         """The name of a micro-op."""

@@ -6,6 +6,7 @@ from .cases import Case
 from .grounding import Conjunction, Disjunction, Environment, Grounder, Literal, Tree, nested
 from .models import Axiom, Binary, Edges, Expand, Formula, Model, Nodes, Not, Quantified, Static
 from .positions import Positions
+from .scopes import parts
 
 
 # How much of a test is traced: a formula at some values of its variables is one step, and a node or an edge, which is kept,
@@ -20,11 +21,13 @@ class TooLarge(Exception):
 
 @dataclass(frozen=True)
 class Taken:
-    """What a quantifier took: its name, whether it is over micro-ops, and the value."""
+    """What a quantifier took: its name, whether it is over micro-ops, and the value; and whether that is one of which some
+    value is enough."""
 
     name: str
     is_microop: bool
     value: int
+    is_chosen: bool = False
 
 
 @dataclass(frozen=True)
@@ -36,6 +39,20 @@ class Origin:
     macro: str | None
     at: int
     label: str = ""
+
+
+def has_predicate(model: Model, axiom: Axiom, name: str) -> bool:
+    """Whether an axiom has a predicate of the test, in a macro that it expands too."""
+    waiting, expanded = [axiom.body], set()
+    while waiting:
+        formula = waiting.pop()
+        if isinstance(formula, Static) and formula.predicate.name == name:
+            return True
+        if isinstance(formula, Expand) and formula.macro.name not in expanded:
+            expanded.add(formula.macro.name)
+            waiting.append(model.macros[formula.macro.name].body)
+        waiting += parts(formula)
+    return False
 
 
 def first_place(formula: Formula) -> int:
@@ -94,7 +111,8 @@ class TracingGrounder(Grounder):
         """The body for each value of the variable."""
         members = []
         for inside in self.open_values(formula, env):
-            self.taken.append(Taken(formula.name, formula.over_microops, inside[formula.name]))
+            is_chosen = formula.universal is not wanted
+            self.taken.append(Taken(formula.name, formula.over_microops, inside[formula.name], is_chosen))
             members.append(self.tree(formula.body, inside, wanted))
             self.taken.pop()
         return self.join(formula.universal is wanted, members)

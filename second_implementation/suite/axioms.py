@@ -13,8 +13,9 @@ from second.tokens import Fault, tokens
 
 from .calling import side_by_side
 from .counting import Progress
-from .files import Copies, File
+from .files import Copies, File, digest_of
 from .keeping import new_file
+from .kept import Kept
 from .pairs import FAULT, TIME, Checker, Found
 from .refusing import Refusal
 from .tables import aligned
@@ -55,7 +56,8 @@ def without(text: bytes, axiom: Axiom) -> bytes:
 class Axioms:
     """A model with each of its axioms taken out in turn, and tests."""
 
-    def __init__(self, model: File, tests: Sequence[File], checker: Checker) -> None:
+    def __init__(self, model: File, tests: Sequence[File], checker: Checker, kept: Kept | None) -> None:
+        self.kept = kept
         self.tests = sorted(tests, key=lambda test: test.name.encode("utf-8", "surrogateescape"))
         self.checker = checker
         self.text = model.text or b""
@@ -66,20 +68,22 @@ class Axioms:
             before = self.text[: fault.place].split(b"\n")
             place = f"{shown(model.path)}:{len(before)}:{len(before[-1]) + 1}"
             raise Refusal(f"the model is refused: {place}: {fault.word}") from fault
-        if any(test.is_pattern for test in tests):
-            raise Refusal("--axioms compares verdicts, which patterns have not")
+        if any(test.is_pattern or test.is_query for test in tests):
+            raise Refusal("--axioms compares verdicts, which patterns and queries have not")
 
     def changes(self, jobs: int) -> list[Change]:
         """What each axiom changes."""
         with tempfile.TemporaryDirectory() as folder:
-            for number in range(len(self.axioms) + 1):
-                with open(os.path.join(folder, f"{number}.uspec"), "wb") as file:
-                    # the first is the whole
-                    file.write(without(self.text, self.axioms[number - 1]) if number else self.text)
+            # the first is the whole
+            texts = [self.text, *(without(self.text, axiom) for axiom in self.axioms)]
+            models = []
+            for number, text in enumerate(texts):
+                models.append(File(os.path.join(folder, f"{number}.uspec"), str(number), text, digest_of(text)))
+                with open(models[-1].path, "wb") as file:
+                    file.write(text)
             copies = Copies(folder, self.tests)
-            pairs = [(number, test) for number in range(len(self.axioms) + 1) for test in self.tests]
-            progress = Progress(len(pairs))
-            tasks = [partial(self.found, copies, number, test) for number, test in pairs]
+            tasks = [partial(self.found, copies, model, test) for model in models for test in self.tests]
+            progress = Progress(len(tasks))
             try:
                 answers = side_by_side(self.checker.calls, jobs, tasks, lambda _, __: progress.step())
             finally:
@@ -92,14 +96,20 @@ class Axioms:
             for number, axiom in enumerate(self.axioms, 1)
         ]
 
-    def found(self, copies: Copies, number: int, test: File) -> Found:
-        """The verdict on a test without an axiom, or of the whole model."""
-        model = os.path.join(copies.folder, f"{number}.uspec")
+    def found(self, copies: Copies, model: File, test: File) -> Found:
+        """The verdict on a test of a model without an axiom, or of the whole one; or what is kept of it."""
+        kept = self.kept.found(model, test) if self.kept is not None else None
+        if kept is not None:
+            return kept[0]
         try:
-            with new_file(f"{model}.{test.base}") as (out, part):
-                return self.checker.found(model, test, copies.path(test), out, part)
+            with new_file(f"{model.path}.{test.base}") as (out, part):
+                found = self.checker.found(model.path, test, copies.path(test), out, part)
+                if self.kept is not None:
+                    out.seek(0)
+                    self.kept.keep(model, test, found, out.read())
         except OSError:
             return Found(fault=FAULT)
+        return found
 
     def change(self, axiom: Axiom, whole: Sequence[Found], rest: Sequence[Found]) -> Change:
         """What one axiom changes."""
@@ -116,6 +126,9 @@ def run_axioms(axioms: Axioms, jobs: int) -> tuple[list[str], int]:
     """The lines of the table with the count, and the status."""
     begun = time.monotonic()
     changes = axioms.changes(jobs)
+    if axioms.kept is not None:
+        axioms.kept.tell_taken()
+        axioms.kept.shorten()
     rows = [[f'{number} "{change.title}"', *change.cells] for number, change in enumerate(changes)]
     idle = sum(not change.changed for change in changes)
     count = f"{len(changes)} axioms on {len(axioms.tests)} tests: {len(changes) - idle} change a verdict, "

@@ -1,5 +1,5 @@
-"""What is new beside the cells of an earlier suite."""
-from typing import Mapping
+"""What is new beside the cells of an earlier suite, and what of it is gone."""
+from typing import Iterator, Mapping
 
 from second.quoting import quoted, shown
 
@@ -45,4 +45,15 @@ class Baseline:
             pairs.setdefault(cell, []).append(f"{model} {test}")
         order = [*(cell for cell in FIRST if cell in pairs), *sorted(cell for cell in pairs if cell not in FIRST)]
         lines = [f"{len(pairs[cell])} new {cell}: {', '.join(pairs[cell])}" for cell in order]
-        return lines or [f"nothing is new beside {shown(self.path)}"]
+        lines = lines or [f"nothing is new beside {shown(self.path)}"]
+        gone = [*self.gone(cells)]
+        return [*lines, f"{len(gone)} gone: {', '.join(gone)}"] if gone else lines
+
+    def gone(self, cells: Cells) -> Iterator[str]:
+        """The pairs that were not good and are now; and the models and the tests that are not in this suite any more."""
+        for pair, cell in self.cells.items():
+            if cell not in GOOD and cells.get(pair) in GOOD:
+                yield f"{' '.join(pair)} ({cell})"
+        for place, kind in enumerate(("model", "test")):
+            left = {pair[place] for pair in cells}
+            yield from (f"{kind} {name}" for name in dict.fromkeys(pair[place] for pair in self.cells) if name not in left)

@@ -2,7 +2,7 @@
 import sys
 from typing import Sequence
 
-from .pairs import BUG, NOT_TAKEN, OBSERVABLE, OK, STRICTER, SWEPT, TIME, UNOBSERVABLE
+from .pairs import BUG, NOT_TAKEN, OBSERVABLE, OK, STRICTER, SWEPT, TIME, UNOBSERVABLE, kind_of
 from .telling import tell
 
 UNSTATED = (OBSERVABLE, UNOBSERVABLE, SWEPT)
@@ -12,7 +12,7 @@ class Count:
     """The last line, and the status."""
 
     def __init__(self, cells: Sequence[str], seconds: float) -> None:
-        self.cells = cells
+        self.cells = [*map(kind_of, cells)]
         self.seconds = seconds
 
     def of(self, *words: str) -> int:

@@ -5,7 +5,7 @@ from xml.etree import ElementTree
 from xml.etree.ElementTree import Element, SubElement
 
 from .files import File
-from .pairs import BUG, NOT_TAKEN, OBSERVABLE, OK, STRICTER, SWEPT, TIME, UNOBSERVABLE
+from .pairs import BUG, NOT_TAKEN, OBSERVABLE, OK, STRICTER, SWEPT, TIME, UNOBSERVABLE, kind_of
 from .reports import writable
 
 SENTENCES = {
@@ -33,6 +33,13 @@ class Case:
     lines: Sequence[str]
 
 
+def sentence_of(cell: str, test: File) -> str:
+    """What a cell says."""
+    if cell != kind_of(cell):
+        return f"the answer to the query is {cell[len(BUG) + 2 : -1]}, and {test.expected} is expected"
+    return SENTENCES.get(cell, f"a fault: {cell}")
+
+
 def junit(cases: Sequence[Case], seconds: float) -> bytes:
     """The cases, which come model by model."""
     root = Element("testsuites", name="pipecheck-suite", time=f"{seconds:.3f}")
@@ -54,7 +61,7 @@ def add(suite: Element, case: Case) -> None:
     """Adds a case, with what it has where it is not passed."""
     names = {"classname": case.model.name, "name": case.test.name, "file": case.test.path}
     element = SubElement(suite, "testcase", {key: writable(name) for key, name in names.items()})
-    sentence = SENTENCES.get(case.cell, f"a fault: {case.cell}")
+    sentence = sentence_of(case.cell, case.test)
     if case.cell in PASSED:
         return
     if case.cell in SKIPPED:
@@ -62,6 +69,6 @@ def add(suite: Element, case: Case) -> None:
     elif case.is_as_before:
         SubElement(element, "skipped", message=writable(f"as in the baseline: {sentence}"))
     else:
-        kind = "failure" if case.cell in FAILURES else "error"
+        kind = "failure" if kind_of(case.cell) in FAILURES else "error"
         result = SubElement(element, kind, type=writable(case.cell), message=writable(sentence))
         result.text = writable("\n".join(case.lines)) or None

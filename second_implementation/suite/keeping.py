@@ -17,9 +17,9 @@ from .pairs import STATED_WORDS, STATUSES, Found
 from .refusing import Refusal
 from .telling import tell
 
-CERTIFICATE, ROWS = ".certificate", ".rows"
+CERTIFICATE, ROWS, ANSWER = ".certificate", ".rows", ".answer"
 # other files of such a folder may end in .part, too
-PARTS = (CERTIFICATE + PART, ROWS + PART)
+PARTS = (CERTIFICATE + PART, ROWS + PART, ANSWER + PART)
 # no model has a name that begins with a dot
 LOCK = ".lock"
 STATE = ".state"
@@ -93,8 +93,9 @@ class Folder:
             raise Refusal(f"the folder {shown(path)} cannot be written")
 
     def place(self, model: File, test: File) -> str:
-        """Where the certificate of a pair is kept, or the text of a sweep."""
-        return os.path.join(self.path, model.name, test.base + (ROWS if test.is_pattern else CERTIFICATE))
+        """Where the certificate of a pair is kept, or the text of a sweep or of an answer."""
+        ending = ROWS if test.is_pattern else ANSWER if test.is_query else CERTIFICATE
+        return os.path.join(self.path, model.name, test.base + ending)
 
     def write_cells(self, cells: Mapping[tuple[str, str], str]) -> None:
         """Keeps the rows of a table: model, test and cell."""

@@ -14,8 +14,9 @@ from second.quoting import shown
 
 from .files import PART, File, digest_of
 from .keeping import contents_of_any_length, verdict_of
-from .pairs import STATED_WORDS, Found, rows_found
+from .pairs import STATED_WORDS, Found, answer_found, rows_found
 from .refusing import Refusal
+from .telling import tell
 
 # how much stays there when a suite is done
 MOST_BYTES = 1 << 30
@@ -61,10 +62,14 @@ class Kept:
             head, _, text = contents_of_any_length(place).partition(b"\n")
             entry = json.loads(head)
             is_whole = entry["digest"] == digest_of(text)
-            found = rows_found(text) if test.is_pattern else Found(verdict_of(text), entry["stated"])
+            found = Found(verdict_of(text), entry["stated"])
         except (OSError, ValueError, KeyError, TypeError, RecursionError):
             return None
-        if not is_whole or not found.verdict or not (found.is_swept or found.stated in STATED_WORDS):
+        if test.is_pattern or test.is_query:
+            found = rows_found(text) if test.is_pattern else answer_found(text)
+        elif found.stated not in STATED_WORDS:
+            return None
+        if not is_whole or not found.verdict:
             return None
         # what is taken stays longest
         with suppress(OSError):
@@ -86,6 +91,11 @@ class Kept:
         except OSError:
             with suppress(OSError):
                 os.unlink(part)
+
+    def tell_taken(self) -> None:
+        """How many verdicts were taken."""
+        if self.taken:
+            tell(f"suite: {len(self.taken)} pairs stand from {shown(self.path)}")
 
     def shorten(self) -> None:
         """Removes what was not taken for longest, until the rest is no more than so much."""

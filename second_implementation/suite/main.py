@@ -56,7 +56,8 @@ def suite(words: Sequence[str], environ: Mapping[str, str], top: str) -> int:
     asked = read_words(words, environ, top)
     if "--axioms" in asked.options:
         checker = checker_of(environ, top, seconds, Calls())
-        lines, status = run_axioms(Axioms(asked.models[0], asked.tests, checker), jobs)
+        kept = kept_in(environ, program_digest(checker.command))
+        lines, status = run_axioms(Axioms(asked.models[0], asked.tests, checker, kept), jobs)
         put([*lines[:-1], lines[-1] + checker.said])
         return status
     return pairs(asked, environ, top, seconds, jobs)
@@ -136,7 +137,8 @@ class Reports:
         if SARIF in self.asked.options:
             place = self.asked.options[SARIF]
             files = [*self.asked.models, *self.asked.tests]
-            yield place, lambda: write_report(place, sarif(result.below, files, rules_in(self.top)))
+            cases = self.cases(run, result)
+            yield place, lambda: write_report(place, sarif(cases, result.below, files, rules_in(self.top)))
 
     def cases(self, run: Suite, result: Result) -> list[Case]:
         """The pairs, model by model."""

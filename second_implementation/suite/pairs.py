@@ -6,13 +6,18 @@ from contextlib import suppress
 from dataclasses import dataclass
 from typing import IO
 
+from second.answers import WORLDS, AnswerRefused, read_answer
+from second.explaining_files import parts_of
+from second.scopes import read_model
+from second.tokens import Fault
+
 from .calling import Calls
 from .files import File
 
 OBSERVABLE, UNOBSERVABLE = "observable", "unobservable"
 # the status of `check` with its first line, and that of `verify` with its line
 STATUSES = {OBSERVABLE: 0, UNOBSERVABLE: 1}
-SWEPT = "swept"
+SWEPT, ASKED = "swept", "asked"
 OK, BUG, STRICTER, TIME, UNNAMED, FAULT = "ok", "BUG", "stricter", "time", "unnamed", "fault"
 NOT_TAKEN = "not taken"
 # cells that are no bug, nothing lost and no fault
@@ -22,6 +27,7 @@ REFUSED = re.compile(rb"refused ([a-z]+) ([a-z0-9-]+) at ([0-9]+:[0-9]+)")
 STATED_WORDS = ("unstated", "permitted", "forbidden")
 STATED = re.compile(rb"test (?:(unstated)|(permitted|forbidden): (?:ok|BUG|stricter))")
 SUMMARY = re.compile(rb"sweep [0-9]+")
+ANSWERED = re.compile(f"ask ({'|'.join(WORLDS)})".encode("ascii"))
 # the lines that are looked at are short
 HEAD = 4096
 
@@ -29,8 +35,8 @@ HEAD = 4096
 @dataclass(frozen=True)
 class Found:
     """What is known of a pair: a verdict whose certificate is judged, with what the test states of its outcome; or the
-    rows of a sweep that are observable, each as the sweep writes it; or the cell of a fault, with the place in a file
-    that is refused."""
+    rows of a sweep that are observable, each as the sweep writes it; or the word that answers a query, as what is stated;
+    or the cell of a fault, with the place in a file that is refused."""
 
     verdict: str = ""
     stated: str = ""
@@ -58,6 +64,34 @@ class Checker:
         """Calls the program with these words."""
         return self.calls.status([*self.command, *words], self.kib, self.seconds, out)
 
+    def answered(self, model: str, query: File, paths: tuple[str, str], out: IO[bytes]) -> Found:
+        """Asks a query of a model on its test; the paths are those of test and query. The answer goes to a file, and each of
+        its certificates is judged in the model that it is of."""
+        status = self.status([query.kind.check, model, *paths], out)
+        out.seek(0)
+        said = out.read()
+        found = answer_found(said)
+        if status != 0 or found.fault:
+            return fault_of(status, said.split(b"\n", 1)[0])
+        with open(model, "rb") as file:
+            text = file.read()
+        try:
+            read = read_model(text)
+            parts = [*parts_of(read, text, read_answer(said, read), query.text or b"")]
+        except (AnswerRefused, Fault):
+            return Found(fault=CERTIFICATE)
+        with tempfile.TemporaryDirectory() as folder:
+            of_part, part = os.path.join(folder, "model"), os.path.join(folder, "part")
+            for _, wanted, written, certificate in parts:
+                for path, content in ((of_part, written), (part, certificate)):
+                    with open(path, "wb") as file:
+                        file.write(content)
+                verdict = next(verdict for verdict, number in STATUSES.items() if number == wanted)
+                fault = self.fault_of_judge(verdict, [str(query.kind.verify), of_part, paths[0], part])
+                if fault:
+                    return Found(fault=fault)
+        return found
+
     def found(self, model: str, test: File, path: str, out: IO[bytes], part: str) -> Found:
         """Checks a pair: a model, and a test at this path. The certificate goes to a file, which has the last path."""
         status = self.status([test.kind.check, model, path], out)
@@ -73,17 +107,21 @@ class Checker:
 
     def judged(self, verdict: str, second: bytes, words: list[str]) -> Found:
         """The verdict, where the judge of certificates says the same."""
+        stated = STATED.fullmatch(second)
+        fault = self.fault_of_judge(verdict, words)
+        if fault or stated is None:
+            return Found(fault=fault or FAULT)
+        return Found(verdict, (stated[1] or stated[2]).decode("ascii"))
+
+    def fault_of_judge(self, verdict: str, words: list[str]) -> str:
+        """The cell where the judge of certificates does not say this verdict; nothing where it does."""
         with tempfile.TemporaryFile() as out:
             status = self.status(words, out)
             said = os.pread(out.fileno(), HEAD, 0)
-        stated = STATED.fullmatch(second)
         if status is None:
-            return Found(fault=TIME)
-        if status != STATUSES[verdict] or said.rstrip(b"\n") != b"verified " + verdict.encode("ascii"):
-            return Found(fault=CERTIFICATE)
-        if stated is None:
-            return Found(fault=FAULT)
-        return Found(verdict, (stated[1] or stated[2]).decode("ascii"))
+            return TIME
+        is_same = status == STATUSES[verdict] and said.rstrip(b"\n") == b"verified " + verdict.encode("ascii")
+        return "" if is_same else CERTIFICATE
 
 
 def fault_of(status: int | None, first: bytes) -> Found:
@@ -107,6 +145,12 @@ def rows_found(text: bytes) -> Found:
     return Found(SWEPT, rows=frozenset(rows))
 
 
+def answer_found(text: bytes) -> Found:
+    """The word that answers a query."""
+    word = ANSWERED.fullmatch(text.split(b"\n", 1)[0])
+    return Found(ASKED, word[1].decode("ascii")) if word is not None else Found(fault=FAULT)
+
+
 def cell_of(found: Found, is_allowed: bool | None) -> str:
     """What the table shows of a verdict, where a row says what is allowed, or else the test itself."""
     if found.fault:
@@ -118,6 +162,16 @@ def cell_of(found: Found, is_allowed: bool | None) -> str:
     if found.verdict == OBSERVABLE:
         return OK if is_allowed else BUG
     return STRICTER if is_allowed else OK
+
+
+def cell_of_answer(found: Found, expected: str) -> str:
+    """What the table shows of the answer to a query."""
+    return OK if found.stated == expected else f"{BUG} ({found.stated})"
+
+
+def kind_of(cell: str) -> str:
+    """A cell without the answer in its brackets."""
+    return BUG if cell.startswith(f"{BUG} (") else cell
 
 
 def cell_of_rows(found: Found, allowed: frozenset[str]) -> str:

@@ -2,7 +2,7 @@
 import time
 from dataclasses import dataclass
 from functools import partial
-from typing import Callable, Iterator, Mapping, Sequence
+from typing import IO, Callable, Iterator, Mapping, Sequence
 
 from second.quoting import shown
 
@@ -16,7 +16,7 @@ from .kept import Kept
 from .leaving_out import LeftOut
 from .machines import Answer, Judges
 from .pairs import FAULT, MACHINE, NOT_TAKEN, OBSERVABLE, OK, SWEPT, TIME, UNNAMED, UNOBSERVABLE, UNWRITTEN
-from .pairs import Checker, Found, cell_of, cell_of_rows, remove
+from .pairs import Checker, Found, cell_of, cell_of_answer, cell_of_rows, remove
 from .tables import table_of_models
 from .taking import takes
 from .telling import tell
@@ -96,8 +96,8 @@ class Suite:
                 tell(f"suite: {len(self.state.pairs)} pairs are kept, and the next suite goes on from there")
             raise
         progress.end()
-        if self.kept is not None and self.kept.taken:
-            tell(f"suite: {len(self.kept.taken)} pairs stand from {shown(self.kept.path)}")
+        if self.kept is not None:
+            self.kept.tell_taken()
 
     def keep_state(self) -> None:
         """Keeps what stands so far, now and then: an end by force says nothing before."""
@@ -115,7 +115,7 @@ class Suite:
                 return kept[0]
             with new_file(place) as (out, part):
                 try:
-                    found = self.checker.found(self.copies.path(model), test, self.copies.path(test), out, part)
+                    found = self.found_by_program(model, test, out, part)
                 except OSError:
                     found = Found(fault=FAULT)
                 if found.verdict:
@@ -128,6 +128,13 @@ class Suite:
         except OSError:
             return Found(fault=UNWRITTEN)
         return found
+
+    def found_by_program(self, model: File, test: File, out: IO[bytes], part: str) -> Found:
+        """What the program says of a pair, whose certificate goes to a file, which has the last path."""
+        path = self.copies.path(test)
+        if test.is_query:
+            return self.checker.answered(self.copies.path(model), test, (self.copies.path_of_asked(test), path), out)
+        return self.checker.found(self.copies.path(model), test, path, out, part)
 
     def ask_machines(self, jobs: int, seconds: float) -> None:
         """Asks the machines of patterns, each within the limit of a call, and of tests of one's own, all within it."""
@@ -158,7 +165,7 @@ class Suite:
         """Whether a pair has a verdict, or rows, that mean something, and no row of the table says what they should
         be."""
         name = self.memory_models[model.name]
-        has_verdict = self.found_of(model, test).verdict != "" and takes(model, test)
+        has_verdict = self.found_of(model, test).verdict != "" and not test.is_query and takes(model, test)
         return name is not None and has_verdict and self.rows.allowed(name, test) is None
 
     # what is shown
@@ -171,6 +178,8 @@ class Suite:
             return found.fault
         if not takes(model, test):
             return NOT_TAKEN
+        if test.is_query:
+            return cell_of_answer(found, test.expected)
         if name is None:
             # its own word decides on a test of one's own, whatever the memory model
             return UNNAMED if found.is_swept or self.rows.has(test) else cell_of(found, None)

@@ -1,13 +1,15 @@
-"""What stands below the table of a suite as SARIF: slips that lint names, and faults of files."""
+"""What a suite finds as SARIF: what is BUG or stricter, and below its table slips that lint names, and faults of files."""
 import json
 import os
 import re
-from typing import Iterable, Iterator, NamedTuple, Sequence
+from typing import Iterable, Iterator, Mapping, NamedTuple, Sequence
 from urllib.parse import quote
 
 from second.quoting import shown
 
 from .files import File
+from .junit import FAILURES, SENTENCES, Case, sentence_of
+from .pairs import BUG, kind_of
 from .reports import writable
 
 VERSION = "2.1.0"
@@ -27,10 +29,11 @@ class Rule(NamedTuple):
 
 
 def rules_in(top: str) -> list[Rule]:
-    """The kinds of lint and the words of faults, as the pages have them."""
+    """What cells say of pairs, and the kinds of lint and the words of faults, as the pages have them."""
     slips = rows_of(os.path.join(top, "docs", "lint.md"), (KIND,))
     faults = rows_of(os.path.join(top, "docs", "faults.md"), FAULTS)
-    found = [Rule(name, said, False) for name, said in slips] + [Rule(name, said, True) for name, said in faults]
+    found = [Rule(name, SENTENCES[name], name == BUG) for name in FAILURES]
+    found += [Rule(name, said, False) for name, said in slips] + [Rule(name, said, True) for name, said in faults]
     return list({rule.name: rule for rule in found}.values())
 
 
@@ -50,19 +53,18 @@ def rows_of(path: str, heads: Sequence[str]) -> Iterator[tuple[str, str]]:
                 yield name, row[2]
 
 
-def sarif(lines: Sequence[str], files: Iterable[File], rules: Sequence[Rule]) -> bytes:
-    """Of the lines those that name a place of a file, with all rules."""
+def sarif(cases: Sequence[Case], lines: Sequence[str], files: Iterable[File], rules: Sequence[Rule]) -> bytes:
+    """The pairs that are BUG or stricter, and of the lines those that name a place of a file, with all rules."""
     known = {rule.name: rule for rule in rules}
     # the longest name first, since one may begin another
     names = sorted({shown(file.path): file.path for file in files}.items(), key=lambda item: len(item[0]), reverse=True)
-    results = []
+    results = [result_of_case(known, case) for case in cases if kind_of(case.cell) in FAILURES]
     for line in lines:
         path, place = place_in(line, names)
         if place is not None:
             # the faults of names in a macro, and `unnamed`, have no row of their own
-            rule = known.setdefault(place[3], Rule(place[3], place[3], True))
-            results.append((rule, path, place))
-    order = [*known]
+            known.setdefault(place[3], Rule(place[3], place[3], True))
+            results.append(result(known, place[3], place[4], location(path, int(place[1]), int(place[2]))))
     text = {
         "$schema": SCHEMA,
         "version": VERSION,
@@ -77,20 +79,30 @@ def sarif(lines: Sequence[str], files: Iterable[File], rules: Sequence[Rule]) ->
                         ],
                     }
                 },
-                "results": [
-                    {
-                        "ruleId": rule.name,
-                        "ruleIndex": order.index(rule.name),
-                        "level": "error" if rule.is_fault else "warning",
-                        "message": {"text": writable(place[4])},
-                        "locations": [location(path, int(place[1]), int(place[2]))],
-                    }
-                    for rule, path, place in results
-                ],
+                "results": results,
             }
         ],
     }
     return json.dumps(text, indent=1).encode("ascii") + b"\n"
+
+
+def result(rules: Mapping[str, Rule], name: str, said: str, place: dict[str, object]) -> dict[str, object]:
+    """A result by the rule of this name, at a place. Rules that come later stand behind."""
+    return {
+        "ruleId": name,
+        "ruleIndex": [*rules].index(name),
+        "level": "error" if rules[name].is_fault else "warning",
+        "message": {"text": writable(said)},
+        "locations": [place],
+    }
+
+
+def result_of_case(rules: Mapping[str, Rule], case: Case) -> dict[str, object]:
+    """That of a pair, at the model; the test stands beside it."""
+    said = f"{shown(case.model.path)} on {shown(case.test.path)}: {sentence_of(case.cell, case.test)}"
+    found = result(rules, kind_of(case.cell), said, location(case.model.path, 1, 1))
+    found["relatedLocations"] = [location(case.test.path, 1, 1)]
+    return found
 
 
 def place_in(line: str, names: Sequence[tuple[str, str]]) -> tuple[str, re.Match[str] | None]:

@@ -19,7 +19,9 @@ def takes(model: File, test: File) -> bool:
 
 @lru_cache(None)
 def has_locked(test: File) -> bool:
-    """Whether a test has micro-ops of locked instructions."""
+    """Whether a test has micro-ops of locked instructions, or that of a query."""
+    if test.asked_of is not None:
+        return has_locked(test.asked_of)
     if test.text is None or LOCKED.encode("ascii") not in test.text:
         return False
     try:

@@ -6,7 +6,18 @@ from typing import Mapping, Sequence
 
 from second.quoting import quoted, shown
 
-from .files import KINDS, MODEL_ENDING, File, ending_of, is_test, judge_distinct, judge_present, model_file, test_file
+from .files import (
+    KINDS,
+    MODEL_ENDING,
+    File,
+    ending_of,
+    is_row,
+    is_test,
+    judge_distinct,
+    judge_present,
+    model_file,
+    test_file,
+)
 from .refusing import Refusal
 
 SECONDS = re.compile(r"[0-9]{1,9}(\.[0-9]+)?", re.ASCII)
@@ -51,7 +62,9 @@ def read_words(words: Sequence[str], environ: Mapping[str, str], top: str) -> Wo
     if not paths.tests and not paths.folders:
         take_folder(paths, environ.get("SUITE_TESTS") or os.path.join(top, "examples", "tests"))
     models, tests = once(models), once(paths.tests)
-    found = Words(options, [model_file(path) for path in models], [test_file(path) for path in tests])
+    shipped = os.path.join(top, "examples", "tests")
+    folders = [*dict.fromkeys(os.path.dirname(path) for path in tests), shipped]
+    found = Words(options, [model_file(path) for path in models], [test_file(path, folders) for path in tests])
     judge_distinct("model", found.models)
     judge_distinct("test", found.tests)
     return found
@@ -103,7 +116,7 @@ def take_word(paths: Paths, word: str) -> None:
 
 def take_folder(paths: Paths, folder: str) -> None:
     """Takes the tests of a folder."""
-    tests = files_in(folder, tuple(KINDS))
+    tests = [path for path in files_in(folder, tuple(KINDS)) if is_row(path)]
     if not tests:
         raise Refusal(f"there is no test in {shown(folder)}")
     paths.folders.append(folder)

@@ -1,4 +1,4 @@
-" Listings of herd's for X86: :make works in each of their buffers.
+" Listings of herd's for X86 and X86_64: :make works in each of their buffers.
 if exists('b:did_ftplugin')
   finish
 endif
