@@ -9,14 +9,6 @@ installed.py says how an installation stands. An update makes the other tree, an
 The list of a tree stands before anything that it lists is made, and goes after all of it. So what was ended halfway is
 known, and the next call takes it away. To take away needs no room on the disk: nothing is written for it.
 """
-# pylint: disable=wrong-import-position
-# the module behind `signal`, which takes long to load
-_signal = __import__("_signal")
-
-if __name__ == "__main__" and _signal.getsignal(_signal.SIGINT) == _signal.default_int_handler:
-    # nothing is begun yet that would have to be cleared
-    _signal.signal(_signal.SIGINT, _signal.SIG_DFL)
-
 import fcntl
 import io
 import os
