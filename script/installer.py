@@ -68,7 +68,7 @@ def copy(source: str, target: str) -> None:
         os.makedirs(target, exist_ok=True)
         for name in sorted(os.listdir(source)):
             path = os.path.join(source, name)
-            if name not in LEFT_OUT_NAMES and os.path.relpath(path, TOP) not in LEFT_OUT:
+            if name not in LEFT_OUT_NAMES and path.removeprefix(f"{TOP}/") not in LEFT_OUT:
                 copy(path, os.path.join(target, name))
     else:
         shutil.copyfile(source, target)
