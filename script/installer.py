@@ -9,14 +9,6 @@ installed.py says how an installation stands. An update makes the other tree, an
 The list of a tree stands before anything that it lists is made, and goes after all of it. So what was ended halfway is
 known, and the next call takes it away. To take away needs no room on the disk: nothing is written for it.
 """
-# pylint: disable=wrong-import-position
-# the module behind `signal`, which takes long to load
-_signal = __import__("_signal")
-
-if __name__ == "__main__" and _signal.getsignal(_signal.SIGINT) == _signal.default_int_handler:
-    # nothing is begun yet that would have to be cleared
-    _signal.signal(_signal.SIGINT, _signal.SIG_DFL)
-
 import fcntl
 import io
 import os
@@ -76,7 +68,7 @@ def copy(source: str, target: str) -> None:
         os.makedirs(target, exist_ok=True)
         for name in sorted(os.listdir(source)):
             path = os.path.join(source, name)
-            if name not in LEFT_OUT_NAMES and os.path.relpath(path, TOP) not in LEFT_OUT:
+            if name not in LEFT_OUT_NAMES and path.removeprefix(f"{TOP}/") not in LEFT_OUT:
                 copy(path, os.path.join(target, name))
     else:
         shutil.copyfile(source, target)

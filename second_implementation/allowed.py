@@ -24,7 +24,7 @@ def main(model_path: str, test_path: str) -> int:
         name = memory_model_of(file.read(LIMIT + 1)).name
     if not os.path.exists(os.path.join(MACHINES, f"{name}.py")):
         return 0
-    command = [sys.executable, "-B", "-E", os.path.join(MACHINES, "verdicts.py"), name, test_path]
+    command = [sys.executable, "-B", "-E", "-S", os.path.join(MACHINES, "verdicts.py"), name, test_path]
     try:
         done = subprocess.run(command, stdin=subprocess.DEVNULL, capture_output=True, timeout=SECONDS, check=False)
     except subprocess.TimeoutExpired:

@@ -183,7 +183,7 @@ def main(model_path: str, test_path: str) -> int:
 
 def unkept(error: OSError) -> int:
     """That a temporary file could not be made."""
-    print(f"pipecheck: mend: {error.strerror}: {tempfile.gettempdir()}; TMPDIR names another folder", file=sys.stderr)
+    print(f"pipecheck: mend: {error.strerror}; TMPDIR names another folder for temporary files", file=sys.stderr)
     return FAILED
 
 

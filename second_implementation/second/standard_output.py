@@ -55,6 +55,11 @@ def status_of(main: Callable[..., int], words: Sequence[str]) -> int:
         # what is left in the buffer must not fail once more at the end
         os.dup2(os.open(os.devnull, os.O_WRONLY), 1)
         return UNWRITTEN
+    except OSError as error:
+        # what the system refuses is told in its own words
+        name = os.path.basename(sys.argv[0]).removesuffix(".py")
+        print(f"{name}: {error.filename + ': ' if error.filename else ''}{error.strerror}", file=sys.stderr)
+        return FAILED
     except Exception:  # pylint: disable=broad-exception-caught
         traceback.print_exc()
         return FAILED

@@ -34,7 +34,7 @@ from second.scopes import read_model
 from second.searching import search
 from second.tokens import Fault
 from standing import standing
-from suite.programs import command_of
+from suite.programs import command_of, held
 from suite.refusing import Refusal
 from verdicts import is_alike, runs
 from working import Unusable
@@ -274,7 +274,7 @@ def sweeper() -> Sweeper:
             found = Sweeper(command_of(value), "")
         else:
             stands = standing(TOP)
-            found = Sweeper([stands.path], stands.said)
+            found = Sweeper([held(stands.path)], stands.said)
         done = subprocess.run([*found.words, "sweep", "", ""], stdout=subprocess.DEVNULL, check=False)
     except Refusal as refusal_of_words:
         raise Unusable(str(refusal_of_words)) from refusal_of_words
