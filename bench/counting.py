@@ -190,7 +190,7 @@ def peak_bytes(*words: str) -> int:
 
 def show(what: str, figure: float, bar: float, more: str = "") -> None:
     """One line of a table: a figure beside its bar."""
-    print(f"{what:84} {figure:8.2f}   bar {bar}{more}{'   PAST IT' if figure > bar else ''}", flush=True)
+    print(f"{what:84} {figure:9.3f}   bar {bar}{more}{'   PAST IT' if figure > bar else ''}", flush=True)
 
 
 def show_all(ratios: Iterable[float], what: str, bar: float) -> None:

@@ -8,6 +8,7 @@ import os
 import re
 import shutil
 import sys
+from collections.abc import Iterator
 from dataclasses import dataclass
 
 from counting import TOP, Timed, timed
@@ -25,10 +26,11 @@ SOLVERS = {
 
 @dataclass(frozen=True)
 class Answered:
-    """What a solver takes, and its verdict."""
+    """What a solver takes for a question of so many bytes, and its verdict."""
 
     call: Timed
     verdict: bool | None
+    size: int
 
 
 def verdict_of(text: str) -> bool | None:
@@ -37,22 +39,27 @@ def verdict_of(text: str) -> bool | None:
     return None if found is None else not found[1]
 
 
-def installed(*names: str) -> list[str]:
-    """Those of these solvers that are here."""
-    return [name for name in names if shutil.which(name)]
-
-
-def written(folder: str, solver: str, paths: list[str], limit: float = math.inf) -> str | None:
-    """The file of the question for a solver, written anew; None where that takes longer than the limit."""
-    kind = SOLVERS[solver][0]
-    path = os.path.join(folder, {"dimacs": "question.cnf", "smt": "question.smt2"}[kind])
+def written(path: str, kind: str, paths: list[str], limit: float) -> str | None:
+    """The path of a question that is written anew; None where that takes longer than the limit."""
     return path if timed(limit, path, *SECOND, kind, *paths).has_ended else None
 
 
-def answered(folder: str, solver: str, question: str, calls: int, limit: float = math.inf) -> Answered:
-    """What a solver takes for a question, the least of so many calls."""
-    out = os.path.join(folder, "answer")
-    places = {"question": question, "proof": os.path.join(folder, "proof")}
-    call = timed(limit, out, *(places.get(word, word) for word in SOLVERS[solver][1]), calls=calls)
-    with open(out, encoding="latin-1") as file:
-        return Answered(call, verdict_of(file.read()))
+def asked(
+    folder: str, paths: list[str], *names: str, calls: int = 1, writing: float = math.inf, limit: float = math.inf
+) -> Iterator[tuple[str, Answered | None]]:
+    """Those of these solvers that are here, each with what it takes for the question, the least of so many calls, each ended at a
+    limit of seconds; None where writing the question takes longer than its own."""
+    questions: dict[str, str | None] = {}
+    out, proof = (os.path.join(folder, name) for name in ("answer", "proof"))
+    for name in filter(shutil.which, names):
+        kind, words = SOLVERS[name]
+        if kind not in questions:
+            questions[kind] = written(os.path.join(folder, {"dimacs": "question.cnf", "smt": "question.smt2"}[kind]), kind, paths, writing)
+        question = questions[kind]
+        if question is None:
+            yield name, None
+            continue
+        places = {"question": question, "proof": proof}
+        call = timed(limit, out, *(places.get(word, word) for word in words), calls=calls)
+        with open(out, encoding="latin-1") as file:
+            yield name, Answered(call, verdict_of(file.read()), os.path.getsize(question))
