@@ -1,9 +1,10 @@
-"""What scripts of this folder count of the program: instructions, turns of the search, and peak memory.
+"""What scripts of this folder measure of a call: instructions, turns of the search, time and peak memory.
 
 Instructions are counted by `valgrind --tool=callgrind`, and so are the turns, as calls of what hands out the result of a
 turn, less one for the start of each search: both are the same in each run, whatever else the machine does. A turn makes one
 split. The splits of a text are fewer, since a refutation is written without those that it does not need, and a graph has
-none.
+none. A peak of memory is no less than that of a small script of Python, some 9 MiB, which the system counts into that of
+its child.
 """
 import math
 import os
@@ -11,7 +12,9 @@ import re
 import subprocess
 import sys
 import tempfile
+from collections.abc import Iterable
 from dataclasses import dataclass
+from functools import cache
 
 TOP = os.path.dirname(os.path.dirname(os.path.realpath(__file__)))
 sys.path.insert(0, os.path.join(TOP, "second_implementation"))
@@ -19,20 +22,29 @@ sys.path.insert(0, os.path.join(TOP, "second_implementation"))
 # pylint: disable=wrong-import-position
 from standing import standing
 
-# figures are those of the proved program, which is made first, unless the environment says another one
-os.environ.setdefault("PIPECHECK_PROVED", "yes")
-PROGRAM = standing(TOP).path
+MIB = 1 << 20
+# a call that takes so many seconds by the clock is made once
+LONG = 10.0
 # a function's name stands whole where it comes first, and after that its number alone
 NAMED = re.compile(r"^(?:c?fn)=\((\d+)\)(?: (.*))?$")
 CALLS = re.compile(r"^calls=(\d+) ")
 # the status of `timeout` for a call that it ended
 TIMED_OUT = 124
 MEASURED = """
-import resource, subprocess, sys
-with open(sys.argv[1], "wb") as out:
-    status = subprocess.run(["timeout", *sys.argv[2:]], stdout=out, stderr=subprocess.DEVNULL).returncode
-used = resource.getrusage(resource.RUSAGE_CHILDREN)
-print(used.ru_utime + used.ru_stime, used.ru_maxrss, status)
+import resource, subprocess, sys, time
+out, room, calls, long, *words = sys.argv[1:]
+def limited(): resource.setrlimit(resource.RLIMIT_AS, (int(room), int(room)))
+def used():
+    it = resource.getrusage(resource.RUSAGE_CHILDREN)
+    return it.ru_utime + it.ru_stime
+made = []
+while len(made) < int(calls) and (not made or made[0][1] < float(long)):
+    with open(out, "wb") as file:
+        before, begun = used(), time.perf_counter()
+        done = subprocess.run(words, stdout=file, stderr=subprocess.DEVNULL, preexec_fn=limited if int(room) else None)
+        made.append((used() - before, time.perf_counter() - begun, done.returncode))
+seconds, clocks, statuses = zip(*made)
+print(min(seconds), min(clocks), resource.getrusage(resource.RUSAGE_CHILDREN).ru_maxrss, max(statuses))
 """
 # what hands out the result of a turn, and a whole search; a name has the number of its types behind it
 HANDED_OUT, SEARCHED = "solver::search::settle", "solver::solving::solve"
@@ -46,14 +58,32 @@ class Counted:
     turns: int
     text: str
 
+    @property
+    def first(self) -> str:
+        """The first line."""
+        return self.text.partition("\n")[0]
+
 
 @dataclass(frozen=True)
 class Timed:
-    """The processor seconds and the peak memory, in bytes, of a call, and whether it came to an end."""
+    """The seconds of the processor and by the clock, the peak memory in bytes, and the status of calls."""
 
     seconds: float
+    clock: float
     peak: int
-    has_ended: bool
+    status: int
+
+    @property
+    def has_ended(self) -> bool:
+        """Whether it came to an end by itself."""
+        return self.status != TIMED_OUT
+
+
+@cache
+def program() -> str:
+    """The proved program, which is made first, unless the environment says another one."""
+    os.environ.setdefault("PIPECHECK_PROVED", "yes")
+    return standing(TOP).path
 
 
 def saved(folder: str, name: str, text: str) -> str:
@@ -67,6 +97,18 @@ def saved(folder: str, name: str, text: str) -> str:
 def saved_all(folder: str, **texts: str) -> list[str]:
     """A file for each text, by its name."""
     return [saved(folder, name, text) for name, text in texts.items()]
+
+
+def shipped(kind: str, *names: str) -> list[str]:
+    """The paths of the shipped `models`, `tests` or `queries` of these names."""
+    ending = {"models": "uspec", "tests": "test", "queries": "query"}[kind]
+    return [os.path.join(TOP, "examples", kind, f"{name}.{ending}") for name in names]
+
+
+def names_of(kind: str, ending: str) -> list[str]:
+    """The names of all shipped files of a kind, in order."""
+    names = os.listdir(os.path.join(TOP, "examples", kind))
+    return sorted(name.removesuffix(ending) for name in names if name.endswith(ending))
 
 
 def calls_of(profile: str, functions: tuple[str, ...]) -> list[int]:
@@ -92,47 +134,67 @@ def turns_in(profile: str) -> int:
     return handed_out - searched
 
 
-def counted(*words: str) -> Counted:
-    """A call under callgrind."""
+def under_callgrind(profile: str, *command: str) -> tuple[int, str]:
+    """How many instructions a command takes, and what it writes."""
+    done = subprocess.run(
+        ["valgrind", "--tool=callgrind", f"--callgrind-out-file={profile}", *command], capture_output=True, check=False
+    )
+    found = re.search(rb"Collected : (\d+)", done.stderr)
+    if not found:
+        raise SystemExit(f"not counted: valgrind ended with status {done.returncode}")
+    return int(found[1]), done.stdout.decode("ascii")
+
+
+def counted(*words: str, says: str = "") -> Counted:
+    """A call of the program, which has to begin so."""
     with tempfile.TemporaryDirectory() as folder:
         profile = os.path.join(folder, "profile")
-        command = ["valgrind", "--tool=callgrind", f"--callgrind-out-file={profile}", PROGRAM, *words]
-        done = subprocess.run(command, capture_output=True, check=False)
-        found = re.search(rb"Collected : (\d+)", done.stderr)
-        if not found:
-            raise SystemExit(f"not counted: valgrind ended with status {done.returncode}")
-        return Counted(int(found[1]), turns_in(profile), done.stdout.decode("ascii"))
+        taken, text = under_callgrind(profile, program(), *words)
+        if not text.startswith(says):
+            raise SystemExit(f"not counted: {words[0]} says {text[:80]!r}")
+        return Counted(taken, turns_in(profile), text)
 
 
-def timed(limit: float, out: str, *words: str) -> Timed:
-    """A call whose standard output goes to a file, ended at a limit of seconds by the clock."""
-    # a child has what its parent has until its program begins, so a small parent stands between
-    command = [sys.executable, "-c", MEASURED, out, str(limit), *words]
-    done = subprocess.run(command, stdout=subprocess.PIPE, check=True)
-    seconds, peak, status = done.stdout.split()
-    return Timed(float(seconds), 1024 * int(peak), int(status) != TIMED_OUT)
-
-
-def instructions(*words: str) -> int:
+def instructions(*words: str, says: str = "") -> int:
     """How many instructions the program takes."""
-    return counted(*words).instructions
+    return counted(*words, says=says).instructions
 
 
-def heap_peak(*words: str) -> int:
-    """The most bytes of the heap that the program has at one time, by massif."""
+def heap_peak(*words: str, says: str = "") -> int:
+    """The most bytes of the heap that the program has at one time, by massif. What it writes has to begin so."""
     with tempfile.TemporaryDirectory() as folder:
         out = os.path.join(folder, "heap")
-        command = ["valgrind", "--tool=massif", "--peak-inaccuracy=0.0", f"--massif-out-file={out}", PROGRAM, *words]
-        subprocess.run(command, stdout=subprocess.DEVNULL, stderr=subprocess.DEVNULL, check=False)
+        command = ["valgrind", "--tool=massif", "--peak-inaccuracy=0.0", f"--massif-out-file={out}", program(), *words]
+        done = subprocess.run(command, stdout=subprocess.PIPE, stderr=subprocess.DEVNULL, check=False)
+        if not done.stdout.startswith(says.encode("ascii")):
+            raise SystemExit(f"not counted: {words[0]} says {done.stdout[:80]!r}")
         with open(out, encoding="ascii") as file:
             return max(map(int, re.findall(r"^mem_heap_B=(\d+)$", file.read(), re.MULTILINE)))
 
 
+def timed(limit: float, out: str, *words: str, calls: int = 1, room: int = 0) -> Timed:
+    """So many calls as one, or a single long one: the least times, since other work on the machine only adds to them, the
+    greatest memory and the greatest status. Standard output goes to a file. Each call is ended at a limit of seconds by the
+    clock, and has so many bytes of address space, where a number is given."""
+    # a child has what its parent has until its program begins, so a small parent stands between
+    ended = [] if limit == math.inf else ["timeout", str(limit)]
+    command = [sys.executable, "-I", "-S", "-c", MEASURED, out, str(room), str(calls), str(LONG), *ended, *words]
+    seconds, clock, peak, status = subprocess.run(command, stdout=subprocess.PIPE, check=True).stdout.split()
+    return Timed(float(seconds), float(clock), 1024 * int(peak), int(status))
+
+
 def peak_bytes(*words: str) -> int:
     """The peak memory of the program, in bytes."""
-    return timed(math.inf, os.devnull, PROGRAM, *words).peak
+    return timed(math.inf, os.devnull, program(), *words).peak
 
 
-def show(what: str, figure: float, bar: float, width: int = 84) -> None:
+def show(what: str, figure: float, bar: float, more: str = "") -> None:
     """One line of a table: a figure beside its bar."""
-    print(f"{what:{width}} {figure:8.2f}   bar {bar}", flush=True)
+    print(f"{what:84} {figure:9.3f}   bar {bar}{more}{'   PAST IT' if figure > bar else ''}", flush=True)
+
+
+def show_all(ratios: Iterable[float], what: str, bar: float) -> None:
+    """The last line of a table: the greatest of these ratios, and the mean."""
+    found = list(ratios)
+    if found:
+        print(f"of {len(found)} {what} the greatest is {max(found):.2f}, the mean {sum(found) / len(found):.2f} (bar {bar})")

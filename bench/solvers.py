@@ -1,0 +1,65 @@
+"""Questions put to solvers of the system's packages and to the second implementation, beside the program.
+
+second_implementation/pipecheck_second.py grounds a model and a test by itself, and writes the question for a solver; so it is
+a second judge too. A solver runs as a user would run it, on the file that was written before; cadical writes its proof.
+"""
+import math
+import os
+import re
+import shutil
+import sys
+from collections.abc import Iterator
+from dataclasses import dataclass
+
+from counting import TOP, Timed, timed
+
+SECOND = [sys.executable, os.path.join(TOP, "second_implementation/pipecheck_second.py")]
+# the line that is a verdict, of the program and of solvers
+VERDICT = re.compile(r"^(?:s )?(un)?(?:observable|sat(?:isfiable)?)$", re.MULTILINE | re.IGNORECASE)
+# each with the kind of its question, and its words, of which some stand for paths
+SOLVERS = {
+    "cadical": ("dimacs", ("cadical", "-q", "question", "proof")),
+    "minisat": ("dimacs", ("minisat", "-verb=0", "question")),
+    "z3": ("smt", ("z3", "question")),
+}
+
+
+@dataclass(frozen=True)
+class Answered:
+    """What a solver takes for a question of so many bytes, and its verdict."""
+
+    call: Timed
+    verdict: bool | None
+    size: int
+
+
+def verdict_of(text: str) -> bool | None:
+    """Whether the outcome is observable, by what the program or a solver writes; None where it is not said."""
+    found = VERDICT.search(text)
+    return None if found is None else not found[1]
+
+
+def written(path: str, kind: str, paths: list[str], limit: float) -> str | None:
+    """The path of a question that is written anew; None where that takes longer than the limit."""
+    return path if timed(limit, path, *SECOND, kind, *paths).has_ended else None
+
+
+def asked(
+    folder: str, paths: list[str], *names: str, calls: int = 1, writing: float = math.inf, limit: float = math.inf
+) -> Iterator[tuple[str, Answered | None]]:
+    """Those of these solvers that are here, each with what it takes for the question, the least of so many calls, each ended at a
+    limit of seconds; None where writing the question takes longer than its own."""
+    questions: dict[str, str | None] = {}
+    out, proof = (os.path.join(folder, name) for name in ("answer", "proof"))
+    for name in filter(shutil.which, names):
+        kind, words = SOLVERS[name]
+        if kind not in questions:
+            questions[kind] = written(os.path.join(folder, {"dimacs": "question.cnf", "smt": "question.smt2"}[kind]), kind, paths, writing)
+        question = questions[kind]
+        if question is None:
+            yield name, None
+            continue
+        places = {"question": question, "proof": proof}
+        call = timed(limit, out, *(places.get(word, word) for word in words), calls=calls)
+        with open(out, encoding="latin-1") as file:
+            yield name, Answered(call, verdict_of(file.read()), os.path.getsize(question))
