@@ -1,6 +1,6 @@
 //! How each command ends, by the tables of its module, each walked by a test.
 use crate::memory_runs::{
-    Plan, first_other, first_taken, first_unreported, first_wrong, first_wrong_failure,
+    Plan, each_ends, each_ends_with, each_fails, each_is_reported, none_is_taken,
 };
 use crate::{asks, certificates, checks, cores, lifted, listings, rings, sweeps};
 use example_texts::{
@@ -8,258 +8,222 @@ use example_texts::{
     TWO_FORBIDDEN, TWO_IN_ORDER,
 };
 use pc_common::Status;
-use std::test::Fail;
 
 #[test]
-fn a_check_ends_with_a_verdict(rt: HostRuntime) -> Result<(), Fail> {
-    assert_eq!(rt;
-        first_wrong(rt.alloc(), "check model test", checks::answers::VERDICTS)?,
-        None
+fn a_check_ends_with_a_verdict(rt: HostRuntime) {
+    each_ends(
+        &rt,
+        rt.alloc(),
+        "check model test",
+        checks::answers::VERDICTS,
     );
-    Ok(())
 }
 
 #[test]
-fn a_check_ends_with_a_verdict_or_a_refusal(rt: HostRuntime) -> Result<(), Fail> {
-    assert_eq!(rt;
-        first_wrong(rt.alloc(), "check model test", checks::checking::CHECKS)?,
-        None
+fn a_check_ends_with_a_verdict_or_a_refusal(rt: HostRuntime) {
+    each_ends(
+        &rt,
+        rt.alloc(),
+        "check model test",
+        checks::checking::CHECKS,
     );
-    Ok(())
 }
 
 #[test]
-fn of_candidates_that_tie_the_first_is_split(rt: HostRuntime) -> Result<(), Fail> {
-    assert_eq!(rt;
-        first_wrong(rt.alloc(), "check model test", checks::ties::TIES)?,
-        None
-    );
-    Ok(())
+fn of_candidates_that_tie_the_first_is_split(rt: HostRuntime) {
+    each_ends(&rt, rt.alloc(), "check model test", checks::ties::TIES);
 }
 
 #[test]
-fn a_check_with_page_table_entries_ends_so(rt: HostRuntime) -> Result<(), Fail> {
-    assert_eq!(rt;
-        first_wrong(rt.alloc(), "check model test", checks::translation::WALKS)?,
-        None
+fn a_check_with_page_table_entries_ends_so(rt: HostRuntime) {
+    each_ends(
+        &rt,
+        rt.alloc(),
+        "check model test",
+        checks::translation::WALKS,
     );
-    Ok(())
 }
 
 #[test]
-fn a_check_of_version_2_ends_with_a_verdict(rt: HostRuntime) -> Result<(), Fail> {
-    assert_eq!(rt;
-        first_wrong(rt.alloc(), "check2 model test", checks::answers::SIGNED)?,
-        None
+fn a_check_of_version_2_ends_with_a_verdict(rt: HostRuntime) {
+    each_ends(
+        &rt,
+        rt.alloc(),
+        "check2 model test",
+        checks::answers::SIGNED,
     );
-    Ok(())
 }
 
 #[test]
-fn a_check_of_a_listing_ends_so(rt: HostRuntime) -> Result<(), Fail> {
-    assert_eq!(rt;
-        first_wrong(rt.alloc(), "check86 model listing", listings::CHECKS)?,
-        None
-    );
-    Ok(())
+fn a_check_of_a_listing_ends_so(rt: HostRuntime) {
+    each_ends(&rt, rt.alloc(), "check86 model listing", listings::CHECKS);
 }
 
 #[test]
-fn a_text_is_verified_against_a_listing(rt: HostRuntime) -> Result<(), Fail> {
-    assert_eq!(rt;
-        first_wrong(
-            rt.alloc(),
-            "verify86 model listing text",
-            listings::VERIFIES
-        )?,
-        None
+fn a_text_is_verified_against_a_listing(rt: HostRuntime) {
+    each_ends(
+        &rt,
+        rt.alloc(),
+        "verify86 model listing text",
+        listings::VERIFIES,
     );
-    Ok(())
 }
 
 #[test]
-fn a_lifted_text_is_verified_or_refused(rt: HostRuntime) -> Result<(), Fail> {
-    assert_eq!(rt;
-        first_wrong(
-            rt.alloc(),
-            "verify-lifted model test certificate",
-            lifted::verifying::ENDS
-        )?,
-        None
+fn a_lifted_text_is_verified_or_refused(rt: HostRuntime) {
+    each_ends(
+        &rt,
+        rt.alloc(),
+        "verify-lifted model test certificate",
+        lifted::verifying::ENDS,
     );
-    Ok(())
 }
 
 #[test]
-fn a_certificate_is_lifted_or_refused(rt: HostRuntime) -> Result<(), Fail> {
-    assert_eq!(rt;
-        first_wrong(
-            rt.alloc(),
-            "lift model test certificate",
-            lifted::lifting::ENDS
-        )?,
-        None
+fn a_certificate_is_lifted_or_refused(rt: HostRuntime) {
+    each_ends(
+        &rt,
+        rt.alloc(),
+        "lift model test certificate",
+        lifted::lifting::ENDS,
     );
-    Ok(())
 }
 
 #[test]
-fn a_check_is_refused(rt: HostRuntime) -> Result<(), Fail> {
-    let found = first_other(
+fn a_check_is_refused(rt: HostRuntime) {
+    each_ends_with(
+        &rt,
         rt.alloc(),
         "check model test",
         Status::Refused,
         checks::checking::REFUSED,
-    )?;
-    assert_eq!(rt; found, None);
-    Ok(())
+    );
 }
 
 #[test]
-fn a_check_of_version_2_finds_a_refutation(rt: HostRuntime) -> Result<(), Fail> {
-    let found = first_other(
+fn a_check_of_version_2_finds_a_refutation(rt: HostRuntime) {
+    each_ends_with(
+        &rt,
         rt.alloc(),
         "check2 model test",
         Status::Unobservable,
         certificates::signs::FOUND,
-    )?;
-    assert_eq!(rt; found, None);
-    Ok(())
+    );
 }
 
 #[test]
-fn a_core_is_found(rt: HostRuntime) -> Result<(), Fail> {
-    let found = first_other(
+fn a_core_is_found(rt: HostRuntime) {
+    each_ends_with(
+        &rt,
         rt.alloc(),
         "core model test",
         Status::Done,
         cores::found::CORES,
-    )?;
-    assert_eq!(rt; found, None);
-    Ok(())
+    );
 }
 
 #[test]
-fn a_core_is_refused(rt: HostRuntime) -> Result<(), Fail> {
-    let found = first_other(
+fn a_core_is_refused(rt: HostRuntime) {
+    each_ends_with(
+        &rt,
         rt.alloc(),
         "core model test",
         Status::Refused,
         cores::endings::REFUSED,
-    )?;
-    assert_eq!(rt; found, None);
-    Ok(())
+    );
 }
 
 #[test]
-fn a_sweep_has_a_verdict_for_each_row(rt: HostRuntime) -> Result<(), Fail> {
-    let found = first_other(
+fn a_sweep_has_a_verdict_for_each_row(rt: HostRuntime) {
+    each_ends_with(
+        &rt,
         rt.alloc(),
         "sweep model test",
         Status::Done,
         sweeps::rows::SWEEPS,
-    )?;
-    assert_eq!(rt; found, None);
-    Ok(())
+    );
 }
 
 #[test]
-fn a_sweep_goes_through_all_values(rt: HostRuntime) -> Result<(), Fail> {
-    let found = first_other(
+fn a_sweep_goes_through_all_values(rt: HostRuntime) {
+    each_ends_with(
+        &rt,
         rt.alloc(),
         "sweep model test",
         Status::Done,
         sweeps::values::VALUES,
-    )?;
-    assert_eq!(rt; found, None);
-    Ok(())
+    );
 }
 
 #[test]
-fn a_sweep_is_refused(rt: HostRuntime) -> Result<(), Fail> {
-    let found = first_other(
+fn a_sweep_is_refused(rt: HostRuntime) {
+    each_ends_with(
+        &rt,
         rt.alloc(),
         "sweep model test",
         Status::Refused,
         sweeps::endings::REFUSED,
-    )?;
-    assert_eq!(rt; found, None);
-    Ok(())
+    );
 }
 
 #[test]
-fn a_pattern_is_refused(rt: HostRuntime) -> Result<(), Fail> {
-    let found = first_other(
+fn a_pattern_is_refused(rt: HostRuntime) {
+    each_ends_with(
+        &rt,
         rt.alloc(),
         "sweep model test",
         Status::Refused,
         sweeps::faults::REFUSED,
-    )?;
-    assert_eq!(rt; found, None);
-    Ok(())
+    );
 }
 
 #[test]
-fn a_query_is_answered(rt: HostRuntime) -> Result<(), Fail> {
-    let found = first_other(
+fn a_query_is_answered(rt: HostRuntime) {
+    each_ends_with(
+        &rt,
         rt.alloc(),
         "ask model test query",
         Status::Done,
         asks::words::ANSWERS,
-    )?;
-    assert_eq!(rt; found, None);
-    Ok(())
+    );
 }
 
 #[test]
-fn a_query_is_refused(rt: HostRuntime) -> Result<(), Fail> {
-    let found = first_other(
+fn a_query_is_refused(rt: HostRuntime) {
+    each_ends_with(
+        &rt,
         rt.alloc(),
         "ask model test query",
         Status::Refused,
         asks::endings::REFUSED,
-    )?;
-    assert_eq!(rt; found, None);
-    Ok(())
+    );
 }
 
 #[test]
-fn a_text_is_cut_where_a_write_fails(rt: HostRuntime) -> Result<(), Fail> {
+fn a_text_is_cut_where_a_write_fails(rt: HostRuntime) {
     let contents = &[("model", ORDERED), ("test", TWO)];
-    assert_eq!(rt;
-        first_wrong_failure(rt.alloc(), contents, checks::answers::CUT_SHORT)?,
-        None
-    );
-    Ok(())
+    each_fails(&rt, rt.alloc(), contents, checks::answers::CUT_SHORT);
 }
 
 #[test]
-fn a_check_that_ends_early_says_why(rt: HostRuntime) -> Result<(), Fail> {
+fn a_check_that_ends_early_says_why(rt: HostRuntime) {
     let contents = &[("model", ORDERED), ("test", TWO), ("bad", "t")];
-    assert_eq!(rt;
-        first_wrong_failure(rt.alloc(), contents, checks::checking::FAILS)?,
-        None
-    );
-    Ok(())
+    each_fails(&rt, rt.alloc(), contents, checks::checking::FAILS);
 }
 
 #[test]
-fn a_verify_that_ends_early_says_why(rt: HostRuntime) -> Result<(), Fail> {
+fn a_verify_that_ends_early_says_why(rt: HostRuntime) {
     let contents = &[
         ("model", ORDERED),
         ("test", TWO),
         ("certificate", TWO_IN_ORDER),
         ("bad", "t"),
     ];
-    assert_eq!(rt;
-        first_wrong_failure(rt.alloc(), contents, certificates::verifying::ENDS)?,
-        None
-    );
-    Ok(())
+    each_fails(&rt, rt.alloc(), contents, certificates::verifying::ENDS);
 }
 
 #[test]
-fn a_verify_lifted_that_ends_early_says_why(rt: HostRuntime) -> Result<(), Fail> {
+fn a_verify_lifted_that_ends_early_says_why(rt: HostRuntime) {
     let contents = &[
         ("model", SOME_OP),
         ("test", EMPTY),
@@ -269,61 +233,41 @@ fn a_verify_lifted_that_ends_early_says_why(rt: HostRuntime) -> Result<(), Fail>
         ),
         ("bad", "t"),
     ];
-    assert_eq!(rt;
-        first_wrong_failure(rt.alloc(), contents, lifted::verifying::EARLY)?,
-        None
-    );
-    Ok(())
+    each_fails(&rt, rt.alloc(), contents, lifted::verifying::EARLY);
 }
 
 #[test]
-fn a_command_on_a_listing_that_ends_early_says_why(rt: HostRuntime) -> Result<(), Fail> {
+fn a_command_on_a_listing_that_ends_early_says_why(rt: HostRuntime) {
     let contents = &[
         ("model", STORE_BUFFER),
         ("listing", LISTED_STORE_BUFFERING),
         ("text", listings::SAW_NEITHER),
         ("bad", "t"),
     ];
-    assert_eq!(rt;
-        first_wrong_failure(rt.alloc(), contents, listings::ENDS)?,
-        None
-    );
-    Ok(())
+    each_fails(&rt, rt.alloc(), contents, listings::ENDS);
 }
 
 #[test]
-fn a_core_that_ends_early_says_why(rt: HostRuntime) -> Result<(), Fail> {
+fn a_core_that_ends_early_says_why(rt: HostRuntime) {
     let contents = &[("model", BOTH_ORDERS), ("test", TWO_FORBIDDEN)];
-    assert_eq!(rt;
-        first_wrong_failure(rt.alloc(), contents, cores::endings::FAILS)?,
-        None
-    );
-    Ok(())
+    each_fails(&rt, rt.alloc(), contents, cores::endings::FAILS);
 }
 
 #[test]
-fn a_sweep_that_ends_early_says_why(rt: HostRuntime) -> Result<(), Fail> {
+fn a_sweep_that_ends_early_says_why(rt: HostRuntime) {
     let contents = &[("model", ORDERED), ("test", TWO)];
-    assert_eq!(rt;
-        first_wrong_failure(rt.alloc(), contents, sweeps::endings::FAILS)?,
-        None
-    );
-    Ok(())
+    each_fails(&rt, rt.alloc(), contents, sweeps::endings::FAILS);
 }
 
 #[test]
-fn an_ask_that_ends_early_says_why(rt: HostRuntime) -> Result<(), Fail> {
+fn an_ask_that_ends_early_says_why(rt: HostRuntime) {
     let contents = &[
         ("model", asks::texts::NO_AXIOMS),
         ("test", ONE),
         ("query", "True"),
         ("bad", asks::endings::NO_TEXT),
     ];
-    assert_eq!(rt;
-        first_wrong_failure(rt.alloc(), contents, asks::endings::FAILS)?,
-        None
-    );
-    Ok(())
+    each_fails(&rt, rt.alloc(), contents, asks::endings::FAILS);
 }
 
 /// Runs of which each call is to fail in turn.
@@ -338,13 +282,10 @@ const PLANS: &[&[Plan<'static>]] = &[
 ];
 
 #[test]
-fn a_failed_read_writes_nothing_and_a_failed_write_cuts_the_text(
-    rt: HostRuntime,
-) -> Result<(), Fail> {
+fn a_failed_read_writes_nothing_and_a_failed_write_cuts_the_text(rt: HostRuntime) {
     for plans in PLANS {
-        assert_eq!(rt; first_unreported(rt.alloc(), plans)?, None);
+        each_is_reported(&rt, rt.alloc(), plans);
     }
-    Ok(())
 }
 
 const NO_COMMANDS: &[&'static str] = &[
@@ -372,7 +313,6 @@ const NO_COMMANDS: &[&'static str] = &[
 ];
 
 #[test]
-fn words_of_no_command_are_told_so(rt: HostRuntime) -> Result<(), Fail> {
-    assert_eq!(rt; first_taken(rt.alloc(), NO_COMMANDS)?, None);
-    Ok(())
+fn words_of_no_command_are_told_so(rt: HostRuntime) {
+    none_is_taken(&rt, rt.alloc(), NO_COMMANDS);
 }

@@ -1,6 +1,5 @@
-//! Texts that are made to break the top call: models and tests at their limits and one past them, certificates that are
-//! cut or long, and answers over 300 nodes.
+//! Texts that are made to break the top call: models and tests at their limits and one past them, and certificates that
+//! are cut or long.
 mod certificates;
 mod pieces;
-mod sizes;
 mod texts;

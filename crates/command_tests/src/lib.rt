@@ -1,5 +1,5 @@
 //! Tests of the commands through the top call, over files and sinks in memory, of the certificates that they write and
-//! judge, and of the adapters of the system's files and output.
+//! judge, of the adapters of the system's files and output, of ground trees and the search, and of laws.
 //!
 //! One crate has them all, since each crate that stands on the top call builds the whole program for its tests.
 #![tactic(auto)]
@@ -34,3 +34,5 @@ mod rings;
 mod spaces;
 #[cfg(test)]
 mod sweeps;
+#[cfg(test)]
+mod tree;

@@ -5,6 +5,7 @@ use pc_common::{
     read_all, write_all,
 };
 use std::alloc::Global;
+use std::process::Abort;
 use std::test::Fail;
 
 /// Two files `a`, of which the first counts, and the empty file `b`.
@@ -78,15 +79,12 @@ fn is_read_so(
 }
 
 #[test]
-fn a_file_is_read_whole_or_not_at_all(rt: HostRuntime) -> Result<(), Fail> {
+fn a_file_is_read_whole_or_not_at_all(rt: HostRuntime) {
     for (name, limit, step, fails, end, faults) in READS {
         let row = (*name, *limit, *step);
-        assert!(rt;
-            is_read_so(rt.alloc(), row, fails, *end, *faults)?,
-            "{name} up to {limit} by {step}"
-        );
+        let is_so = is_read_so(rt.alloc(), row, fails, *end, *faults);
+        assert!(rt; is_so.unwrap_or(false), "{name} up to {limit} by {step}");
     }
-    Ok(())
 }
 
 fn are_sure(alloc: Global, files: &mut SureFiles) -> bool {
@@ -126,16 +124,24 @@ fn sink(alloc: Global, room: usize, step: usize, fails: &[u64]) -> Result<MemSin
     Ok(if step > 0 { sink.with_step(step) } else { sink })
 }
 
+/// The same of a sink of this room.
+fn is_taken_in(
+    alloc: Global,
+    (room, step): (usize, usize),
+    fails: &[u64],
+    text: &str,
+    faults: u64,
+) -> Result<bool, Memory> {
+    let mut sink = sink(alloc, room, step, fails)?;
+    Ok(is_taken_as(&mut sink, text, faults))
+}
+
 #[test]
-fn a_sink_takes_what_its_room_and_its_calls_let_through(rt: HostRuntime) -> Result<(), Fail> {
+fn a_sink_takes_what_its_room_and_its_calls_let_through(rt: HostRuntime) {
     for (room, step, fails, text, faults) in WRITES {
-        let mut sink = sink(rt.alloc(), *room, *step, fails)?;
-        assert!(rt;
-            is_taken_as(&mut sink, text, *faults),
-            "{text} in {room} by {step}"
-        );
+        let is_so = is_taken_in(rt.alloc(), (*room, *step), fails, text, *faults);
+        assert!(rt; is_so.unwrap_or(false), "{text} in {room} by {step}");
     }
-    Ok(())
 }
 
 /// The lengths of the pieces that are put into a room, how often it is flushed then, the calls of the sink that
@@ -207,16 +213,22 @@ fn is_handed_on(
     Ok(is_put == (faults == 0) && is_held(&sink, text, taken, faults))
 }
 
-#[test]
-fn a_room_hands_on_what_it_has_no_space_for(rt: HostRuntime) -> Result<(), Fail> {
-    let text = long_text(rt.alloc())?;
+/// Each row holds of the text.
+fn each_is_handed_on(rt: &impl Abort, alloc: Global, text: &[u8]) {
     for (pieces, flushes, fails, taken, faults) in ROOMS {
         let ends = (*taken, *faults);
+        let is_so = is_handed_on(alloc, text, (*pieces, *flushes), fails, ends);
         assert!(rt;
-            is_handed_on(rt.alloc(), &text, (*pieces, *flushes), fails, ends)?,
+            is_so.unwrap_or(false),
             "{taken} bytes after {flushes} flushes, {faults} faults"
         );
     }
+}
+
+#[test]
+fn a_room_hands_on_what_it_has_no_space_for(rt: HostRuntime) -> Result<(), Fail> {
+    let text = long_text(rt.alloc())?;
+    each_is_handed_on(&rt, rt.alloc(), &text);
     Ok(())
 }
 

@@ -37,16 +37,13 @@ const RINGS: &[(&'static str, Status, &'static str)] = &[
 ];
 
 #[test]
-fn a_ring_is_searched_and_counted(rt: HostRuntime) -> Result<(), Fail> {
+fn a_ring_is_searched_and_counted(rt: HostRuntime) {
     for (command, status, text) in RINGS {
         let end = (*status, *text);
         // no file is touched, so that no call of them can fail
-        assert!(rt;
-            ends_over(rt.alloc(), command, &[], (&[1], &[]), end)?,
-            "{command}"
-        );
+        let is_so = ends_over(rt.alloc(), command, &[], (&[1], &[]), end);
+        assert!(rt; is_so.unwrap_or(false), "{command}");
     }
-    Ok(())
 }
 
 /// A report, which is one piece. No file is touched.
@@ -75,11 +72,11 @@ fn is_reported(alloc: Global, n: u64) -> Result<bool, Memory>
 }
 
 #[test]
-fn a_ring_of_each_size_has_its_counts(rt: HostRuntime) -> Result<(), Fail> {
+fn a_ring_of_each_size_has_its_counts(rt: HostRuntime) {
     for n in 2..17 {
-        assert!(rt; is_reported(rt.alloc(), n)?, "gen {n}");
+        let is_so = is_reported(rt.alloc(), n);
+        assert!(rt; is_so.unwrap_or(false), "gen {n}");
     }
-    Ok(())
 }
 
 /// Whether the text is the expected one, where there is one, and a refutation that the checker accepts.
@@ -130,11 +127,11 @@ fn is_refuted_ring(alloc: Global, cores: u8, expected: Option<&str>) -> Result<b
 }
 
 #[test]
-fn each_ring_has_no_fault_and_its_refutation_is_accepted(rt: HostRuntime) -> Result<(), Fail> {
+fn each_ring_has_no_fault_and_its_refutation_is_accepted(rt: HostRuntime) {
     for cores in 2..17 {
-        assert!(rt; is_refuted_ring(rt.alloc(), cores, None)?, "{cores}");
+        let is_so = is_refuted_ring(rt.alloc(), cores, None);
+        assert!(rt; is_so.unwrap_or(false), "{cores}");
     }
-    Ok(())
 }
 
 const TWO_CORES: &str = "unobservable

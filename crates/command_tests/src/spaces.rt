@@ -3,7 +3,6 @@ use crate::memory_runs::{End, ends_in, files_and_spaces, words};
 use example_texts::{EITHER_ORDER, EMPTY, ONE, TWO_FORBIDDEN};
 use pc_common::{Memory, Status};
 use std::alloc::Global;
-use std::test::Fail;
 
 /// A command; the names and contents of files; the name of one more, and how many spaces it has; how the command ends; and
 /// how many calls of the files fail, of which to start a name that is missing is one.
@@ -132,14 +131,9 @@ fn is_end(
 }
 
 #[test]
-fn a_file_is_read_up_to_its_limit_where_the_work_comes_to_it(rt: HostRuntime) -> Result<(), Fail> {
+fn a_file_is_read_up_to_its_limit_where_the_work_comes_to_it(rt: HostRuntime) {
     for spaced in SPACES {
-        assert!(rt;
-            is_end(rt.alloc(), *spaced)?,
-            "{}: {} spaces",
-            spaced.0,
-            spaced.3
-        );
+        let is_so = is_end(rt.alloc(), *spaced);
+        assert!(rt; is_so.unwrap_or(false), "{}: {} spaces", spaced.0, spaced.3);
     }
-    Ok(())
 }

@@ -3,20 +3,26 @@
 use pc_common::Files;
 use real_outside::RealFiles;
 
+fn reads_zeros(files: &mut RealFiles<HostRuntime>) -> bool {
+    let mut buf = [7; 3];
+    files.start("/dev/zero").is_ok() && files.read(&mut buf) == Ok(3) && buf == [0; 3]
+}
+
+fn reads_an_end(files: &mut RealFiles<HostRuntime>) -> bool {
+    let mut buf = [7; 3];
+    files.start("/dev/null").is_ok() && files.read(&mut buf) == Ok(0)
+}
+
+/// A directory can be opened, but not read.
+fn fails_on_a_directory(files: &mut RealFiles<HostRuntime>) -> bool {
+    let mut buf = [7; 3];
+    files.start("/").is_ok() && files.read(&mut buf).is_err()
+}
+
 #[test]
 fn reads_what_is_there_and_tells_what_fails(rt: HostRuntime) {
     let mut files = RealFiles::new(rt);
-    let mut buf = [7; 3];
-
-    assert!(rt; files.start("/dev/zero").is_ok());
-    assert!(rt; files.read(&mut buf) == Ok(3));
-    assert!(rt; buf == [0; 3]);
-    assert!(rt; files.start("/dev/null").is_ok());
-    assert!(rt; files.read(&mut buf) == Ok(0));
-
-    assert!(rt; files.start("/dev/null/none").is_err());
-
-    // a directory can be opened, but not read
-    assert!(rt; files.start("/").is_ok());
-    assert!(rt; files.read(&mut buf).is_err());
+    let reads = reads_zeros(&mut files) && reads_an_end(&mut files);
+    let fails = files.start("/dev/null/none").is_err() && fails_on_a_directory(&mut files);
+    assert!(rt; reads && fails);
 }

@@ -7,7 +7,7 @@ use example_texts::{
     TWO_FORBIDDEN, UNORDERED,
 };
 
-pub(crate) const SIGNED: &[Judged] = &[
+const SIGNED: &[Judged] = &[
     (
         BOTH_OR_ONE,
         ONE,
@@ -186,6 +186,11 @@ pub(crate) const SIGNED: &[Judged] = &[
         ],
     ),
 ];
+
+/// The table, which this function alone names.
+pub(crate) fn signed() -> &'static [Judged] {
+    SIGNED
+}
 
 /// What `check2` writes for a model and a test.
 pub(crate) const FOUND: &[Told<'static>] = &[

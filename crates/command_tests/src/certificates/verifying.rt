@@ -1,12 +1,12 @@
 //! The command verify: a text judged against a model and a test, whoever made it.
-use super::judging::{JUDGED, REFUTED};
-use super::signs::SIGNED;
+use super::judging::{Judged, REFUTED, judged};
+use super::signs::signed;
 use crate::memory_runs::{End, Failed, Plan, USAGE, ends_on};
 use cert_check::Checked;
 use example_texts::{EITHER_ORDER, ORDERED, TWO, TWO_FORBIDDEN, TWO_IN_ORDER};
 use pc_common::{Memory, Status};
 use std::alloc::Global;
-use std::test::Fail;
+use std::process::Abort;
 
 const WORDS: &str = "verify model test certificate";
 
@@ -33,15 +33,20 @@ fn is_answered<'a>(
     }
 }
 
-#[test]
-fn a_text_is_verified_or_refused_at_its_line(rt: HostRuntime) -> Result<(), Fail> {
-    for (model, test, texts) in JUDGED.iter().chain(SIGNED) {
+/// Each text is verified, or refused at its line.
+fn each_is_answered(rt: &impl Abort, alloc: Global, table: &[Judged]) {
+    for (model, test, texts) in table {
         for (text, checked) in *texts {
-            let contents = &[*model, *test, *text];
-            assert!(rt; is_answered(rt.alloc(), contents, *checked)?, "{text}");
+            let is_so = is_answered(alloc, &[*model, *test, *text], *checked);
+            assert!(rt; is_so.unwrap_or(false), "{text}");
         }
     }
-    Ok(())
+}
+
+#[test]
+fn a_text_is_verified_or_refused_at_its_line(rt: HostRuntime) {
+    each_is_answered(&rt, rt.alloc(), judged());
+    each_is_answered(&rt, rt.alloc(), signed());
 }
 
 /// Words, which call of the files and of the sink fails, and how the run ends.

@@ -4,7 +4,6 @@ use crate::memory_runs::{End, ends_on, output_of};
 use example_texts::{LOCK_OF_FOUR, ONE_MEMORY, RUN_OF_TWENTY_FOUR};
 use pc_common::{Memory, Status};
 use std::alloc::Global;
-use std::test::Fail;
 
 /// A command, a test on one memory, how the text begins that is written, and how that text is judged.
 const JUDGED: &[(&'static str, &'static str, &'static str, End<'static>)] = &[
@@ -64,12 +63,9 @@ fn is_judged<'a>(
 }
 
 #[test]
-fn what_failed_leads_the_search(rt: HostRuntime) -> Result<(), Fail> {
+fn what_failed_leads_the_search(rt: HostRuntime) {
     for (command, test, head, end) in JUDGED {
-        assert!(rt;
-            is_judged(rt.alloc(), command, *test, head, *end)?,
-            "{command}: {head}"
-        );
+        let is_so = is_judged(rt.alloc(), command, *test, head, *end);
+        assert!(rt; is_so.unwrap_or(false), "{command}: {head}");
     }
-    Ok(())
 }

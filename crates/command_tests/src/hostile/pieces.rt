@@ -153,15 +153,11 @@ fn ends_with_the_empty_test(
 }
 
 #[test]
-fn a_model_is_refused_by_a_line_or_accepted_at_its_limit(rt: HostRuntime) -> Result<(), Fail> {
+fn a_model_is_refused_by_a_line_or_accepted_at_its_limit(rt: HostRuntime) {
     for (pieces, end) in MODELS {
-        assert!(rt;
-            ends_with_the_empty_test(rt.alloc(), pieces, *end)?,
-            "{}",
-            end.1
-        );
+        let is_so = ends_with_the_empty_test(rt.alloc(), pieces, *end);
+        assert!(rt; is_so.unwrap_or(false), "{}", end.1);
     }
-    Ok(())
 }
 
 #[test]

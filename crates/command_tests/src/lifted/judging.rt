@@ -2,12 +2,13 @@
 ghost use Rattle.std.specs.Prelude.{◌<◌};
 
 use super::forms::FORMS;
-use super::texts::{CONNECTIVES, Judged, LEAVES, PARTS, QUANTIFIERS};
+use super::texts::{CONNECTIVES, Judged, LEAVES, PARTS, QUANTIFIERS, Texts};
 use lifted_check::{Lifted, LiftedChecker, check_lifted};
 use pc_common::Memory;
 use pc_front::read_parts;
 use pc_ground::Parts;
 use std::alloc::Global;
+use std::process::Abort;
 
 /// What the text is, fed in pieces of so many bytes.
 fn in_pieces(alloc: Global, parts: &Parts, text: &[u8], size: usize) -> Result<Lifted, Memory>
@@ -29,53 +30,56 @@ fn is_found(alloc: Global, parts: &Parts, text: &str, lifted: Lifted) -> bool {
         && in_pieces(alloc, parts, bytes, 7) == Ok(lifted)
 }
 
-/// The first text that is something else to the model and the test.
-fn first_wrong(alloc: Global, (model, test, texts): Judged) -> Option<&'static str> {
-    if model.len() > 10_000 || test.len() > 10_000 {
-        return Some(model);
-    }
-    let Ok(parts) = read_parts(alloc, model.as_bytes(), test.as_bytes()) else {
-        return Some(model);
-    };
+/// The first text that is something else to these parts.
+fn first_other(alloc: Global, parts: &Parts, texts: Texts) -> Option<&'static str> {
     for (text, lifted) in texts {
-        if !is_found(alloc, &parts, *text, *lifted) {
+        if !is_found(alloc, parts, *text, *lifted) {
             return Some(*text);
         }
     }
     None
 }
 
+/// The first text that is something else to the model and the test.
+fn first_wrong(alloc: Global, (model, test, texts): Judged) -> Option<&'static str> {
+    if model.len() > 10_000 || test.len() > 10_000 {
+        return Some(model);
+    }
+    match read_parts(alloc, model.as_bytes(), test.as_bytes()) {
+        Ok(parts) => first_other(alloc, &parts, texts),
+        Err(_) => Some(model),
+    }
+}
+
+/// Each text is what its table has it for, whole and however it is cut.
+fn each_is_found(rt: &impl Abort, alloc: Global, table: &[Judged]) {
+    for judged in table {
+        let wrong = first_wrong(alloc, *judged);
+        assert!(rt; wrong.is_none(), "{}", wrong.unwrap_or(""));
+    }
+}
+
 #[test]
 fn parts_are_facts(rt: HostRuntime) {
-    for judged in PARTS {
-        assert_eq!(rt; first_wrong(rt.alloc(), *judged), None);
-    }
+    each_is_found(&rt, rt.alloc(), PARTS);
 }
 
 #[test]
 fn connectives_are_taken_by_their_signs(rt: HostRuntime) {
-    for judged in CONNECTIVES {
-        assert_eq!(rt; first_wrong(rt.alloc(), *judged), None);
-    }
+    each_is_found(&rt, rt.alloc(), CONNECTIVES);
 }
 
 #[test]
 fn ranges_are_gone_through(rt: HostRuntime) {
-    for judged in QUANTIFIERS {
-        assert_eq!(rt; first_wrong(rt.alloc(), *judged), None);
-    }
+    each_is_found(&rt, rt.alloc(), QUANTIFIERS);
 }
 
 #[test]
 fn leaves_close_their_branch_alone(rt: HostRuntime) {
-    for judged in LEAVES {
-        assert_eq!(rt; first_wrong(rt.alloc(), *judged), None);
-    }
+    each_is_found(&rt, rt.alloc(), LEAVES);
 }
 
 #[test]
 fn a_text_without_the_form_is_refused_at_its_line(rt: HostRuntime) {
-    for judged in FORMS {
-        assert_eq!(rt; first_wrong(rt.alloc(), *judged), None);
-    }
+    each_is_found(&rt, rt.alloc(), FORMS);
 }

@@ -2,12 +2,11 @@
 use example_texts::{BOTH_ORDERS, EMPTY, ITSELF, JOINED, ONE, TWO, TWO_CORES, TWO_FORBIDDEN};
 use lifted_check::Lifted;
 
-/// A model and a test, and texts, each with what it is to them.
-pub(crate) type Judged = (
-    &'static str,
-    &'static str,
-    &'static [(&'static str, Lifted)],
-);
+/// Texts, each with what it is to a model and a test.
+pub(crate) type Texts = &'static [(&'static str, Lifted)];
+
+/// A model and a test, and texts.
+pub(crate) type Judged = (&'static str, &'static str, Texts);
 
 /// Each micro-op is at S, and is not.
 const HERE_AND_NOT: &str = "StageName 0 \"S\".

@@ -126,11 +126,22 @@ fn is_refused(alloc: Global, pattern: &str, text: &str) -> Result<bool, Memory> 
     )
 }
 
+/// The same of a pattern of so many open reads.
+fn are_refused(
+    alloc: Global,
+    writes: &str,
+    reads: u32,
+    behind: &str,
+    text: &str,
+) -> Result<bool, Memory> {
+    let pattern = pattern_of(alloc, writes, reads, behind)?;
+    is_refused(alloc, &pattern, text)
+}
+
 #[test]
-fn more_rows_than_4096_are_too_many(rt: HostRuntime) -> Result<(), Fail> {
+fn more_rows_than_4096_are_too_many(rt: HostRuntime) {
     for (writes, reads, behind, text) in TOO_MANY {
-        let pattern = pattern_of(rt.alloc(), writes, *reads, behind)?;
-        assert!(rt; is_refused(rt.alloc(), &pattern, text)?, "{reads}: {text}");
+        let are_so = are_refused(rt.alloc(), writes, *reads, behind, text);
+        assert!(rt; are_so.unwrap_or(false), "{reads}: {text}");
     }
-    Ok(())
 }

@@ -3,7 +3,7 @@ use crate::formula_texts::{Pieces, join_pieces, tell_fault};
 use example_texts::LISTED_WITH_AN_OPEN_LOAD;
 use pc_common::{FaultKind, Memory, Place, Value, line_col};
 use std::alloc::Global;
-use std::test::Fail;
+use std::process::Abort;
 use x86_litmus::{X86Fault, read_x86};
 
 /// The line and the column of a place, both from 1.
@@ -47,14 +47,12 @@ fn is_refused(alloc: Global, text: &[u8], kind: FaultKind, at: LineColumn) -> bo
 /// A listing, and the line and the column of its fault.
 type Refused = (&'static str, LineColumn);
 
-/// The first listing that has no such fault there.
-fn first_wrong(alloc: Global, listings: &[Refused], kind: FaultKind) -> Option<&'static str> {
+/// Each listing has such a fault there.
+fn each_is_refused(rt: &impl Abort, alloc: Global, listings: &[Refused], kind: FaultKind) {
     for (listing, at) in listings {
-        if !is_refused(alloc, listing.as_bytes(), kind, *at) {
-            return Some(*listing);
-        }
+        let is_so = is_refused(alloc, listing.as_bytes(), kind, *at);
+        assert!(rt; is_so, "{listing}");
     }
-    None
 }
 
 const HEADERS: &[Refused] = &[
@@ -303,18 +301,16 @@ const CONTENT: &[Faulty] = &[
     ),
 ];
 
-/// Tables of listings, and the kind of the first fault of each. A fault of the header is one of syntax.
-const PLACED: &[(&'static [Refused], FaultKind)] = &[
-    (HEADERS, FaultKind::Syntax),
-    (LEXICAL, FaultKind::Lexical),
-    (SYNTAX, FaultKind::Syntax),
-];
-
+/// A fault of the header is one of syntax.
 #[test]
 fn a_fault_of_the_text_stands_at_its_line_and_its_token(rt: HostRuntime) {
-    for (listings, kind) in PLACED {
-        assert_eq!(rt; first_wrong(rt.alloc(), listings, *kind), None);
-    }
+    each_is_refused(&rt, rt.alloc(), HEADERS, FaultKind::Syntax);
+    each_is_refused(&rt, rt.alloc(), LEXICAL, FaultKind::Lexical);
+}
+
+#[test]
+fn a_fault_of_syntax_stands_at_its_line_and_its_token(rt: HostRuntime) {
+    each_is_refused(&rt, rt.alloc(), SYNTAX, FaultKind::Syntax);
 }
 
 #[test]
@@ -375,15 +371,11 @@ fn are_refused(
 }
 
 #[test]
-fn the_65th_instruction_is_one_too_many(rt: HostRuntime) -> Result<(), Fail> {
+fn the_65th_instruction_is_one_too_many(rt: HostRuntime) {
     for (pieces, at) in CROWDS {
-        assert!(rt;
-            are_refused(rt.alloc(), pieces, LIMIT, *at)?,
-            "line {}",
-            at.0
-        );
+        let are_so = are_refused(rt.alloc(), pieces, LIMIT, *at);
+        assert!(rt; are_so.unwrap_or(false), "line {}", at.0);
     }
-    Ok(())
 }
 
 /// 64 columns, and one more of this name.
@@ -406,9 +398,9 @@ fn are_too_many(alloc: Global, last: &str) -> Result<bool, Memory> {
 
 /// That there are too many is named before a wrong name.
 #[test]
-fn the_65th_column_is_one_too_many(rt: HostRuntime) -> Result<(), Fail> {
+fn the_65th_column_is_one_too_many(rt: HostRuntime) {
     for last in ["P64", "P65", "Q"] {
-        assert!(rt; are_too_many(rt.alloc(), last)?, "{last}");
+        let are_so = are_too_many(rt.alloc(), last);
+        assert!(rt; are_so.unwrap_or(false), "{last}");
     }
-    Ok(())
 }

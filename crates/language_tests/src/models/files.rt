@@ -3,8 +3,11 @@ use super::texts::are_refused;
 use example_texts::EMPTY;
 use pc_common::{FaultKind, InputFault, Place, Which};
 
-/// Models, and the place and the kind of the first fault of each.
-const MODELS: &[(&'static str, u32, FaultKind)] = &[
+/// A text, and the place and the kind of its first fault.
+type Row = (&'static str, u32, FaultKind);
+
+/// Models with their first faults.
+const MODELS: &[Row] = &[
     ("Axiom \"a: True.", 6, FaultKind::Lexical),
     ("Axiom \"a\": True", 15, FaultKind::Syntax),
     (
@@ -21,7 +24,7 @@ const MODELS: &[(&'static str, u32, FaultKind)] = &[
 ];
 
 /// The same of tests.
-const TESTS: &[(&'static str, u32, FaultKind)] = &[
+const TESTS: &[Row] = &[
     ("Litmus \"d.", 7, FaultKind::Lexical),
     ("Litmus", 6, FaultKind::Syntax),
     (
@@ -30,6 +33,15 @@ const TESTS: &[(&'static str, u32, FaultKind)] = &[
         FaultKind::CoreNumber { number: 64 },
     ),
 ];
+
+/// The tables, which these functions alone name: a proof goes through all rows of a table that a function names.
+fn models() -> &'static [Row] {
+    MODELS
+}
+
+fn tests() -> &'static [Row] {
+    TESTS
+}
 
 fn fault_in(file: Which, offset: u32, kind: FaultKind) -> InputFault {
     InputFault {
@@ -41,11 +53,11 @@ fn fault_in(file: Which, offset: u32, kind: FaultKind) -> InputFault {
 
 #[test]
 fn a_fault_is_told_with_its_file_and_its_place(rt: HostRuntime) {
-    for (model, offset, kind) in MODELS {
+    for (model, offset, kind) in models() {
         let fault = fault_in(Which::Model, *offset, *kind);
         assert!(rt; are_refused(rt.alloc(), model, EMPTY, fault), "{model}");
     }
-    for (test, offset, kind) in TESTS {
+    for (test, offset, kind) in tests() {
         let fault = fault_in(Which::Test, *offset, *kind);
         assert!(rt; are_refused(rt.alloc(), "", test, fault), "{test}");
     }
@@ -53,9 +65,9 @@ fn a_fault_is_told_with_its_file_and_its_place(rt: HostRuntime) {
 
 #[test]
 fn a_fault_of_the_model_is_named_before_one_of_the_test(rt: HostRuntime) {
-    for (model, offset, kind) in MODELS {
+    for (model, offset, kind) in models() {
         let fault = fault_in(Which::Model, *offset, *kind);
-        for (test, _, _) in TESTS {
+        for (test, _, _) in tests() {
             assert!(rt;
                 are_refused(rt.alloc(), model, test, fault),
                 "{model} {test}"

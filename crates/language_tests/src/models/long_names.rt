@@ -65,11 +65,11 @@ fn is_numbered(alloc: Global, text: &str, want: &str) -> Result<bool, Memory> {
 }
 
 #[test]
-fn each_name_becomes_its_number(rt: HostRuntime) -> Result<(), Fail> {
+fn each_name_becomes_its_number(rt: HostRuntime) {
     for (text, want) in NUMBERED {
-        assert!(rt; is_numbered(rt.alloc(), text, want)?, "{want}");
+        let is_so = is_numbered(rt.alloc(), text, want);
+        assert!(rt; is_so.unwrap_or(false), "{want}");
     }
-    Ok(())
 }
 
 /// Names of 32 bytes are looked up as they are.

@@ -5,7 +5,6 @@ use macro_expand::{expand, stage_faults};
 use pc_common::{FaultKind, Memory, Place};
 use pc_syntax::{Expanded, ModelFile};
 use std::alloc::Global;
-use std::test::Fail;
 
 /// Stages without a fault.
 const STAGES: &[&'static str] = &["", "StageName 63 \"S\". StageName 0 \"T\"."];
@@ -162,11 +161,11 @@ fn is_read_so(alloc: Global, text: &str, shown: &str) -> Result<bool, Memory> {
 }
 
 #[test]
-fn each_macro_stands_in_its_place(rt: HostRuntime) -> Result<(), Fail> {
+fn each_macro_stands_in_its_place(rt: HostRuntime) {
     for (text, shown) in EXPANDED {
-        assert!(rt; is_read_so(rt.alloc(), text, shown)?, "{text}");
+        let is_so = is_read_so(rt.alloc(), text, shown);
+        assert!(rt; is_so.unwrap_or(false), "{text}");
     }
-    Ok(())
 }
 
 #[test]

@@ -172,13 +172,22 @@ fn has_answer(alloc: Global, text: &[u8], answer: &Answer) -> Result<bool, Memor
     }
 }
 
+/// The same of the text of these pieces.
+fn have_answer(
+    alloc: Global,
+    pieces: &[(&'static str, usize)],
+    answer: &Answer,
+) -> Result<bool, Memory> {
+    let text = join_pieces(alloc, pieces)?;
+    has_answer(alloc, &text, answer)
+}
+
 #[test]
-fn a_formula_has_the_tree_or_the_fault_of_the_grammar(rt: HostRuntime) -> Result<(), Fail> {
+fn a_formula_has_the_tree_or_the_fault_of_the_grammar(rt: HostRuntime) {
     for (pieces, answer) in FORMULAS {
-        let text = join_pieces(rt.alloc(), pieces)?;
-        assert!(rt; has_answer(rt.alloc(), &text, answer)?, "{pieces:?}");
+        let are_so = have_answer(rt.alloc(), pieces, answer);
+        assert!(rt; are_so.unwrap_or(false), "{pieces:?}");
     }
-    Ok(())
 }
 
 /// Every form that a text can have.
@@ -391,16 +400,11 @@ fn has_model_answer(
 }
 
 #[test]
-fn a_model_has_its_items_in_their_order_or_the_fault_of_the_grammar(
-    rt: HostRuntime,
-) -> Result<(), Fail> {
+fn a_model_has_its_items_in_their_order_or_the_fault_of_the_grammar(rt: HostRuntime) {
     for (text, want) in MODELS {
-        assert!(rt;
-            has_model_answer(rt.alloc(), text.as_bytes(), want)?,
-            "{text}"
-        );
+        let is_so = has_model_answer(rt.alloc(), text.as_bytes(), want);
+        assert!(rt; is_so.unwrap_or(false), "{text}");
     }
-    Ok(())
 }
 
 /// A law does nothing, and can be called by anyone who wants what it says.
@@ -418,7 +422,10 @@ fn each_law_can_be_called(rt: HostRuntime) -> Result<(), Fail> {
 
 use Takes::{Core, Op, Plain};
 
-const PREDICATES: &[(&'static [u8], Pred, &'static [Takes])] = &[
+/// A predicate's name, the predicate, and what it takes.
+type Row = (&'static [u8], Pred, &'static [Takes]);
+
+const PREDICATES: &[Row] = &[
     (b"True", Pred::True, &[]),
     (b"False", Pred::False, &[]),
     (b"IsAnyRead", Pred::IsAnyRead, &[Op]),
@@ -464,25 +471,29 @@ fn is_named(name: &[u8], pred: Pred, takes: &[Takes]) -> bool {
     pred.arity() == takes.len() && pred.name() == name && Pred::of_name(name) == Some(pred)
 }
 
-/// Whether the table has this predicate at this place, or ends there as the predicates do.
-fn is_at(k: usize, pred: Option<&Pred>) -> bool {
-    match (PREDICATES.get(k), pred) {
-        (Some((_, row, _)), Some(pred)) => row == pred,
-        (None, None) => true,
-        _ => false,
+/// The table, which this function alone names: a proof goes through all rows of a table that a function names.
+fn predicates() -> &'static [Row] {
+    PREDICATES
+}
+
+/// Whether the rows have these predicates in their order.
+fn have_predicates(rows: &[Row], predicates: &[Pred]) -> bool {
+    for k in 0..rows.len() {
+        if predicates.get(k).copied() != Some(rows[k].1) {
+            return false;
+        }
     }
+    rows.len() == predicates.len()
 }
 
 #[test]
 fn the_table_has_all_predicates_in_their_order(rt: HostRuntime) {
-    for k in 0..PREDICATES.len() + 1 {
-        assert!(rt; is_at(k, Pred::ALL.get(k)), "{k}");
-    }
+    assert!(rt; have_predicates(predicates(), &Pred::ALL));
 }
 
 #[test]
 fn a_predicate_is_found_by_its_name_and_by_no_other(rt: HostRuntime) {
-    for (name, pred, takes) in PREDICATES {
+    for (name, pred, takes) in predicates() {
         assert!(rt; is_named(name, *pred, takes), "{name:?}");
     }
     for text in ["", "true", "Shared", "IsAnyRea", "IsAnyReads"] {

@@ -224,32 +224,64 @@ const LINES_65: &[(&'static str, CaseFault)] = &[
     ),
 ];
 
-#[test]
-fn the_65th_micro_op_is_one_too_many(rt: HostRuntime) -> Result<(), Fail> {
-    for (line, fault) in LINES_65 {
-        let mut text = String::new(rt.alloc());
-        put_64_fences(&mut text, rt.alloc(), line)?;
-        assert!(rt; is_refused(rt.alloc(), text.as_bytes(), *fault), "{line}");
-    }
-    Ok(())
+/// Whether this line is refused after 64 fences.
+fn is_refused_after_64(alloc: Global, line: &str, fault: CaseFault) -> Result<bool, Memory> {
+    let mut text = String::new(alloc);
+    put_64_fences(&mut text, alloc, line)?;
+    Ok(is_refused(alloc, text.as_bytes(), fault))
 }
 
-/// How many micro-ops and cores the text has, or None where it is too long here or has a fault.
-fn counts_of(alloc: Global, text: &[u8]) -> Option<(usize, usize)> {
+#[test]
+fn the_65th_micro_op_is_one_too_many(rt: HostRuntime) {
+    for (line, fault) in LINES_65 {
+        let is_so = is_refused_after_64(rt.alloc(), line, *fault);
+        assert!(rt; is_so.unwrap_or(false), "{line}");
+    }
+}
+
+/// What is asked of a case.
+#[derive(Clone, Copy)]
+enum Asked {
+    /// How many micro-ops and cores it has.
+    Counts(usize, usize),
+    /// Whether it is that of the mixed text.
+    Mixed,
+    /// Where dependencies go, and where they do not.
+    Ends(&'static [End]),
+    /// Whether it has the names that are words of the format.
+    Words,
+}
+
+fn has(case: &Case, asked: Asked) -> bool {
+    match asked {
+        Asked::Counts(ops, cores) => case.ops() == ops && case.cores() == cores,
+        Asked::Mixed => is_mixed(case),
+        Asked::Ends(ends) => are_ends(case, ends),
+        Asked::Words => has_words(case),
+    }
+}
+
+/// Whether the text, which is not too long here, is a case that has what is asked.
+fn says(alloc: Global, text: &[u8], asked: Asked) -> bool {
     if text.len() > 4000 {
-        return None;
+        return false;
     }
     match read_case(alloc, text) {
-        Ok(case) => Some((case.ops(), case.cores())),
-        Err(_) => None,
+        Ok(case) => has(&case, asked),
+        Err(_) => false,
     }
+}
+
+/// Whether there may be 64 fences, and this line after them.
+fn may_be_64(alloc: Global, line: &str) -> Result<bool, Memory> {
+    let mut text = String::new(alloc);
+    put_64_fences(&mut text, alloc, line)?;
+    Ok(says(alloc, text.as_bytes(), Asked::Counts(64, 1)))
 }
 
 #[test]
 fn the_64th_micro_op_is_the_last(rt: HostRuntime) -> Result<(), Fail> {
-    let mut text = String::new(rt.alloc());
-    put_64_fences(&mut text, rt.alloc(), "Relationship addr 63 0 -> 0 0.")?;
-    assert_eq!(rt; counts_of(rt.alloc(), text.as_bytes()), Some((64, 1)));
+    assert!(rt; may_be_64(rt.alloc(), "Relationship addr 63 0 -> 0 0.")?);
     Ok(())
 }
 
@@ -270,11 +302,8 @@ const COUNTS: &[(&'static [u8], usize, usize)] = &[
 #[test]
 fn micro_ops_and_cores_are_counted(rt: HostRuntime) {
     for (text, ops, cores) in COUNTS {
-        assert_eq!(rt;
-            counts_of(rt.alloc(), text),
-            Some((*ops, *cores)),
-            "{text:?}"
-        );
+        let asked = Asked::Counts(*ops, *cores);
+        assert!(rt; says(rt.alloc(), text, asked), "{text:?}");
     }
 }
 
@@ -416,19 +445,9 @@ fn is_mixed(case: &Case) -> bool {
         && are_named(case, NAMED)
 }
 
-fn is_mixed_text(alloc: Global, text: &[u8]) -> bool {
-    if text.len() > 4000 {
-        return false;
-    }
-    match read_case(alloc, text) {
-        Ok(case) => is_mixed(&case),
-        Err(_) => false,
-    }
-}
-
 #[test]
 fn lines_in_any_order_make_one_case(rt: HostRuntime) {
-    assert!(rt; is_mixed_text(rt.alloc(), MIXED));
+    assert!(rt; says(rt.alloc(), MIXED, Asked::Mixed));
 }
 
 /// Two dependencies, each of which is stated twice. One goes from a micro-op to itself.
@@ -450,42 +469,22 @@ const ENDS_TWICE: &[End] = &[
     (b"data", 0, 0, false),
 ];
 
-fn is_text_with_ends(alloc: Global, text: &[u8], ends: &[End]) -> bool {
-    if text.len() > 4000 {
-        return false;
-    }
-    match read_case(alloc, text) {
-        Ok(case) => are_ends(&case, ends),
-        Err(_) => false,
-    }
-}
-
 #[test]
 fn a_dependency_may_be_stated_twice(rt: HostRuntime) {
-    assert!(rt; is_text_with_ends(rt.alloc(), TWICE, ENDS_TWICE));
+    assert!(rt; says(rt.alloc(), TWICE, Asked::Ends(ENDS_TWICE)));
 }
 
 const WORDS: &[u8] =
     b"Litmus \"\". Microop 0 0 0 0 (Read Microop VA (VA 1 2) (PA 3 4) (Data 5)). Relationship Fence 0 0 -> 0 0.";
 
-fn has_names(case: &Case) -> bool {
+fn has_words(case: &Case) -> bool {
     let is_whole = case.ops() == 1 && case.expect() == Expect::Unstated;
     is_whole && is_kind(case, 0, Access::Read, 2) && case.depends(b"Fence", 0, 0)
 }
 
-fn is_text_with_names(alloc: Global, text: &[u8]) -> bool {
-    if text.len() > 4000 {
-        return false;
-    }
-    match read_case(alloc, text) {
-        Ok(case) => has_names(&case),
-        Err(_) => false,
-    }
-}
-
 #[test]
 fn no_word_is_reserved(rt: HostRuntime) {
-    assert!(rt; is_text_with_names(rt.alloc(), WORDS));
+    assert!(rt; says(rt.alloc(), WORDS, Asked::Words));
 }
 
 fn has_no_core(case: &Case) -> bool {

@@ -44,11 +44,18 @@ fn has_any(types: &TypeNames, names: &[&[u8]]) -> bool {
     names.iter().any(|name| types.has(name))
 }
 
+fn is_list(types: &TypeNames) -> bool {
+    types.len() == 12 && has_all(types, NAMES) && !has_any(types, OTHERS)
+}
+
+fn is_list_copied(alloc: Global, types: &TypeNames) -> Result<bool, Memory> {
+    let copy = types.copy(alloc)?;
+    Ok(is_list(&copy))
+}
+
 #[test]
 fn a_type_is_known_by_all_of_its_bytes(rt: HostRuntime) -> Result<(), Fail> {
     let types = list_twice(rt.alloc())?;
-    assert!(rt; types.len() == 12 && has_all(&types, NAMES) && !has_any(&types, OTHERS));
-    let copy = types.copy(rt.alloc())?;
-    assert!(rt; copy.len() == 12 && has_all(&copy, NAMES) && !has_any(&copy, OTHERS));
+    assert!(rt; is_list(&types) && is_list_copied(rt.alloc(), &types)?);
     Ok(())
 }

@@ -5,7 +5,6 @@ use example_texts::{EITHER_ORDER, EMPTY, FAR_CORE, NO_EDGES, SOME_OP, TWO_CORES,
 use pc_common::Memory;
 use pc_ground::{Flat, Front, Literal, NodeKey, Numbering, RowKind};
 use std::alloc::Global;
-use std::test::Fail;
 
 const RING: &str = "StageName 0 \"S\".
 Axiom \"PO\": forall microops \"i\", forall microops \"j\",
@@ -150,11 +149,9 @@ fn are_made(
 }
 
 #[test]
-fn a_model_and_a_test_make_the_ground_tree_with_its_node_numbers(
-    rt: HostRuntime,
-) -> Result<(), Fail> {
+fn a_model_and_a_test_make_the_ground_tree_with_its_node_numbers(rt: HostRuntime) {
     for (model, test, rows, nodes) in ROWS {
-        assert!(rt; are_made(rt.alloc(), model, test, rows, nodes)?, "{rows}");
+        let are_so = are_made(rt.alloc(), model, test, rows, nodes);
+        assert!(rt; are_so.unwrap_or(false), "{rows}");
     }
-    Ok(())
 }

@@ -124,13 +124,20 @@ fn is_solved_so(
     }
 }
 
+/// Whether the search refutes them so in both versions.
+fn is_solved_so_in_both(alloc: Global, (model, test, plain, signed): Row) -> Result<bool, Memory> {
+    Ok(
+        is_solved_so(alloc, (model, test), Version::One, plain)?
+            && is_solved_so(alloc, (model, test), Version::Two, signed)?,
+    )
+}
+
 #[test]
-fn the_search_returns_these_steps_in_each_version(rt: HostRuntime) -> Result<(), Fail> {
-    for (model, test, plain, signed) in SOLVED {
-        assert!(rt; is_solved_so(rt.alloc(), (*model, *test), Version::One, plain)?);
-        assert!(rt; is_solved_so(rt.alloc(), (*model, *test), Version::Two, signed)?);
+fn the_search_returns_these_steps_in_each_version(rt: HostRuntime) {
+    for row in SOLVED {
+        let is_so = is_solved_so_in_both(rt.alloc(), *row);
+        assert!(rt; is_so.unwrap_or(false), "{}", row.0);
     }
-    Ok(())
 }
 
 #[test]

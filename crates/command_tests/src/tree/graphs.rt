@@ -7,6 +7,7 @@ use graph_text::{Graph, GraphFault, read_graph};
 use pc_common::Memory;
 use pc_ground::{Front, NodeText};
 use std::alloc::Global;
+use std::process::Abort;
 use std::test::Fail;
 
 /// A text, and its graph as `show_graph` writes it, or why it has none.
@@ -121,26 +122,18 @@ fn is_read(
     }
 }
 
-/// The first text that is read otherwise, or None.
-fn first_wrong(alloc: Global, front: &Front) -> Result<Option<&'static str>, Memory> {
+/// Each text is read so.
+fn each_is_read(rt: &impl Abort, alloc: Global, front: &Front) {
     for (text, want) in TEXTS {
-        if !is_read(alloc, front, text, *want)? {
-            return Ok(Some(*text));
-        }
-    }
-    Ok(None)
-}
-
-/// The same over the stages and micro-ops of the tests of nodes.
-fn first_wrong_of_nodes(alloc: Global) -> Result<Option<&'static str>, Memory> {
-    match front_of(alloc, STAGES, OPS) {
-        Some(front) => first_wrong(alloc, &front),
-        None => Ok(Some("no front")),
+        let is_so = is_read(alloc, front, text, *want);
+        assert!(rt; is_so.unwrap_or(false), "{text}");
     }
 }
 
+/// The stages and micro-ops are those of the tests of nodes.
 #[test]
 fn a_graph_is_read_in_order_or_its_first_wrong_line_told(rt: HostRuntime) -> Result<(), Fail> {
-    assert_eq!(rt; first_wrong_of_nodes(rt.alloc())?, None);
+    let front = front_of(rt.alloc(), STAGES, OPS).ok_or("no front")?;
+    each_is_read(&rt, rt.alloc(), &front);
     Ok(())
 }

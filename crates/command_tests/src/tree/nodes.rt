@@ -3,6 +3,7 @@ use super::fronts::front_of;
 use pc_common::{Calls, MemSink, Memory};
 use pc_ground::{Front, LineFault, NodeText};
 use std::alloc::Global;
+use std::process::Abort;
 use std::test::Fail;
 
 pub(crate) const STAGES: &str = "StageName 5 \"S\". StageName 63 \"T_1'\".";
@@ -64,30 +65,17 @@ fn is_read(
     Ok(is_read_as(front, &mut sink, word.as_bytes(), want))
 }
 
-/// The first word that is read otherwise, or None.
-fn first_wrong(alloc: Global, front: &Front) -> Result<Option<&'static str>, Memory> {
+/// Each word is read so.
+fn each_is_read(rt: &impl Abort, alloc: Global, front: &Front) {
     for (word, want) in WORDS {
-        if !is_read(alloc, front, word, *want)? {
-            return Ok(Some(*word));
-        }
-    }
-    Ok(None)
-}
-
-/// The first word that is read otherwise over these stages and micro-ops, or that they make no front.
-fn first_wrong_over(
-    alloc: Global,
-    model: &str,
-    test: &str,
-) -> Result<Option<&'static str>, Memory> {
-    match front_of(alloc, model, test) {
-        Some(front) => first_wrong(alloc, &front),
-        None => Ok(Some("no front")),
+        let is_so = is_read(alloc, front, word, *want);
+        assert!(rt; is_so.unwrap_or(false), "{word}");
     }
 }
 
 #[test]
 fn a_node_is_read_and_written_or_told_to_be_none(rt: HostRuntime) -> Result<(), Fail> {
-    assert_eq!(rt; first_wrong_over(rt.alloc(), STAGES, OPS)?, None);
+    let front = front_of(rt.alloc(), STAGES, OPS).ok_or("no front")?;
+    each_is_read(&rt, rt.alloc(), &front);
     Ok(())
 }

@@ -1,5 +1,5 @@
 use Rattle.search_trait.proofs.FoundFronts.{front_numbered, front_folded}
-use Rattle.tree_tests.proofs.solving.run_search.Goals as goal
+use Rattle.command_tests.proofs.tree.solving.run_search.Goals as goal
 
 pub solve-requires-clause-numbered : goal.solve-requires-clause-numbered
 solve-requires-clause-numbered g c = front_numbered c.args.front.now
