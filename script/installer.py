@@ -24,7 +24,8 @@ from processes import SIGNALS, Ended, end_by
 TOP = os.path.dirname(os.path.dirname(os.path.realpath(__file__)))
 
 # what a tree has of the checkout, and what of that it has not: what builds and installs, maps, and what Python keeps
-COPIED = ("README.md", "commands.txt", "docs", "editors", "examples", "pipecheck", "second_implementation", "script", "tests/machines")
+COPIED = ("README.md", "CONTRIBUTING.md", "NEWS.md", "commands.txt", "docs", "editors", "examples", "pipecheck",
+          "second_implementation", "script", "tests/machines")
 BUILDS = ("build", "making.py", "make_program.py", "make_unproved.py", "keep_module", "jobs.py", "one_call.py",
           "processes.py")
 # what says what the crates and their definitions are
