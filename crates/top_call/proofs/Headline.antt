@@ -3,7 +3,7 @@ use Rattle.std.proofs.Common.{◌≢◌, ℕ, List, subst}
 use Rattle.pc_common.specs.declared.status.Status.{Status}
 use Rattle.pc_common.specs.declared.status.Status.TheVariants.{Observable, Unobservable, Done, Usage, Refused, ReadFault, WriteFault, CertRefused, Memory}
 use Rattle.command_base.{specs.Inputs.{Contents}, proofs.{TestForm.{test_form}, ListingForm.{listing_form}, OneCommand.{one_command}}}
-use Rattle.check_command.proofs.CheckOutcomes.{check_true, check_due}
+use Rattle.verdicts.proofs.CheckOutcomes.{check_true, check_due}
 use Rattle.verify_command.proofs.{VerifyOutcomes.{verify_true, verify_due}, LiftedOutcomes.{lifted_true, lifted_due}}
 use Rattle.core_command.proofs.CoreOutcomes.{core_due}
 use Rattle.sweep_command.proofs.SweepOutcomes.{sweep_due}

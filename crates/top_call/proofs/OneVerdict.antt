@@ -9,7 +9,7 @@ use Rattle.cert_check.specs.declared.checked.Checked.TheVariants.{Observable, Un
 use Rattle.command_base.specs.{Inputs.{Inputs, Contents, Says, IsRead}, FileAnswers.{refused as is_refused, found as is_found}, Questions.{question_by}}
 use Rattle.command_base.{specs.{Refusals.{refusal}, SecondFiles.{IsForm}, CheckedTexts.{checked_status}}, proofs.OneCase.{one_held, no_fault_said}}
 use Rattle.command_base.proofs.{TestForm.{test_form}, ListingForm.{listing_form}, AnsweredFiles.{found_of}}
-use Rattle.check_command.specs.CheckAnswers.{AnswersCheck}
+use Rattle.verdicts.specs.CheckAnswers.{AnswersCheck}
 use Rattle.verify_command.{specs.VerifyAnswers.{AnswersVerify, IsJudged, judged}, proofs.OneVerdict.{one_found}}
 use Rattle.command_base.specs.Command.{check, verify, check_listing, verify_listing}
 use Rattle.top_call.{specs.Laws.{HasOneStatus, of_a_test, of_a_listing}, proofs.Headline.{answer_to_command}}

@@ -4,7 +4,7 @@ use Rattle.pc_common.specs.declared.status.Status.{Status, TheVariants.{Usage}}
 use Rattle.litmus_reader.specs.Answer.{CaseOf}
 use Rattle.pc_front.specs.Front.{IsFirstFrontFault as IsTestFault}
 use Rattle.command_base.specs.{Inputs.{Contents, LacksInput}, Outcomes.{LacksThirdFile}, Listings.{IsFirstListingFault as IsListingFault}}
-use Rattle.check_command.specs.CheckAnswers.{AnswersCheck}
+use Rattle.verdicts.specs.CheckAnswers.{AnswersCheck}
 use Rattle.verify_command.specs.{VerifyAnswers.{AnswersVerify}, LiftedAnswers.{AnswersLifted}}
 use Rattle.core_command.specs.CoreAnswers.{AnswersCore}
 use Rattle.x86_litmus.specs.Answer.{CaseOf as ListingCase}

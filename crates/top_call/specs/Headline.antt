@@ -5,7 +5,7 @@ use Rattle.pc_syntax.specs.Written.{WrittenModel}
 use Rattle.litmus_reader.specs.Answer.{CaseOf}
 use Rattle.pc_front.specs.Front.{IsFirstFrontFault as IsTestFault}
 use Rattle.command_base.specs.{Inputs.{Contents, Says}, VerdictStatus.{IsTrueStatus}, Listings.{IsFirstListingFault as IsListingFault}}
-use Rattle.check_command.specs.CheckAnswers.{IsCheckDue}
+use Rattle.verdicts.specs.CheckAnswers.{IsCheckDue}
 use Rattle.verify_command.specs.{VerifyAnswers.{IsVerifyDue}, LiftedAnswers.{IsLiftedDue}}
 use Rattle.core_command.specs.CoreAnswers.{IsCoreDue}
 use Rattle.x86_litmus.specs.Answer.{CaseOf as ListingCase}

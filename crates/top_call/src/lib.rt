@@ -1,6 +1,6 @@
 //! The top call: from the words of a command and the bytes of its files to the bytes of the answer.
 //!
-//! Clause: `run` keeps what README.md guarantees (`headline`, `due`, `answers`, `short`, `read_cause`, `write_cause`,
+//! Clause: `run` keeps what docs/proved.md promises (`headline`, `due`, `answers`, `short`, `read_cause`, `write_cause`,
 //! `quiet`).
 //!
 //! ```rust

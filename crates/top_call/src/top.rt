@@ -12,7 +12,6 @@ ghost use Rattle.top_call.specs.Runs.{run_of, HasAnswered, TakesWhole, TakesFirs
 
 use super::answer::{Answer, status, write_answer};
 use ask_command::ask_files;
-use check_command::check;
 use command_base::{Command, Ending, Inputs, ListingFile, TestFile, parse};
 use core_command::find_core;
 use gen_command::generate;
@@ -22,6 +21,7 @@ use pc_ground::Version;
 use search_trait::Solver;
 use std::alloc::Global;
 use sweep_command::sweep_files;
+use verdicts::check;
 use verify_command::{verify, verify_lifted};
 
 /// The answer to `check MODEL TEST` or, in version 2, to `check2 MODEL TEST`.

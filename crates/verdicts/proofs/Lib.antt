@@ -3,3 +3,4 @@ pub mod VerdictTexts
 pub mod CertifiedTruth
 pub mod FrontVerdicts
 pub mod StepCounts
+pub mod CheckOutcomes

@@ -1,3 +1,4 @@
 pub mod Verdicts
 pub mod Certified
 pub mod StepCounts
+pub mod CheckAnswers

@@ -1,13 +1,13 @@
 ghost use Rattle.std.specs.Prelude.{IfOk};
 ghost use Rattle.pc_ground.specs.NodeForm.{names_of};
 ghost use Rattle.verdicts.specs.Verdicts.{IsWritable};
-ghost use Rattle.check_command.specs.CheckAnswers.{ReturnsVerdict};
+ghost use Rattle.verdicts.specs.CheckAnswers.{ReturnsVerdict};
 
+use super::verdict::{Verdict, short_verdict_on};
 use command_base::{Ending, Inputs, SecondFile, read_inputs};
 use pc_common::{Files, Memory};
 use pc_ground::Version;
 use std::alloc::Global;
-use verdicts::{Verdict, short_verdict_on};
 
 /// Reads the two files and searches, with refutations of this version: the verdict on them, or how the command ends
 /// before it.

@@ -1,7 +1,7 @@
 use Rattle.command_base.proofs.AnsweredFiles.{ending_outcome, memory_outcome}
 use Rattle.verdicts.{specs.Certified.{IsCertified}, proofs.FrontVerdicts.{verdict_writable}}
-use Rattle.check_command.proofs.CheckOutcomes.{verdict_outcome}
-use Rattle.check_command.proofs.command.check.Goals as goal
+use Rattle.verdicts.proofs.CheckOutcomes.{verdict_outcome}
+use Rattle.verdicts.proofs.command.check.Goals as goal
 
 pub returns-in-Err-clause-outcome : goal.returns-in-Err-clause-outcome
 returns-in-Err-clause-outcome g c = ending_outcome (IsCertified c.args.version) c.in-Err.ending c.in-Err.ensures

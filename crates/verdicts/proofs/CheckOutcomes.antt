@@ -7,7 +7,7 @@ use Rattle.command_base.specs.{Inputs.{Inputs, Contents, Says}, SecondFiles.{IsF
 use Rattle.command_base.proofs.AnsweredFiles.{found_outcome, found_of, due_of_files}
 use Rattle.verdicts.specs.{declared.verdict.Verdict.{Verdict}, Verdicts.{status_of, verdict_text, IsVerdict}, Certified.{IsCertified}}
 use Rattle.verdicts.proofs.{VerdictTexts.{verdict_certified}, CertifiedTruth.{certified_true, certified_due, no_usage_of, no_read_fault_of}}
-use Rattle.check_command.specs.CheckAnswers.{AnswersCheck, IsCheckDue}
+use Rattle.verdicts.specs.CheckAnswers.{AnswersCheck, IsCheckDue}
 
 module _ {F : Type 0} {view : F → FilesView} {old new : F}
     {case_of : List ℕ → Case → Type 0} {first_fault : List ℕ → List ℕ → InputFault → Type 0} {i : Inputs} where
