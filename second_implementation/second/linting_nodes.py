@@ -124,7 +124,7 @@ class NodeUses:
         whole = Use()
         for axiom, places in zip(self.model.axioms, self.model.places):
             # what names no other node than those that axioms before it give makes none free
-            if all(self.is_full(place, whole.given) for place in places):
+            if places <= self.full or all(self.is_full(place, whole.given) for place in places):
                 continue
             # one that the test makes True or False asks for no node
             use = self.use(axiom.body, {}, True, False)

@@ -1,6 +1,5 @@
 """Which nodes an axiom may name, in any test: by their stage, their core, and the access of their micro-op."""
-from dataclasses import dataclass
-from typing import Iterator
+from typing import Iterator, NamedTuple
 
 from .models import Arg, Binary, Edges, Expand, Formula, Macro, NodeTerm, Nodes, Not, Number, Quantified, Static, Word
 
@@ -10,8 +9,7 @@ OWN = -1
 ANY = -2
 
 
-@dataclass(frozen=True)
-class Place:
+class Place(NamedTuple):
     """The nodes of all micro-ops of one access at a stage, on their own cores, on a core of this number, or on any."""
 
     stage: str
