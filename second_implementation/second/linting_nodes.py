@@ -11,6 +11,7 @@ from typing import Iterator
 from .cases import Case, Op
 from .grounding import Environment, holds, value
 from .guards import Guards
+from .linting_places import ANY, OWN, Place, Places
 from .linting_slips import Slip, TestFile
 from .linting_truth import OutOfSteps, Steps
 from .models import Axiom, Binary, Edges, Expand, Formula, Model, NodeTerm, Nodes, Not, Quantified, Static
@@ -31,6 +32,8 @@ class FreeNodes:
         self.macros = model.macros
         self.stages = {stage.name.name: stage.number.value for stage in model.stages}
         self.from_outside = from_outside
+        places = Places(self.macros, from_outside)
+        self.places = [places.of(axiom.body, {}) for axiom in axioms]
         self.guards = Guards()
         self.steps = Steps(STEPS)
 
@@ -52,7 +55,7 @@ class FreeNodes:
     def found(self, case: Case, steps: Steps) -> list[tuple[Op, NodeTerm]]:
         """The micro-ops of the free nodes in a case, each with the first term that names the node."""
         try:
-            return NodeUses(self, case, steps).free_nodes(self.axioms)
+            return NodeUses(self, case, steps).free_nodes()
         except OutOfSteps:
             return []
 
@@ -113,11 +116,16 @@ class NodeUses:
         self.terms: list[NodeTerm] = []
         # expansions of one macro with the same values
         self.known: dict[tuple[object, ...], Use | bool] = {}
+        # places whose nodes are given
+        self.full: set[Place] = set()
 
-    def free_nodes(self, axioms: list[Axiom]) -> list[tuple[Op, NodeTerm]]:
+    def free_nodes(self) -> list[tuple[Op, NodeTerm]]:
         """The micro-ops of the nodes that are free in this test, each with the first term that names the node."""
         whole = Use()
-        for axiom in axioms:
+        for axiom, places in zip(self.model.axioms, self.model.places):
+            # what names no other node than those that axioms before it give makes none free
+            if places <= self.full or all(self.is_full(place, whole.given) for place in places):
+                continue
             # one that the test makes True or False asks for no node
             use = self.use(axiom.body, {}, True, False)
             if isinstance(use, Use):
@@ -125,6 +133,18 @@ class NodeUses:
         free = whole.asked & ~(whole.given | whole.bare | whole.denied)
         nodes = ((node, number) for node, number in self.numbers.items() if free >> number & 1)
         return [(self.case.ops[op], self.terms[number]) for (op, _, _), number in nodes]
+
+    def is_full(self, place: Place, given: int) -> bool:
+        """Whether each node at a place is among those that are given."""
+        if place not in self.full:
+            for number, op in enumerate(self.case.ops):
+                cores = [op.core] if place.core == OWN else self.case.cores if place.core == ANY else [place.core]
+                for core in cores if op.access == place.access else ():
+                    node = number, core, self.model.stages[place.stage]
+                    if node not in self.numbers or not given >> self.numbers[node] & 1:
+                        return False
+            self.full.add(place)
+        return True
 
     def use(self, formula: Formula, env: Environment, wanted: bool, in_premise: bool) -> Use | bool:
         """The use of a formula, or of its denial where it is not wanted; its truth where the test decides it. A premise

@@ -65,9 +65,11 @@ class Search:
 
     def counted(self, kind: str, *rest: object) -> int:
         """A number that matters by which others of its kind are the same: one that is there, or the next one."""
-        known = [number for key, number in self.chosen.items() if key[0] == kind]
-        most = max((number for number in known if isinstance(number, int)), default=-1) + 1
-        number = self.choice((kind, *rest), range(most + 1))
+        if (kind, *rest) not in self.chosen:
+            known = [number for key, number in self.chosen.items() if key[0] == kind]
+            most = max((number for number in known if isinstance(number, int)), default=-1) + 1
+            raise Open((kind, *rest), range(most + 1))
+        number = self.chosen[kind, *rest]
         assert isinstance(number, int)
         return number
 
