@@ -16,16 +16,18 @@ TEST = re.compile(rf"Test {NAME} (Allowed|Forbidden|Required)")
 # the quantifier of the condition by the word of the test, and what the log says to it
 QUANTIFIERS = {"Allowed": "exists", "Forbidden": "~exists", "Required": "forall"}
 ANSWERS = {"Ok": True, "No": False}
-COUNTED = re.compile(r"Histogram \(([0-9]+) states?\)")
-LISTED = re.compile(r"States ([0-9]+)")
+# longer ones are none of a log
+NUMBER = "[0-9]{1,100}"
+COUNTED = re.compile(rf"Histogram \(({NUMBER}) states?\)")
+LISTED = re.compile(rf"States ({NUMBER})")
 # a state with how often it came, which is marked where the condition holds of it
-TIMES = re.compile(r"\s*([0-9]+)\s*[*:]>(.*)")
+TIMES = re.compile(rf"\s*({NUMBER})\s*[*:]>(.*)")
 VALUE = re.compile(
-    r"""\s*( [0-9]+:%?\w+ | [A-Za-z_]\w* | \[[A-Za-z_]\w*\] )
-        \s*=\s*( -?[0-9]+ | 0x[0-9a-fA-F]+ )\s*;\s*""",
+    rf"""\s*( {NUMBER}:%?\w+ | [A-Za-z_]\w* | \[[A-Za-z_]\w*\] )
+        \s*=\s*( -?{NUMBER} | 0x[0-9a-fA-F]{{1,100}} )\s*;\s*""",
     re.VERBOSE | re.ASCII,
 )
-OBSERVATION = re.compile(rf"Observation {NAME} (?:Sometimes|Always|Never) ([0-9]+) ([0-9]+)")
+OBSERVATION = re.compile(rf"Observation {NAME} (?:Sometimes|Always|Never) ({NUMBER}) ({NUMBER})")
 # what else stands in a test
 PASSED = re.compile(
     r"""\s*

@@ -3,7 +3,7 @@ import tempfile
 
 from second.patterns import ENDING, value_text
 from suite.allowing import Machines
-from suite.calling import free_memory
+from suite.calling import memory_limit
 
 from .asking import Questions, Unanswered
 from .copies import Outcome
@@ -19,7 +19,7 @@ def outcomes_allowed(questions: Questions, machines: Machines, name: str) -> set
         path = questions.file(f"machine{ENDING}", questions.pattern(final))
         with tempfile.TemporaryFile() as out:
             command = machines.command(name, path)
-            status = questions.checker.calls.status(command, free_memory(), questions.checker.seconds, out)
+            status = questions.checker.calls.status(command, memory_limit(""), questions.checker.seconds, out)
             out.seek(0)
             lines = out.read().decode("ascii", "replace").splitlines()
         if status == NOT_RUN:

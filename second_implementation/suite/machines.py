@@ -9,7 +9,7 @@ from dataclasses import dataclass
 from typing import IO
 
 from .allowing import Machines
-from .calling import GRACE, Calls, free_memory
+from .calling import GRACE, Calls, memory_limit
 from .files import Copies, File
 
 # what ends a path, and an answer
@@ -45,7 +45,7 @@ class Machine:
         self.name = name
         self.calls = calls
         self.said = tempfile.TemporaryFile()
-        self.process = calls.opened(command, free_memory(), self.said)
+        self.process = calls.opened(command, memory_limit(""), self.said)
 
     def answer(self, path: str, deadline: float) -> list[str]:
         """The lines that it answers of a test up to a moment of the clock."""
