@@ -6,7 +6,7 @@ from .cases import Address, Case, Item, OpItem
 from .listings import ENDING, read_file_items
 
 # behind a micro-op: a name, and the value that the micro-op has
-NAMED = re.compile(rb"[^%\n]*%[ \t]*([A-Za-z_][A-Za-z0-9_]{0,15})[ \t]*(?:=|\bis\b)[ \t]*([0-9]+)\b[^\n]*")
+NAMED = re.compile(rb"[^%\n]*%[ \t]*([A-Za-z_][A-Za-z0-9_]{0,15})[ \t]*(?:=|\bis\b)[ \t]*([0-9]{1,100})\b[^\n]*")
 
 
 def case_with_names(path: str, text: bytes) -> Case:
