@@ -375,6 +375,7 @@ def terminals(cases: Cases) -> None:
             ("a narrow terminal", 20, None, numbered),
             ("a wide terminal that COLUMNS says is narrow", 80, "20", numbered),
             ("a narrow terminal that COLUMNS says is wide", 20, "80", table),
+            ("a narrow terminal and COLUMNS of 5,000 digits", 20, "9" * 5000, numbered),
         ):
             set_so = {**environment, "COLUMNS": columns} if columns else environment
             lines = shown_on_terminal([SUITE, MODEL, early, TEST], set_so, width)

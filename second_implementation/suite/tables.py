@@ -3,6 +3,9 @@ import os
 import sys
 from typing import Mapping, Sequence
 
+# no terminal is wider than such a number says
+MOST_DIGITS = 9
+
 
 def aligned(rows: Sequence[Sequence[str]]) -> list[str]:
     """Rows of cells as lines."""
@@ -25,7 +28,7 @@ def width_of_terminal(environ: Mapping[str, str]) -> int | None:
     if sys.stdout is None or not sys.stdout.isatty():
         return None
     columns = environ.get("COLUMNS", "")
-    if columns.isascii() and columns.isdigit() and int(columns) > 0:
+    if columns.isascii() and columns.isdigit() and len(columns) <= MOST_DIGITS and int(columns) > 0:
         return int(columns)
     try:
         return os.get_terminal_size(sys.stdout.fileno()).columns or None
