@@ -17,10 +17,10 @@ from dataclasses import dataclass
 from functools import cache
 
 TOP = os.path.dirname(os.path.dirname(os.path.realpath(__file__)))
-sys.path.insert(0, os.path.join(TOP, "second_implementation"))
+sys.path.insert(0, TOP)
 
 # pylint: disable=wrong-import-position
-from standing import standing
+from tools.standing import standing
 
 MIB = 1 << 20
 # a call that takes so many seconds by the clock is made once

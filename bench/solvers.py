@@ -1,6 +1,6 @@
 """Questions put to solvers of the system's packages and to the second implementation, beside the program.
 
-second_implementation/pipecheck_second.py grounds a model and a test by itself, and writes the question for a solver; so it is
+tools/second/main.py grounds a model and a test by itself, and writes the question for a solver; so it is
 a second judge too. A solver runs as a user would run it, on the file that was written before; cadical writes its proof.
 """
 import math
@@ -13,7 +13,7 @@ from dataclasses import dataclass
 
 from counting import TOP, Timed, timed
 
-SECOND = [sys.executable, os.path.join(TOP, "second_implementation/pipecheck_second.py")]
+SECOND = [sys.executable, os.path.join(TOP, "tools"), "second"]
 # the line that is a verdict, of the program and of solvers
 VERDICT = re.compile(r"^(?:s )?(un)?(?:observable|sat(?:isfiable)?)$", re.MULTILINE | re.IGNORECASE)
 # each with the kind of its question, and its words, of which some stand for paths
@@ -54,7 +54,8 @@ def asked(
     for name in filter(shutil.which, names):
         kind, words = SOLVERS[name]
         if kind not in questions:
-            questions[kind] = written(os.path.join(folder, {"dimacs": "question.cnf", "smt": "question.smt2"}[kind]), kind, paths, writing)
+            path = os.path.join(folder, {"dimacs": "question.cnf", "smt": "question.smt2"}[kind])
+            questions[kind] = written(path, kind, paths, writing)
         question = questions[kind]
         if question is None:
             yield name, None

@@ -1,6 +1,6 @@
-# Prints what zsh offers for the last word of a line, one a line.
+# Prints what zsh offers for the last word of each line, one a line, and `end` after those of a line.
 #
-#     zsh -f completes.zsh FOLDER LINE      FOLDER has the function _pipecheck
+#     zsh -f completes.zsh FOLDER LINE..      FOLDER has the function _pipecheck
 #
 # A shell on a terminal of its own completes the line by a widget, and `compadd` says what it is given.
 zmodload zsh/zpty
@@ -17,14 +17,18 @@ show() { print begin; _main_complete; print -- '<end>'; zle kill-buffer }
 zle -C show complete-word show
 bindkey '^I' show
 print ready"
-local text
+local text asked
 while zpty -r line text; do [[ $text != *ready* ]] || break; done
-zpty -w -n line "$2"$'\t'
-while zpty -r line text; do
-    case $text in
-    (*candidate\ *) print -r -- "${${text##*candidate }%%[$'\r\n']*}" ;;
-    # a word of the line that is typed may have these letters
-    (*'<end>'*) break ;;
-    esac
+for asked in "${@:2}"; do
+    # what stands there goes first
+    zpty -w -n line $'\C-u'"$asked"$'\t'
+    while zpty -r line text; do
+        case $text in
+        (*candidate\ *) print -r -- "${${text##*candidate }%%[$'\r\n']*}" ;;
+        # a word of the line that is typed may have these letters
+        (*'<end>'*) break ;;
+        esac
+    done
+    print end
 done
 zpty -d line

@@ -1,4 +1,4 @@
-"""Random models, tests, queries and certificates, and changes of them, for tests/hostile and others.
+"""Random models, tests, queries and certificates, and changes of them, for tests/hostile.py and others.
 
 What is made here is well-formed, and may mean anything. A change may spoil a text or not: what the answer has to be is
 said by the second implementation, which reads the changed text too. Rewritings of certificates keep them right.
@@ -7,8 +7,8 @@ import re
 from random import Random
 from typing import Iterator
 
-from second.cases import Case
-from second.lifted import LiftedJudge
+from tools.second.cases import Case
+from tools.second.lifted import LiftedJudge
 
 SORTS = {"op": "microop", "core": "core"}
 # what a predicate takes: a micro-op, a core, or a plain name of these
@@ -197,7 +197,7 @@ def access(random: Random, has_entries: bool) -> str:
 
 
 def machine_test(random: Random) -> bytes:
-    """A test that the machines of tests/machines can run: each write of an address has a value of its own."""
+    """A test that the machines of tools/agree can run: each write of an address has a value of its own."""
     lines, written = [], {0: [0], 1: [0]}
     plan = [(core, random.choice("RRWWF"), random.randint(0, 1)) for core in range(random.choice((2, 2, 3)))
             for _ in range(random.choice((1, 2, 2, 3)))]

@@ -3,10 +3,10 @@ use Rattle.std.specs.Prelude.{ℕ, List}
 use Rattle.pc_ground.specs.{declared.{front.Front.{Front}, version.Version.TheVariants.{One}}, NodeForm.{names_of}}
 use Rattle.solver.specs.declared.answer.Answer.{Answer}
 use Rattle.ask_command.specs.{declared.{outcome.Asked.{Asked}, command.FoundAsk.{FoundAsk}}, Asking.{word_of}, AskTexts.{ask_text}}
-use Rattle.verdicts.specs.{declared.verdict.Verdict.{Verdict}, Verdicts.{verdict_text, IsWritable}}
+use Rattle.verdicts.specs.{declared.verdict.FoundVerdict.{FoundVerdict}, Verdicts.{verdict_text, IsWritable}}
 
 -- what is found of a front is a verdict
-abbrev pub verdict_of : Front × Answer → Verdict
+abbrev pub verdict_of : Front × Answer → FoundVerdict
 verdict_of r = record { front = r.0; version = One; found = r.1 }
 
 abbrev pub verdicts_of : Asked → FoundAsk

@@ -10,12 +10,12 @@ use super::outcome::Asked;
 use pc_common::Memory;
 use pc_ground::{Front, Parts};
 use pc_syntax::Closed;
-use search_trait::Search;
+use search_trait::FrontSearch;
 use solver::Answer;
 use std::alloc::Global;
 
 /// The front of these parts with one axiom more, and what the search finds of it.
-fn found_more<S: Search>(
+fn found_more<S: FrontSearch>(
     alloc: Global,
     parts: &Parts,
     last: Closed,
@@ -34,7 +34,11 @@ fn found_more<S: Search>(
 ///
 /// Makes two ground trees and two searches, and copies the parts for each. The one error is that memory was refused;
 /// the parts and the formula stay as they are.
-pub fn ask_parts<S: Search>(alloc: Global, parts: &Parts, formula: &Closed) -> Result<Asked, Memory>
+pub fn ask_parts<S: FrontSearch>(
+    alloc: Global,
+    parts: &Parts,
+    formula: &Closed,
+) -> Result<Asked, Memory>
     requires { StagesWithin (numbers_of (map plain_stage parts.now.stages)) (plain_closed formula.now.body) }
     ensures { IfOk result (IsAsked parts.now.case parts.now.stages (plain_axioms parts.now.axioms)
         (plain_closed formula.now.body)) }
@@ -49,7 +53,7 @@ pub fn ask_parts<S: Search>(alloc: Global, parts: &Parts, formula: &Closed) -> R
 ///
 /// Makes two ground trees and two searches. The one error is that memory was refused; the front and the formula stay as
 /// they are.
-pub fn ask<S: Search>(alloc: Global, front: &Front, formula: &Closed) -> Result<Asked, Memory>
+pub fn ask<S: FrontSearch>(alloc: Global, front: &Front, formula: &Closed) -> Result<Asked, Memory>
     requires { StagesWithin (numbers_of (map plain_stage front.now.stages)) (plain_closed formula.now.body) }
     ensures { IfOk result (IsAsked front.now.case front.now.stages (plain_axioms front.now.axioms)
         (plain_closed formula.now.body)) }

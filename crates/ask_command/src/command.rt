@@ -9,15 +9,15 @@ use super::outcome::Asked;
 use command_base::{Ending, Inputs};
 use pc_common::{Files, Memory};
 use pc_ground::{Front, Version};
-use search_trait::Search;
+use search_trait::FrontSearch;
 use solver::Answer;
 use std::alloc::Global;
-use verdicts::Verdict;
+use verdicts::FoundVerdict;
 
 /// What `ask` finds: the verdict with the formula as the model's last axiom, and that with the formula's denial.
 pub struct FoundAsk {
-    pub added: Verdict,
-    pub against: Verdict,
+    pub added: FoundVerdict,
+    pub against: FoundVerdict,
 }
 
 // By hand: docs/DECISIONS.md, "Drops are written by hand".
@@ -31,11 +31,11 @@ impl Drop for FoundAsk {
 }
 
 /// What is found of a front, as a verdict.
-fn verdict_of(found: (Front, Answer)) -> Verdict
+fn verdict_of(found: (Front, Answer)) -> FoundVerdict
     ensures { result ≡ verdict_in found }
 {
     let (front, found) = found;
-    Verdict {
+    FoundVerdict {
         front,
         version: Version::One,
         found,
@@ -54,7 +54,7 @@ fn verdicts_of(asked: Asked) -> FoundAsk
 }
 
 /// Reads the three files and searches: in which worlds the query's formula holds, or how the command ends before it.
-pub fn ask_files<S: Search, F: Files>(
+pub fn ask_files<S: FrontSearch, F: Files>(
     alloc: Global,
     inputs: Inputs<'_>,
     query: &str,

@@ -8,7 +8,7 @@ use super::copies::copy_axioms;
 use pc_common::Memory;
 use pc_ground::{Front, Parts, copy_stages};
 use pc_syntax::Closed;
-use search_trait::Search;
+use search_trait::FrontSearch;
 use std::alloc::Global;
 
 /// The parts once more, in memory of their own, with one axiom more after the others.
@@ -31,7 +31,7 @@ fn parts_more(alloc: Global, parts: &Parts, last: Closed) -> Result<Parts, Memor
 }
 
 /// The front of these parts with one axiom more after the others.
-pub(crate) fn front_more<S: Search>(
+pub(crate) fn front_more<S: FrontSearch>(
     alloc: Global,
     parts: &Parts,
     last: Closed,

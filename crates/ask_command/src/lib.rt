@@ -17,8 +17,8 @@
 //!
 //! `ask` searches these two fronts. A graph of the first is a world where the formula holds, a graph of the second one
 //! where it does not, and a refutation says that there is no such world. So the two answers tell the word: `always`,
-//! `never`, `sometimes`, or `vacuous`, where there is no world at all. What grounds and searches is a `Search`, such as
-//! `search_trait::Solver`. `specs/Asking.antt` says what the two fronts and answers are, and `specs/Words.antt` what
+//! `never`, `sometimes`, or `vacuous`, where there is no world at all. What grounds and searches is a `FrontSearch`, such
+//! as `search_trait::Solver`. `specs/Asking.antt` says what the two fronts and answers are, and `specs/Words.antt` what
 //! each word says of the worlds.
 //!
 //! `read_inquiry` takes the bytes of the three files. A query's file has one formula and nothing after it. What macros,

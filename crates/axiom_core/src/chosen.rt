@@ -8,7 +8,7 @@ ghost use Rattle.axiom_core.specs.Cores.{IsFrontWith};
 use pc_common::Memory;
 use pc_ground::{Axioms, Front};
 use pc_syntax::Closed;
-use search_trait::Search;
+use search_trait::FrontSearch;
 use std::alloc::Global;
 
 /// Whether the axiom at `k` is chosen: its flag is set, and it is not the one that is left out.
@@ -57,7 +57,7 @@ fn chosen_axioms(
 }
 
 /// The front of the chosen axioms, in the same case and over the same stages.
-pub(crate) fn part_of<S: Search>(
+pub(crate) fn part_of<S: FrontSearch>(
     alloc: Global,
     front: &Front,
     flags: &[bool],

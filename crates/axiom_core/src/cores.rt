@@ -8,12 +8,12 @@ use super::members::{all_shown, refuted_by};
 use super::shrinking::{numbers_of, shrink};
 use pc_common::Memory;
 use pc_ground::Front;
-use search_trait::Search;
+use search_trait::FrontSearch;
 use solver::Answer;
 use std::alloc::Global;
 
 /// The axioms that stayed, with their certificates.
-fn core_of<S: Search>(alloc: Global, front: &Front, flags: &[bool]) -> Result<Core, Memory>
+fn core_of<S: FrontSearch>(alloc: Global, front: &Front, flags: &[bool]) -> Result<Core, Memory>
     requires { IsTried front.now.case (plain_axioms front.now.axioms) flags.now (length flags.now) }
     ensures { IfOk result (IsCoreOf front.now) }
 {
@@ -28,7 +28,7 @@ fn core_of<S: Search>(alloc: Global, front: &Front, flags: &[bool]) -> Result<Co
 }
 
 /// A minimal set of the axioms of a front that forbids the outcome.
-fn minimal_core<S: Search>(alloc: Global, front: &Front) -> Result<Core, Memory>
+fn minimal_core<S: FrontSearch>(alloc: Global, front: &Front) -> Result<Core, Memory>
     requires { Forbid front.now.case (plain_axioms front.now.axioms) }
     ensures { IfOk result (IsCoreOf front.now) }
 {
@@ -41,7 +41,7 @@ fn minimal_core<S: Search>(alloc: Global, front: &Front) -> Result<Core, Memory>
 ///
 /// Makes one search for each axiom and one more, then one for the set and one for each of its members. The one error
 /// is that memory was refused; the front stays as it is.
-pub fn core<S: Search>(alloc: Global, front: &Front) -> Result<Core, Memory>
+pub fn core<S: FrontSearch>(alloc: Global, front: &Front) -> Result<Core, Memory>
     ensures core { IfOk result (IsCoreOf front.now) }
     ensures none { IfOk result (λ found. HasNone found ↔ Allow front.now.case (plain_axioms front.now.axioms)) }
 {

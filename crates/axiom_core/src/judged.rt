@@ -8,7 +8,7 @@ ghost use Rattle.axiom_core.specs.Choices.{choice, is_refutation};
 use super::chosen::part_of;
 use pc_common::Memory;
 use pc_ground::Front;
-use search_trait::Search;
+use search_trait::FrontSearch;
 use solver::Answer;
 use std::alloc::Global;
 
@@ -23,7 +23,7 @@ fn is_refuted(found: &Answer) -> bool
 }
 
 /// Whether the chosen axioms forbid the outcome: what is found of them is dropped.
-pub(crate) fn are_refuted<S: Search>(
+pub(crate) fn are_refuted<S: FrontSearch>(
     alloc: Global,
     front: &Front,
     flags: &[bool],

@@ -15,8 +15,9 @@
 //! it, and without any one of them the others allow it. Each certificate is what the search finds on the ground
 //! tree of just those axioms, so it is the one that `check` prints for the model of just those axioms.
 //!
-//! What grounds and searches is a `Search`, such as `search_trait::Solver`. `specs/Chosen.antt` says what some of the
-//! axioms are, `specs/ModelWith.antt` what the model with some of its axioms is, and `specs/Cores.antt` what a core is.
+//! What grounds and searches is a `FrontSearch`, such as `search_trait::Solver`. `specs/Chosen.antt` says what some of
+//! the axioms are, `specs/ModelWith.antt` what the model with some of its axioms is, and `specs/Cores.antt` what a core
+//! is.
 #![tactic(auto)]
 
 mod answer;

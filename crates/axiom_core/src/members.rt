@@ -11,12 +11,12 @@ use super::chosen::part_of;
 use pc_common::Memory;
 use pc_ground::Front;
 use refutation::Refutation;
-use search_trait::Search;
+use search_trait::FrontSearch;
 use solver::Answer;
 use std::alloc::Global;
 
 /// The front of the axioms whose flags are set, and the refutation that the search finds of it.
-pub(crate) fn refuted_by<S: Search>(
+pub(crate) fn refuted_by<S: FrontSearch>(
     alloc: Global,
     front: &Front,
     flags: &[bool],
@@ -34,7 +34,7 @@ pub(crate) fn refuted_by<S: Search>(
 
 /// Puts the front of the axioms whose flags are set but for the one at `at`, with the graph that the search finds of it,
 /// after the others.
-fn add_shown<S: Search>(
+fn add_shown<S: FrontSearch>(
     alloc: Global,
     front: &Front,
     flags: &[bool],
@@ -54,7 +54,7 @@ fn add_shown<S: Search>(
 }
 
 /// For each of these numbers, in order, what shows the outcome on the axioms whose flags are set, but for that one.
-pub(crate) fn all_shown<S: Search>(
+pub(crate) fn all_shown<S: FrontSearch>(
     alloc: Global,
     front: &Front,
     flags: &[bool],

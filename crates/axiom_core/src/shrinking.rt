@@ -8,11 +8,11 @@ use super::answer::AxiomNumbers;
 use super::judged::are_refuted;
 use pc_common::{Listed, Memory};
 use pc_ground::Front;
-use search_trait::Search;
+use search_trait::FrontSearch;
 use std::alloc::Global;
 
 /// Takes the axiom at `at` out where the rest still forbids the outcome.
-fn try_without<S: Search>(
+fn try_without<S: FrontSearch>(
     alloc: Global,
     front: &Front,
     flags: &mut [bool],
@@ -29,7 +29,7 @@ fn try_without<S: Search>(
 }
 
 /// Takes each axiom in file order out where the rest still forbids the outcome.
-fn try_all<S: Search>(alloc: Global, front: &Front, flags: &mut [bool]) -> Result<(), Memory>
+fn try_all<S: FrontSearch>(alloc: Global, front: &Front, flags: &mut [bool]) -> Result<(), Memory>
     requires { IsTried front.now.case (plain_axioms front.now.axioms) flags.old 0 }
     ensures { OnOk result (IsTried front.now.case (plain_axioms front.now.axioms) flags.new (length flags.new)) }
 {
@@ -40,7 +40,7 @@ fn try_all<S: Search>(alloc: Global, front: &Front, flags: &mut [bool]) -> Resul
 }
 
 /// Which axioms stay where each in file order is taken out if the rest still forbids the outcome.
-pub(crate) fn shrink<S: Search>(alloc: Global, front: &Front) -> Result<Vec<bool>, Memory>
+pub(crate) fn shrink<S: FrontSearch>(alloc: Global, front: &Front) -> Result<Vec<bool>, Memory>
     requires { Forbid front.now.case (plain_axioms front.now.axioms) }
     ensures { IfOk result (λ flags.
         IsTried front.now.case (plain_axioms front.now.axioms) flags.items (length flags.items)) }

@@ -11,9 +11,9 @@ use Rattle.graph_text.{specs.OpenGraphs.{PlainGraph, empty_graph, Takes, Refuses
 use Rattle.refutation.specs.{Steps.{HasItsNodes, HasLine}, Reading.{IsLineOf}}
 use Rattle.tree_check.{specs.OpenBranches.{Stands}, proofs.Runs.{runs_then}}
 use Rattle.cert_check.specs.{Certificates.{Question, header, tree_lines, IsCertificate, BeginsWell}, Verdicts.{plain_verdict}, Proper.{IsAsked}}
-use Rattle.cert_check.specs.{Stages.{IsGraphSoFar, IsTreeSoFar, GoesOn, IsStuck, HasAdvanced, StepsOn}, declared.header.Verdict.{Verdict}}
+use Rattle.cert_check.specs.{Stages.{IsGraphSoFar, IsTreeSoFar, StandsAt, GoesOn, IsStuck, HasAdvanced, StepsOn}, declared.{header.Verdict.{Verdict}, stage.Stage.{Stage}}}
 use Rattle.cert_check.specs.declared.{header.Verdict.TheVariants.{Observable, Unobservable}, open_tree.OpenTree.{OpenTree}}
-use Rattle.cert_check.{specs.declared.stage.Stage.TheVariants.{Said, Graph, Tree, Ended}, proofs.{Lasts.{snoc_some}, TreeLines.{tree_snoc}}}
+use Rattle.cert_check.{specs.declared.stage.Stage.TheVariants.{Graph, Tree, Ended}, proofs.{Lasts.{snoc_some}, TreeLines.{tree_snoc}}}
 use Rattle.cert_check.proofs.BodyBegins.{first_line, second_line}
 use Rattle.cert_check.proofs.Nexts.{HasWorld, GraphNext, node_next, edge_next, graph_end, next_in_graph, TreeNext, version_next, step_next, last_next, next_in_tree, no_more}
 use Rattle.cert_check.proofs.{StepNodes.{StepHas, runs_have, step_in}, Propers.{IsWithin, runs_within}}
@@ -26,16 +26,16 @@ start_stuck q lines text none other l is begins =
     let v = first_line q l [] (subst P none begins) in
     other v.0 (is ∙ ap (line_words q.names) v.1)
 
-pub start_goes : (q : Question) (lines : List Line) (text : List ℕ) (v : Verdict) → lines ≡ [] → text ≡ verdict_text (plain_verdict v)
-    → GoesOn q lines text (Said v)
-start_goes q lines text v none is = record {
-  line = verdict (plain_verdict v);
+pub start_goes : (q : Question) (lines : List Line) (text : List ℕ) (v : PlainVerdict) (next : Stage) → lines ≡ [] → text ≡ verdict_text v
+    → StandsAt q next (verdict v ∷ []) → GoesOn q lines text next
+start_goes q lines text v next none is stands = record {
+  line = verdict v;
   text_is = is;
   only = λ other same begins.
       let P : List Line → Type 0 = λ ls. BeginsWell q (ls ++ other ∷ []) in
       let u = first_line q other [] (subst P none begins) in
-      u.1 ∙ ap verdict (one_verdict u.0 (plain_verdict v) (sym (ap (line_words q.names) u.1) ∙ sym same ∙ is));
-  stands = ap (λ (ls : List Line). ls ++ verdict (plain_verdict v) ∷ []) none;
+      u.1 ∙ ap verdict (one_verdict u.0 v (sym (ap (line_words q.names) u.1) ∙ sym same ∙ is));
+  stands = (let P : List Line → Type 0 = λ ls. StandsAt q next (ls ++ verdict v ∷ []) in subst P (sym none) stands);
 }
 
 -- the second line
@@ -61,13 +61,14 @@ graph_begins q lines text are is = record {
   };
 }
 
-pub tree_begins : (q : Question) (lines : List Line) (text : List ℕ) (o : OpenTree) → o.is_new ≡ true → lines ≡ verdict unobservable ∷ []
+pub tree_begins : (q : Question) → IsAsked q → (lines : List Line) (text : List ℕ) (o : OpenTree) → o.is_new ≡ true → lines ≡ verdict unobservable ∷ []
     → text ≡ second_text unobservable q.expectation → Stands o.branches One q.tree (all_signed false (asserted q.tree 0) ∷ []) → GoesOn q lines text (Tree o)
-tree_begins q lines text o is_new are is stands = record {
+tree_begins q asked lines text o is_new are is stands = record {
   line = second unobservable q.expectation;
   text_is = is;
   only = λ other same begins. second_is q lines unobservable other are begins;
   stands = record {
+    asked = asked;
     version = One;
     steps = [];
     opens = all_signed false (asserted q.tree 0) ∷ [];
@@ -232,6 +233,7 @@ version_goes q o new lines text so_far is_new is_old is begin_two = record {
   text_is = is;
   only = λ other same begins. go other same (tree_next q o lines other so_far begins);
   stands = record {
+    asked = so_far.asked;
     version = Two;
     steps = [];
     opens = so_far.opens;
@@ -287,6 +289,7 @@ tree_goes q asked o new lines text so_far is_other is_old s next is only run sta
   text_is = is.is;
   only = λ other same begins. go other same (tree_next q o lines other so_far begins);
   stands = record {
+    asked = asked;
     version = so_far.version;
     steps = so_far.steps ++ s ∷ [];
     opens = next;
@@ -311,28 +314,21 @@ pub ended_stuck : (q : Question) (lines : List Line) (text : List ℕ) (v : Verd
 ended_stuck q lines text v certificate l same begins = no_more q (plain_verdict v) lines l certificate begins
 
 -- a line of a graph, judged where the graph is
-pub graph_advanced : (q : Question) → AreReadable q.names → (names : Names) → names ≡ q.names → (old new : PlainGraph) (lines : List Line) (text : List ℕ)
-    → IsGraphSoFar q old lines
-    → (text ≡ codes "end" → ⊥) → (All (IsNodeIn names) old.nodes → All (IsNodeIn names) new.nodes) → (taken : Bool)
-    → MatchBool taken (Takes names text old new) (Refuses names text old × (new ≡ old)) → HasAdvanced q lines text (Graph new) taken
-graph_advanced q readable names same old new lines text so_far no_end of_names true takes =
-    let P : Names → Type 0 = λ ns. Takes ns text old new in
-    let Q : Names → Type 0 = λ ns. All (IsNodeIn ns) new.nodes in
-    let R : Names → Type 0 = λ ns. All (IsNodeIn ns) old.nodes in
-    graph_goes q readable old new lines text so_far (subst P same takes) (subst Q same (of_names (subst R (sym same) so_far.of_names)))
-    (keeps_ends old new takes.line takes.put so_far.ends)
-graph_advanced q readable names same old new lines text so_far no_end of_names false refuses =
-    let P : Names → Type 0 = λ ns. Refuses ns text old in
-    graph_stuck q old lines text so_far no_end (subst P same refuses.0)
+pub graph_advanced : (q : Question) → AreReadable q.names → (old new : PlainGraph) (lines : List Line) (text : List ℕ) → IsGraphSoFar q old lines
+    → (text ≡ codes "end" → ⊥) → (All (IsNodeIn q.names) old.nodes → All (IsNodeIn q.names) new.nodes) → (taken : Bool)
+    → MatchBool taken (Takes q.names text old new) (Refuses q.names text old × (new ≡ old)) → HasAdvanced q lines text (Graph new) taken
+graph_advanced q readable old new lines text so_far no_end of_names true takes =
+    graph_goes q readable old new lines text so_far takes (of_names so_far.of_names) (keeps_ends old new takes.line takes.put so_far.ends)
+graph_advanced q readable old new lines text so_far no_end of_names false refuses = graph_stuck q old lines text so_far no_end refuses.0
 
 -- a step, taken where the branches are
-pub tree_advanced : (q : Question) → IsAsked q → (names : Names) → names ≡ q.names → (old new : OpenTree) (lines : List Line) (text : List ℕ)
+pub tree_advanced : (q : Question) (names : Names) → names ≡ q.names → (old new : OpenTree) (lines : List Line) (text : List ℕ)
     (so_far : IsTreeSoFar q old lines) → IsOther q old lines text so_far → new.is_new ≡ false → (good : Bool)
     → StepsOn names so_far.version q.tree so_far.opens text new.branches good → HasAdvanced q lines text (Tree new) good
-tree_advanced q asked names same old new lines text so_far is_other is_old true steps =
+tree_advanced q names same old new lines text so_far is_other is_old true steps =
     let P : Names → Type 0 = λ ns. StepsOn ns so_far.version q.tree so_far.opens text new.branches true in
     let some = subst P same steps in
-    tree_goes q asked old new lines text so_far is_other is_old some.0 some.3.0 some.1 some.2 some.3.1 some.3.2
-tree_advanced q asked names same old new lines text so_far is_other is_old false steps =
+    tree_goes q so_far.asked old new lines text so_far is_other is_old some.0 some.3.0 some.1 some.2 some.3.1 some.3.2
+tree_advanced q names same old new lines text so_far is_other is_old false steps =
     let P : Names → Type 0 = λ ns. StepsOn ns so_far.version q.tree so_far.opens text new.branches false in
-    tree_stuck q asked old lines text so_far is_other (subst P same steps)
+    tree_stuck q so_far.asked old lines text so_far is_other (subst P same steps)

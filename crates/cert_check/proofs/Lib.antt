@@ -14,11 +14,10 @@ mod Advances
 mod Raws
 mod RawStages
 mod Shown
+mod Judged
 mod Verified
 mod Outcomes
 pub mod Alike
-mod GraphJudged
-mod GraphVerified
 mod OneLines
 pub mod OneTexts
 mod StepReads

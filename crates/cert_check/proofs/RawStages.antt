@@ -1,18 +1,21 @@
 -- What a judge of certificates stands at, line by line as bytes.
-use Rattle.std.{proofs.Common.{◌≡◌, ℕ, Bool, true, false, List, [], ◌∷◌, ◌++◌, map, refl, sym, ◌∙◌, ap, subst}, specs.Prelude.{◌↔◌}}
+use Rattle.std.{proofs.Common.{◌≡◌, ℕ, true, false, List, [], ◌∷◌, ◌++◌, map, refl, sym, ◌∙◌, ap, subst}, specs.Prelude.{◌↔◌}}
 use Rattle.pc_common.specs.{World.{Node, Edge}, Lines.{Line, Verdict as PlainVerdict, observable, unobservable, verdict, second, end, line_words}, Steps.{Step}}
 use Rattle.pc_ground.specs.declared.version.Version.{Version}
 use Rattle.graph_text.specs.Graphs.{graph_lines}
 use Rattle.cert_check.specs.Certificates.{Question, header, tree_lines, IsCertificate, BeginsWell, in_header, in_graph, in_tree, whole}
-use Rattle.cert_check.specs.{Verdicts.{plain_verdict}, Stages.{StandsAt, GoesOn, IsStuck, HasAdvanced, is_end}, RawLines.{RawFirst, RawWhole, RawStands}}
-use Rattle.cert_check.{specs.declared.stage.Stage.{Stage, TheVariants.{Start, Said, Graph, Tree, Ended}}, proofs.Lasts.{last_map, map_snoc}}
+use Rattle.cert_check.specs.{Verdicts.{plain_verdict}, Stages.{StandsAt, GoesOn, IsStuck, is_end}, RawLines.{RawFirst, RawWhole, RawStands}}
+use Rattle.cert_check.{specs.declared.stage.Stage.{Stage, TheVariants.{Start, SaidObservable, SaidUnobservable, Graph, Tree, Ended}}, proofs.Lasts.{last_map, map_snoc}}
 use Rattle.cert_check.proofs.{Firsts.{begins_before}, Raws.{raw_begins}, BodyBegins.{unequal, graph_ends}, TreeLines.{tree_end}}
+
+said_begins : (q : Question) (v : PlainVerdict) (lines : List Line) → lines ≡ verdict v ∷ [] → BeginsWell q lines
+said_begins q v lines said = in_header v (second v q.expectation ∷ []) (ap (λ (ls : List Line). ls ++ second v q.expectation ∷ []) said)
 
 -- the lines of each stage begin well
 stage_begins : (q : Question) (stage : Stage) (lines : List Line) → StandsAt q stage lines → BeginsWell q lines
 stage_begins q Start lines none = in_header observable (header q observable) (ap (λ (ls : List Line). ls ++ header q observable) none)
-stage_begins q (Said v) lines said =
-    in_header (plain_verdict v) (second (plain_verdict v) q.expectation ∷ []) (ap (λ (ls : List Line). ls ++ second (plain_verdict v) q.expectation ∷ []) said)
+stage_begins q SaidObservable lines said = said_begins q observable lines said
+stage_begins q (SaidUnobservable tree) lines (grounded, said) = said_begins q unobservable lines said
 stage_begins q (Graph g) lines so_far = in_graph g.nodes g.edges so_far.of_names so_far.ends so_far.lines_are
 stage_begins q (Tree o) lines so_far = in_tree so_far.version so_far.steps so_far.opens so_far.partial so_far.lines_are
 stage_begins q (Ended v) lines certificate = whole (plain_verdict v) certificate
@@ -58,17 +61,6 @@ raw_stuck q old raws text st stuck b =
     let exact = raw_begins q (raws ++ text ∷ []) b in
     let more = one_more q old raws text st exact.lines exact.are exact.begins in stuck more.last more.text_is more.begins
 
--- the same, by what came of the line
-pub raw_advanced : (q : Question) (old next : Stage) (raws : List (List ℕ)) (text : List ℕ) (st : RawStands q old raws) (good : Bool) → good ≡ true
-    → HasAdvanced q st.lines text next good → RawStands q next (raws ++ text ∷ [])
-raw_advanced q old next raws text st true e goes = raw_goes_on q old next raws text st goes
-raw_advanced q old next raws text st false e stuck = cc
-
-pub raw_refused : (q : Question) (old next : Stage) (raws : List (List ℕ)) (text : List ℕ) (st : RawStands q old raws) (good : Bool) → good ≡ false
-    → HasAdvanced q st.lines text next good → RawFirst q (raws ++ text ∷ []) → ⊥
-raw_refused q old next raws text st true e goes = cc
-raw_refused q old next raws text st false e stuck = raw_stuck q old raws text st stuck
-
 -- a certificate is read to its last line
 graph_whole : (q : Question) (nodes : List Node) (edges : List Edge) (v : PlainVerdict) (lines : List Line)
     → lines ≡ header q observable ++ graph_lines nodes edges
@@ -99,7 +91,8 @@ few_lines q unobservable lines (u, tree) = (let is = tree.lines_are in (λ none.
 
 is_read : (q : Question) (stage : Stage) (lines : List Line) (v : PlainVerdict) → StandsAt q stage lines → IsCertificate q v lines → is_end stage ≡ true
 is_read q Start lines v none certificate = absurd ((few_lines q v lines certificate).0 none)
-is_read q (Said u) lines v said certificate = absurd ((few_lines q v lines certificate).1 (verdict (plain_verdict u)) said)
+is_read q SaidObservable lines v said certificate = absurd ((few_lines q v lines certificate).1 (verdict observable) said)
+is_read q (SaidUnobservable tree) lines v said certificate = absurd ((few_lines q v lines certificate).1 (verdict unobservable) said.1)
 is_read q (Graph g) lines v so_far certificate = absurd (graph_whole q g.nodes g.edges v lines so_far.lines_are certificate)
 is_read q (Tree o) lines v so_far certificate = absurd (tree_whole q so_far.version so_far.steps v lines so_far.lines_are certificate)
 is_read q (Ended u) lines v ended certificate = refl
@@ -109,7 +102,8 @@ ended_whole q Start raws st e = absurd (no e)
   where
     no : false ≡ true → ⊥
     no f = cc
-ended_whole q (Said v) raws st e = cc
+ended_whole q SaidObservable raws st e = cc
+ended_whole q (SaidUnobservable tree) raws st e = cc
 ended_whole q (Graph g) raws st e = cc
 ended_whole q (Tree o) raws st e = cc
 ended_whole q (Ended v) raws st e = record { verdict = plain_verdict v; lines = st.lines; are = st.are; certificate = st.stands }

@@ -1,12 +1,12 @@
 -- A text of lines as bytes is a text of a certificate's lines.
-use Rattle.std.proofs.{Common.{◌≡◌, inl, ℕ, suc, arith, List, [], ◌∷◌, ◌++◌, map, refl, sym, ◌∙◌, ap, subst}, lemmas.List.{append-nil}}
+use Rattle.std.proofs.{Common.{◌≡◌, inl, ℕ, suc, arith, List, [], ◌∷◌, ◌++◌, map, refl, ◌∙◌, ap, subst}, lemmas.List.{append-nil}}
 use Rattle.std.{proofs.lemmas.List.Elements.{All-nil, All-cons, All-contains}, specs.List.{All}}
-use Rattle.pc_common.{proofs.Elements.{contains_from_in}, specs.Lines.{Names, Line, Verdict, line_words}}
+use Rattle.pc_common.{proofs.Elements.{contains_from_in}, specs.Lines.{Names, Line, line_words}}
 use Rattle.pc_ground.specs.NodeForm.{AreReadable}
-use Rattle.line_judge.specs.Texts.{IsLine, text_of_lines, IsMadeOf, FirstLinesBegin, IsRefusedAt, HoldsRefused}
+use Rattle.line_judge.specs.Texts.{IsLine, text_of_lines, IsMadeOf}
 use Rattle.graph_text.proofs.{WholeGraphs.{joined_lines}, Spaces.{lacking_on_line}}
-use Rattle.cert_check.specs.{Certificates.{Question, BeginsWell, whole, IsCertificateText}, Proper.{IsAsked}, RawLines.{RawBegins, RawWhole, RawFirst}}
-use Rattle.cert_check.proofs.{Firsts.{begins_first}, Bytes.{words_lack}, Propers.{begins_proper, IsProper}}
+use Rattle.cert_check.specs.{Certificates.{Question, BeginsWell, IsCertificateText}, RawLines.{RawBegins, RawWhole, RawFirst}}
+use Rattle.cert_check.proofs.{Firsts.{begins_first}, Bytes.{words_lack}, Propers.{IsProper}}
 
 pub raw_lines : (names : Names) → AreReadable names → (ls : List Line) → All (IsProper names) ls → All IsLine (map (line_words names) ls)
 raw_lines names readable [] all = All-nil IsLine
@@ -44,29 +44,3 @@ to_certificate q text made =
       text_is = made.text_is ∙ ap text_of_lines w.are ∙ joined_lines q.names w.lines;
       certificate = w.certificate;
     }
-
--- a certificate's text is made of its lines
-pub from_certificate : (q : Question) → IsAsked q → (text : List ℕ) (v : Verdict) → IsCertificateText q v text → IsMadeOf (RawWhole q) text
-from_certificate q asked text v c = record {
-  lines = map (line_words q.names) c.lines;
-  are_lines = raw_lines q.names asked.readable c.lines (begins_proper q asked c.lines (whole v c.certificate));
-  text_is = c.text_is ∙ sym (joined_lines q.names c.lines);
-  accepted = record { verdict = v; lines = c.lines; are = refl; certificate = c.certificate };
-}
-
-first_lines : (q : Question) (text : List ℕ) (n : ℕ) → FirstLinesBegin (RawFirst q) text n → FirstLinesBegin (RawBegins q) text n
-first_lines q text n f =
-    record { lines = f.lines; rest = f.rest; count = f.count; are_lines = f.are_lines; text_is = f.text_is; begin = raw_begins q f.lines f.begin }
-
-lines_first : (q : Question) (text : List ℕ) (n : ℕ) → FirstLinesBegin (RawBegins q) text n → FirstLinesBegin (RawFirst q) text n
-lines_first q text n f =
-    record { lines = f.lines; rest = f.rest; count = f.count; are_lines = f.are_lines; text_is = f.text_is; begin = raw_first q f.lines f.begin }
-
--- the line that the judge refuses is the first that doesn't begin well
-pub to_refused : (q : Question) (text : List ℕ) (n : ℕ) → IsRefusedAt (RawFirst q) (RawWhole q) text n → IsRefusedAt (RawBegins q) (RawWhole q) text n
-to_refused q text n r =
-    record { no_whole = r.no_whole; before = λ k less. first_lines q text k (r.before k less); here = λ f. r.here (lines_first q text n f) }
-
-pub holds_refused : (q : Question) (text : List ℕ) → HoldsRefused (RawBegins q) text → HoldsRefused (RawFirst q) text
-holds_refused q text h =
-    record { lines = h.lines; rest = h.rest; are_lines = h.are_lines; text_is = h.text_is; bad = λ b. h.bad (raw_begins q h.lines b) }

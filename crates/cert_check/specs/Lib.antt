@@ -7,10 +7,11 @@ pub mod Questions
 pub mod Stages
 pub mod Ends
 pub mod RawLines
+pub mod Subjects
+pub mod GraphBegins
+pub mod Judged
 pub mod Fed
+pub mod GraphFed
 pub mod Ones
 pub mod StepTexts
-pub mod GraphStages
-pub mod GraphBegins
-pub mod GraphFed
 pub mod LawsOfJudges

@@ -1,13 +1,13 @@
 -- What each stage of reading a certificate says of the lines so far, and what the next line makes of it.
-use Rattle.std.specs.Prelude.{◌≡◌, ℕ, List, [], ◌∷◌, ◌++◌, All, Bool, true, false, Option, Some, None}
+use Rattle.std.specs.Prelude.{◌≡◌, ℕ, List, [], ◌∷◌, ◌++◌, All, Bool, true, false}
 use Rattle.pc_common.specs.{World.{Node}, Generated.{HasEnds}, Steps.{Step}, Lines.{Names, Line, observable, unobservable, verdict, line_words}}
 use Rattle.pc_ground.specs.{NodeForm.{IsNodeIn}, Tree.{Tree as GroundTree}, declared.version.Version.{Version, TheVariants.{One}}}
 use Rattle.pc_ground.specs.Refutes.{Branch, IsPartial, Runs}
 use Rattle.graph_text.specs.{Graphs.{graph_lines}, OpenGraphs.{PlainGraph}}
 use Rattle.refutation.specs.Reading.{IsLineOf}
 use Rattle.tree_check.specs.OpenBranches.{OpenBranches, Stands}
-use Rattle.cert_check.specs.{Certificates.{Question, header, tree_lines, IsCertificate, BeginsWell}, Verdicts.{plain_verdict}}
-use Rattle.cert_check.specs.declared.{open_tree.OpenTree.{OpenTree}, stage.Stage.{Stage, TheVariants.{Start, Said, Graph, Tree, Ended}}}
+use Rattle.cert_check.specs.{Certificates.{Question, header, tree_lines, IsCertificate, BeginsWell}, Proper.{IsAsked, IsGrounded}, Verdicts.{plain_verdict}}
+use Rattle.cert_check.specs.declared.{open_tree.OpenTree.{OpenTree}, stage.Stage.{Stage, TheVariants.{Start, SaidObservable, SaidUnobservable, Graph, Tree, Ended}}}
 
 -- a header and the lines of this graph
 pub record IsGraphSoFar (q : Question) (g : PlainGraph) (lines : List Line) : Type 0 where
@@ -17,6 +17,7 @@ pub record IsGraphSoFar (q : Question) (g : PlainGraph) (lines : List Line) : Ty
 
 -- a header and steps of one version, which leave these branches open; a new one has no line after the header
 pub record IsTreeSoFar (q : Question) (o : OpenTree) (lines : List Line) : Type 0 where
+  pub asked : IsAsked q
   pub version : Version
   pub steps : List (Step Node)
   pub opens : List Branch
@@ -29,7 +30,8 @@ pub record IsTreeSoFar (q : Question) (o : OpenTree) (lines : List Line) : Type 
 -- the lines so far are those that the stage says
 abbrev pub StandsAt : Question → Stage → List Line → Type 0
 StandsAt q Start lines = lines ≡ []
-StandsAt q (Said v) lines = lines ≡ verdict (plain_verdict v) ∷ []
+StandsAt q SaidObservable lines = lines ≡ verdict observable ∷ []
+StandsAt q (SaidUnobservable tree) lines = IsGrounded q tree.now × (lines ≡ verdict unobservable ∷ [])
 StandsAt q (Graph g) lines = IsGraphSoFar q g lines
 StandsAt q (Tree o) lines = IsTreeSoFar q o lines
 StandsAt q (Ended v) lines = IsCertificate q (plain_verdict v) lines
@@ -44,11 +46,6 @@ pub record GoesOn (q : Question) (lines : List Line) (text : List ℕ) (next : S
 -- no line that may stand next has this text
 abbrev pub IsStuck : Question → List Line → List ℕ → Type 0
 IsStuck q lines text = (line : Line) → text ≡ line_words q.names line → BeginsWell q (lines ++ line ∷ []) → ⊥
-
--- what the next line makes of a stage
-abbrev pub Advances : Question → List Line → List ℕ → Option Stage → Type 0
-Advances q lines text None = IsStuck q lines text
-Advances q lines text (Some next) = GoesOn q lines text next
 
 -- what came of the next line: where it is good, the stage after it stands; else it is stuck
 abbrev pub HasAdvanced : Question → List Line → List ℕ → Stage → Bool → Type 0
@@ -66,7 +63,8 @@ StepsOn names v t opens text new false =
 -- a whole certificate was read
 abbrev pub is_end : Stage → Bool
 is_end Start = false
-is_end (Said v) = false
+is_end SaidObservable = false
+is_end (SaidUnobservable tree) = false
 is_end (Graph g) = false
 is_end (Tree o) = false
 is_end (Ended v) = true

@@ -11,17 +11,16 @@ ghost use Rattle.cert_check.specs.Fed.{IsFed};
 
 use super::checked::Checked;
 use super::judge::CertificateJudge;
-use super::next::show_asked;
+use super::subject::Subject;
 use line_judge::{Feed, Finished};
 use pc_common::{MAX_CERTIFICATE, Memory};
-use pc_ground::{Front, NodeText};
+use pc_ground::Front;
 use std::alloc::Global;
 
 /// A check of one text against the model and the test of a front. The text comes in pieces, however it is cut,
 /// and each line is judged when it is whole.
 #[derive(Drop)]
 pub struct Checker<'a> {
-    front: &'a Front,
     feed: Feed<CertificateJudge<'a>>,
 }
 
@@ -30,9 +29,8 @@ impl<'a> Checker<'a> {
     pub fn new(alloc: Global, front: &'a Front) -> Result<Checker<'a>, Memory>
         ensures { IfOk result (λ c. IsFed c (question_of front.now) []) }
     {
-        let judge = CertificateJudge::new(alloc, front);
+        let judge = CertificateJudge::new(alloc, Subject::of(front));
         Ok(Checker {
-            front,
             feed: Feed::new(alloc, judge, MAX_CERTIFICATE as u64),
         })
     }
@@ -47,7 +45,6 @@ impl<'a> Checker<'a> {
             → IsDecided (RawBegins q) MAX_CERTIFICATE text (text ++ piece.now) → IsOk result }
     {
         Ok(Checker {
-            front: self.front,
             feed: self.feed.feed(piece)?,
         })
     }
@@ -58,7 +55,6 @@ impl<'a> Checker<'a> {
         ensures outcome { (f : AnyFront) (text : List ℕ) → IsFed self.entry (question_of f) text
             → IfOk result (SaysOutcome f) }
     {
-        show_asked(self.front, &NodeText::of(self.front));
         match self.feed.finish() {
             Finished::Whole(judge) => Ok(judge.verdict()),
             Finished::Refused(line) => Ok(Checked::Refused(line)),

@@ -9,7 +9,8 @@ ghost use Rattle.cert_check.specs.RawLines.{RawBegins};
 ghost use Rattle.cert_check.specs.GraphFed.{IsGraphFed};
 
 use super::checked::Checked;
-use super::graph_judge::GraphJudge;
+use super::judge::CertificateJudge;
+use super::subject::Subject;
 use line_judge::{Feed, Finished};
 use pc_common::{MAX_CERTIFICATE, Memory};
 use pc_ground::Parts;
@@ -19,7 +20,7 @@ use std::alloc::Global;
 /// ground tree, so none need be built. The text comes in pieces, as `Checker` takes them.
 #[derive(Drop)]
 pub struct GraphChecker<'a> {
-    feed: Feed<GraphJudge<'a>>,
+    feed: Feed<CertificateJudge<'a>>,
 }
 
 impl<'a> GraphChecker<'a> {
@@ -27,7 +28,7 @@ impl<'a> GraphChecker<'a> {
     pub fn new(alloc: Global, parts: &'a Parts) -> GraphChecker<'a>
         ensures { IsGraphFed result (question_of_parts parts.now) [] }
     {
-        let judge = GraphJudge::new(alloc, parts);
+        let judge = CertificateJudge::new(alloc, Subject::of_parts(parts));
         GraphChecker {
             feed: Feed::new(alloc, judge, MAX_CERTIFICATE as u64),
         }

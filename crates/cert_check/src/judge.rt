@@ -1,26 +1,23 @@
 ghost use Rattle.std.specs.Prelude.{◌≡◌, []};
-ghost use Rattle.pc_ground.specs.NodeForm.{names_of};
-ghost use Rattle.cert_check.specs.Questions.{question_of};
-ghost use Rattle.cert_check.specs.Proper.{IsAsked};
+ghost use Rattle.cert_check.specs.Subjects.{question_of_subject};
 ghost use Rattle.cert_check.specs.Ends.{checked_of};
 ghost use Rattle.cert_check.specs.RawLines.{RawStands};
 ghost use Rattle.cert_check.specs.Fed.{judge_view};
-ghost use Rattle.cert_check.specs.LawsOfJudges.{first_begins, taken_begins, whole_begins};
+ghost use Rattle.cert_check.specs.LawsOfJudges.{judged_first, judged_taken, judged_whole};
 
 use super::checked::Checked;
-use super::next::{advance, show_asked};
+use super::next::advance;
 use super::stage::Stage;
+use super::subject::Subject;
 use line_judge::Judge;
 use pc_common::Memory;
-use pc_ground::{Front, NodeText};
 use refutation::NodeRow;
 use std::alloc::Global;
 
-/// A judge of certificates of one front.
+/// A judge of certificates of one subject.
 pub(crate) struct CertificateJudge<'a> {
     alloc: Global,
-    front: &'a Front,
-    names: NodeText<'a>,
+    subject: Subject<'a>,
     row: NodeRow,
     stage: Stage<'a>,
 }
@@ -30,8 +27,7 @@ impl Drop for CertificateJudge<'_> {
     fn drop(self) {
         let CertificateJudge {
             alloc: _,
-            front: _,
-            names: _,
+            subject: _,
             row: _,
             stage: _,
         } = self;
@@ -40,18 +36,13 @@ impl Drop for CertificateJudge<'_> {
 
 impl<'a> CertificateJudge<'a> {
     /// A judge that took no line. Takes no memory.
-    pub(crate) fn new(alloc: Global, front: &'a Front) -> CertificateJudge<'a>
-        ensures front { result.front.now ≡ front.now }
-        ensures names { result.names ≡ names_of front.now }
-        ensures asked { IsAsked (question_of front.now) }
-        ensures stands { RawStands (question_of front.now) result.stage [] }
+    pub(crate) fn new(alloc: Global, subject: Subject<'a>) -> CertificateJudge<'a>
+        ensures subject { result.subject ≡ subject.entry }
+        ensures stands { RawStands (question_of_subject subject.entry) result.stage [] }
     {
-        let names = NodeText::of(front);
-        show_asked(front, &names);
         CertificateJudge {
             alloc,
-            front,
-            names,
+            subject,
             row: NodeRow::new(alloc),
             stage: Stage::Start,
         }
@@ -70,17 +61,16 @@ impl<'a> CertificateJudge<'a> {
 impl<'a> Judge for CertificateJudge<'a> {
     ghost view = { judge_view };
 
-    ghost stands_begins = { λ j lines stands. taken_begins (question_of j.front.now) j.stage lines stands.2 };
+    ghost stands_begins = { λ j lines stands. judged_taken j.subject j.stage lines stands.1 stands.2 };
 
-    ghost begins_first = { λ j lines more begins. first_begins (question_of j.front.now) lines more begins };
+    ghost begins_first = { λ j lines more begins. judged_first j.subject lines more begins };
 
-    ghost whole_begins = { λ j lines whole. whole_begins (question_of j.front.now) lines whole };
+    ghost whole_begins = { λ j lines whole. judged_whole j.subject lines whole };
 
     fn step(&mut self, line: &[u8]) -> Result<bool, Memory> {
         advance(
             self.alloc,
-            self.front,
-            &self.names,
+            &self.subject,
             &mut self.row,
             &mut self.stage,
             line,

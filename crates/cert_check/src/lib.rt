@@ -29,9 +29,6 @@
 mod checked;
 mod checker;
 mod graph_checker;
-mod graph_judge;
-mod graph_next;
-mod graph_stage;
 mod header;
 mod judge;
 mod next;
@@ -39,6 +36,7 @@ mod one;
 mod open_tree;
 mod stage;
 mod steps;
+mod subject;
 
 pub use checked::Checked;
 pub use checker::{Checker, check_text};

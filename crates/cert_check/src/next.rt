@@ -1,46 +1,64 @@
-ghost use Rattle.std.specs.Prelude.{◌≡◌, ◌↔◌, ℕ, true, List, IfOk, codes};
-ghost use Rattle.cert_check.specs.declared.stage.Stage.TheVariants.{Start, Said};
+ghost use Rattle.std.specs.Prelude.{◌≡◌, ◌↔◌, [], ℕ, true, List, IfOk, codes};
+ghost use Rattle.cert_check.specs.declared.stage.Stage.TheVariants.{SaidObservable, SaidUnobservable};
 ghost use Rattle.pc_common.specs.Lines.{Line};
 ghost use Rattle.pc_ground.specs.NodeForm.{names_of};
-ghost use Rattle.cert_check.specs.Certificates.{Question};
 ghost use Rattle.cert_check.specs.Questions.{question_of};
 ghost use Rattle.cert_check.specs.Proper.{IsAsked};
-ghost use Rattle.cert_check.specs.Stages.{StandsAt, Advances, HasAdvanced, IsGraphSoFar, IsTreeSoFar};
+ghost use Rattle.cert_check.specs.Subjects.{question_of_subject, IsSubject};
+ghost use Rattle.cert_check.specs.Stages.{StandsAt, IsGraphSoFar, IsTreeSoFar};
+ghost use Rattle.cert_check.specs.Judged.{Advances, HasStepped};
+ghost use Rattle.cert_check.specs.declared.subject.Subject.{Subject as AnySubject};
 
 use super::header::{Verdict, is_second, verdict_of};
 use super::open_tree::OpenTree;
 use super::stage::Stage;
-use graph_check::check_graph;
+use super::subject::Subject;
+use graph_check::check_graph_of;
 use graph_text::OpenGraph;
 use pc_common::Memory;
-use pc_ground::{Front, NodeText};
+use pc_ground::{Flat, Front, NodeText};
 use refutation::NodeRow;
 use std::alloc::Global;
 
-/// The stage after the first line: a verdict.
-fn after_start<'a>(line: &[u8]) -> Option<Stage<'a>>
-    ensures { (q : Question) (lines : List Line) → StandsAt q Start lines → Advances q lines line.now result }
+/// The stage after the first line: a verdict. Without a ground tree it has to be observable.
+fn after_start<'a>(subject: &Subject<'a>, line: &[u8]) -> Option<Stage<'a>>
+    ensures { IsSubject subject.now → (lines : List Line) → lines ≡ [] → Advances subject.now lines line.now result }
 {
-    Some(Stage::Said(verdict_of(line)?))
+    match verdict_of(line)? {
+        Verdict::Observable => Some(Stage::SaidObservable),
+        Verdict::Unobservable => match subject.tree {
+            Some(tree) => Some(Stage::SaidUnobservable(tree)),
+            None => None,
+        },
+    }
 }
 
-/// The stage after the second line: how the verdict compares with what the test states.
-fn after_verdict<'a>(
+/// The stage after the second line, where the first says observable: how that compares with what the test states.
+fn after_observable<'a>(alloc: Global, subject: &Subject<'_>, line: &[u8]) -> Option<Stage<'a>>
+    ensures { (lines : List Line) → StandsAt (question_of_subject subject.now) SaidObservable lines
+        → Advances subject.now lines line.now result }
+{
+    if !is_second(line, Verdict::Observable, subject.case.expect()) {
+        return None;
+    }
+    Some(Stage::Graph(OpenGraph::new(alloc)))
+}
+
+/// The stage after the second line, where the first says unobservable of this tree.
+fn after_unobservable<'a>(
     alloc: Global,
-    front: &'a Front,
-    verdict: Verdict,
+    subject: &Subject<'_>,
+    tree: &'a Flat,
     line: &[u8],
 ) -> Result<Option<Stage<'a>>, Memory>
-    ensures { IfOk result (λ next. (lines : List Line) → StandsAt (question_of front.now) (Said verdict) lines
-        → Advances (question_of front.now) lines line.now next) }
+    ensures { IfOk result (λ next. (lines : List Line)
+        → StandsAt (question_of_subject subject.now) (SaidUnobservable tree.entry) lines
+        → Advances subject.now lines line.now next) }
 {
-    if !is_second(line, verdict, front.case.expect()) {
+    if !is_second(line, Verdict::Unobservable, subject.case.expect()) {
         return Ok(None);
     }
-    match verdict {
-        Verdict::Observable => Ok(Some(Stage::Graph(OpenGraph::new(alloc)))),
-        Verdict::Unobservable => Ok(Some(Stage::Tree(OpenTree::new(alloc, front)?))),
-    }
+    Ok(Some(Stage::Tree(OpenTree::new(alloc, tree)?)))
 }
 
 /// Whether a line, without its LF, is the last one of a certificate.
@@ -53,13 +71,14 @@ pub(crate) fn is_end(line: &[u8]) -> bool
 /// The stage after the last line of a graph, whose world has to satisfy.
 fn end_graph<'a>(
     alloc: Global,
-    front: &'a Front,
+    subject: &Subject<'_>,
     graph: &OpenGraph,
 ) -> Result<Option<Stage<'a>>, Memory>
-    ensures { IfOk result (λ next. (lines : List Line) → IsGraphSoFar (question_of front.now) graph.now lines
-        → Advances (question_of front.now) lines (codes "end") next) }
+    ensures { IfOk result (λ next. (lines : List Line)
+        → IsGraphSoFar (question_of_subject subject.now) graph.now lines
+        → Advances subject.now lines (codes "end") next) }
 {
-    if !check_graph(alloc, front, graph.graph())? {
+    if !check_graph_of(alloc, subject.case, subject.axioms, graph.graph())? {
         return Ok(None);
     }
     Ok(Some(Stage::Ended(Verdict::Observable)))
@@ -67,8 +86,8 @@ fn end_graph<'a>(
 
 /// The stage after the last line of a refutation, where no branch may be open.
 fn end_tree<'a>(tree: &OpenTree<'_>) -> Option<Stage<'a>>
-    ensures { (q : Question) (lines : List Line) → IsTreeSoFar q tree.now lines
-        → Advances q lines (codes "end") result }
+    ensures { (s : AnySubject) (lines : List Line) → IsTreeSoFar (question_of_subject s) tree.now lines
+        → Advances s lines (codes "end") result }
 {
     if !tree.branches.is_closed() {
         return None;
@@ -87,8 +106,8 @@ pub(crate) fn show_asked(front: &Front, names: &NodeText<'_>)
 
 /// Puts the next stage in a stage's place, if there is one. Returns whether there is.
 fn go_on<'a>(stage: &mut Stage<'a>, next: Option<Stage<'a>>) -> bool
-    ensures { (q : Question) (lines : List Line) (text : List ℕ) → Advances q lines text next.entry
-        → HasAdvanced q lines text stage.new result }
+    ensures { (s : AnySubject) (lines : List Line) (text : List ℕ) → Advances s lines text next.entry
+        → HasStepped s lines text stage.new result }
 {
     let Some(next) = next else {
         return false;
@@ -104,28 +123,28 @@ fn go_on<'a>(stage: &mut Stage<'a>, next: Option<Stage<'a>>) -> bool
 /// quarter of the time.
 pub(crate) fn advance<'a>(
     alloc: Global,
-    front: &'a Front,
-    names: &NodeText<'_>,
+    subject: &Subject<'a>,
     row: &mut NodeRow,
     stage: &mut Stage<'a>,
     line: &[u8],
 ) -> Result<bool, Memory>
-    ensures { IfOk result (λ good. IsAsked (question_of front.now) → names.now ≡ names_of front.now
-        → (lines : List Line) → StandsAt (question_of front.now) stage.old lines
-        → HasAdvanced (question_of front.now) lines line.now stage.new good) }
+    ensures { IfOk result (λ good. IsSubject subject.now
+        → (lines : List Line) → StandsAt (question_of_subject subject.now) stage.old lines
+        → HasStepped subject.now lines line.now stage.new good) }
 {
     let next = match stage {
-        Stage::Start => after_start(line),
-        Stage::Said(verdict) => after_verdict(alloc, front, *verdict, line)?,
+        Stage::Start => after_start(subject, line),
+        Stage::SaidObservable => after_observable(alloc, subject, line),
+        Stage::SaidUnobservable(tree) => after_unobservable(alloc, subject, tree, line)?,
         Stage::Graph(graph) => {
             if !is_end(line) {
-                return graph.take(names, line);
+                return graph.take(&subject.names, line);
             }
-            end_graph(alloc, front, graph)?
+            end_graph(alloc, subject, graph)?
         }
         Stage::Tree(tree) => {
             if !is_end(line) {
-                return tree.take(names, row, line);
+                return tree.take(&subject.names, row, line);
             }
             end_tree(tree)
         }

@@ -1,4 +1,4 @@
-ghost use Rattle.std.specs.Prelude.{◌≡◌, ◌≤◌, ◌↔◌, true, [], ◌∷◌, List, IfOk, codes};
+ghost use Rattle.std.specs.Prelude.{◌≡◌, ◌≤◌, ◌↔◌, true, [], ◌∷◌, ℕ, List, IfOk, codes};
 ghost use Rattle.pc_common.specs.World.{Node};
 ghost use Rattle.pc_common.specs.Lines.{Line, verdict, unobservable, second_text};
 ghost use Rattle.pc_ground.specs.Tree.{Tree};
@@ -7,13 +7,12 @@ ghost use Rattle.pc_ground.specs.Refutes.{Branch};
 ghost use Rattle.refutation.specs.Words.{spaces as spaces_in};
 ghost use Rattle.tree_check.specs.OpenBranches.{Stands};
 ghost use Rattle.cert_check.specs.Certificates.{Question};
-ghost use Rattle.cert_check.specs.Questions.{question_of};
-ghost use Rattle.cert_check.specs.Proper.{IsAsked};
+ghost use Rattle.cert_check.specs.Proper.{IsGrounded};
 ghost use Rattle.cert_check.specs.Stages.{GoesOn, HasAdvanced, StepsOn, IsTreeSoFar};
 ghost use Rattle.cert_check.specs.declared.stage.Stage.TheVariants.{Tree as TreeStage};
 
 use pc_common::Memory;
-use pc_ground::{Front, NodeText};
+use pc_ground::{Flat, NodeText};
 use refutation::{NodeRow, read_line};
 use std::alloc::Global;
 use tree_check::Branches;
@@ -75,14 +74,15 @@ fn take_line(
 }
 
 impl<'a> OpenTree<'a> {
-    /// The refutation of no step, after the two lines of a header.
-    pub(crate) fn new(alloc: Global, front: &'a Front) -> Result<OpenTree<'a>, Memory>
-        ensures { IfOk result (λ tree. (lines : List Line) → lines ≡ verdict unobservable ∷ [] → (text : _)
-            → text ≡ second_text unobservable (question_of front.now).expectation
-            → GoesOn (question_of front.now) lines text (TreeStage tree)) }
+    /// The refutation of no step of this tree, after the two lines of a header.
+    pub(crate) fn new(alloc: Global, tree: &'a Flat) -> Result<OpenTree<'a>, Memory>
+        ensures { IfOk result (λ made. (q : Question) → IsGrounded q tree.now
+            → (lines : List Line) → lines ≡ verdict unobservable ∷ []
+            → (text : List ℕ) → text ≡ second_text unobservable q.expectation
+            → GoesOn q lines text (TreeStage made)) }
     {
         Ok(OpenTree {
-            branches: Branches::new(alloc, &front.tree)?,
+            branches: Branches::new(alloc, tree)?,
             is_new: true,
         })
     }
@@ -96,7 +96,7 @@ impl<'a> OpenTree<'a> {
         row: &mut NodeRow,
         line: &[u8],
     ) -> Result<bool, Memory>
-        ensures { IfOk result (λ good. (q : Question) → IsAsked q → names.now ≡ q.names → (lines : List Line)
+        ensures { IfOk result (λ good. (q : Question) → names.now ≡ q.names → (lines : List Line)
             → IsTreeSoFar q self.old lines → (line.now ≡ codes "end" → ⊥)
             → HasAdvanced q lines line.now (TreeStage self.new) good) }
     {

@@ -6,13 +6,16 @@ use super::checked::Checked;
 use super::header::Verdict;
 use super::open_tree::OpenTree;
 use graph_text::OpenGraph;
+use pc_ground::Flat;
 
 /// How far a certificate was read.
 pub(crate) enum Stage<'a> {
     /// No line.
     Start,
-    /// The first line, which says this.
-    Said(Verdict),
+    /// The first line, which says observable.
+    SaidObservable,
+    /// The first line, which says unobservable of this ground tree.
+    SaidUnobservable(&'a Flat),
     /// The two lines of the header, and these lines of a graph.
     Graph(OpenGraph),
     /// The two lines of the header, and this refutation so far.
@@ -26,7 +29,8 @@ impl Drop for Stage<'_> {
     fn drop(self) {
         match self {
             Stage::Start => {}
-            Stage::Said(_) => {}
+            Stage::SaidObservable => {}
+            Stage::SaidUnobservable(_) => {}
             Stage::Graph(_) => {}
             Stage::Tree(_) => {}
             Stage::Ended(_) => {}
@@ -49,7 +53,11 @@ impl<'a> Stage<'a> {
         match self {
             Stage::Ended(Verdict::Observable) => Checked::Observable,
             Stage::Ended(Verdict::Unobservable) => Checked::Unobservable,
-            Stage::Start | Stage::Said(_) | Stage::Graph(_) | Stage::Tree(_) => Checked::Refused(0),
+            Stage::Start
+            | Stage::SaidObservable
+            | Stage::SaidUnobservable(_)
+            | Stage::Graph(_)
+            | Stage::Tree(_) => Checked::Refused(0),
         }
     }
 }

@@ -5,7 +5,7 @@ ghost use Rattle.solver.specs.declared.answer.Answer.TheVariants.{Observable as 
 ghost use Rattle.verdicts.specs.Verdicts.{IsWritable};
 ghost use Rattle.core_command.specs.Found.{certificate_text};
 
-use cert_check::{Verdict as Kind, second_line, verdict_line};
+use cert_check::{Verdict, second_line, verdict_line};
 use graph_text::{Graph, write_graph};
 use pc_common::{Failed, Sink, write_all};
 use pc_ground::{Front, NodeText};
@@ -17,8 +17,8 @@ pub(crate) fn write_shown<K: Sink>(out: &mut K, front: &Front, graph: &Graph) ->
     ensures { Writes K.view out.old out.new result (certificate_text front.now (a_graph graph.now)) }
 {
     let names = NodeText::of(front);
-    write_all(out, verdict_line(Kind::Observable))?;
-    write_all(out, second_line(Kind::Observable, front.case.expect()))?;
+    write_all(out, verdict_line(Verdict::Observable))?;
+    write_all(out, second_line(Verdict::Observable, front.case.expect()))?;
     write_graph(out, &names, graph)?;
     write_all(out, b"end\n")
 }
@@ -33,8 +33,8 @@ pub(crate) fn write_refuted<K: Sink>(
     ensures { Writes K.view out.old out.new result (certificate_text front.now (a_refutation steps.now)) }
 {
     let names = NodeText::of(front);
-    write_all(out, verdict_line(Kind::Unobservable))?;
-    write_all(out, second_line(Kind::Unobservable, front.case.expect()))?;
+    write_all(out, verdict_line(Verdict::Unobservable))?;
+    write_all(out, second_line(Verdict::Unobservable, front.case.expect()))?;
     write_refutation(out, &names, steps)?;
     write_all(out, b"end\n")
 }

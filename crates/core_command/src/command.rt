@@ -6,7 +6,7 @@ use axiom_core::{Core, core};
 use command_base::{Ending, Inputs, SecondFile, read_inputs};
 use pc_common::{Files, Memory};
 use pc_ground::Front;
-use search_trait::Search;
+use search_trait::FrontSearch;
 use std::alloc::Global;
 
 /// What `core` finds of a model and a test: their front, and which of its axioms forbid the outcome.
@@ -23,7 +23,7 @@ impl Drop for FoundCore {
 }
 
 /// Reads the two files and searches: which axioms forbid the outcome, or how the command ends before it.
-pub fn find_core<S: SecondFile, R: Search, F: Files>(
+pub fn find_core<S: SecondFile, R: FrontSearch, F: Files>(
     alloc: Global,
     inputs: Inputs<'_>,
     files: &mut F,

@@ -1,6 +1,6 @@
 -- The report on the ring's front says what is found of its model and its case.
 use Rattle.std.{proofs.Common.{◌≡◌, ℕ, List, length, refl, sym, ◌∙◌, ap, subst}, specs.Prelude.{Result}}
-use Rattle.pc_common.specs.{Case.{Case}, World.{Node}, Lines.{Verdict as Kind, observable, unobservable}, declared.status.Status.{Status}}
+use Rattle.pc_common.specs.{Case.{Case}, World.{Node}, Lines.{Verdict, observable, unobservable}, declared.status.Status.{Status}}
 use Rattle.pc_common.specs.declared.status.Status.TheVariants.{Observable as is_observable, Unobservable as is_unobservable}
 use Rattle.pc_case.specs.MicroOps.{AreMicroOps}
 use Rattle.pc_syntax.specs.Written.{WrittenModel}
@@ -12,7 +12,7 @@ use Rattle.cert_check.specs.{Certificates.{certificate_lines, tree_lines}, Verdi
 use Rattle.gen_command.specs.{Ring.{ring_model, ring_test}, declared.report.Report.{Report}, Summaries.{IsTrueVerdict, IsCounted, of_graph, of_tree, IsSummary}}
 use Rattle.gen_command.specs.{Reports.{IsReport}, GenAnswers.{IsRingReport}}
 use Rattle.command_base.specs.{declared.ending.Ending.{Ending}, SecondFiles.{SaysFront}, Endings.{ReturnsFront}, Questions.{question_by}}
-use Rattle.verdicts.specs.{declared.verdict.Verdict.{Verdict}, Certified.{IsCertified, seen, unseen}}
+use Rattle.verdicts.specs.{declared.verdict.FoundVerdict.{FoundVerdict}, Certified.{IsCertified, seen, unseen}}
 use Rattle.verdicts.specs.{Verdicts.{IsVerdict, status_of, kind_of_found, verdict_text}, StepCounts.{splits_found, leaves_found}}
 use Rattle.verdicts.proofs.{CertifiedTruth.{certified_true}, VerdictTexts.{verdict_certified}}
 use Rattle.search_trait.proofs.FoundFronts.{front_numbered}
@@ -49,12 +49,12 @@ counted_kind version one m c text nodes (a_refutation r) refuted is =
     (record { steps = r; lines_are = refl; refutes = subst P one refuted.0 })
 
 -- the report says it
-summary_of : (n : ℕ) (m : WrittenModel) (c : Case) (v : Verdict) (r : Report) → v.version ≡ One → AreMicroOps c.ops → IsVerdict m c v → IsReport n v r
+summary_of : (n : ℕ) (m : WrittenModel) (c : Case) (v : FoundVerdict) (r : Report) → v.version ≡ One → AreMicroOps c.ops → IsVerdict m c v → IsReport n v r
     → IsSummary m c (plain_verdict r.verdict) r.nodes r.splits r.leaves
 summary_of n m c v r one kept verdict report =
     let certified : IsCertified v.version m c (status_of v.found) (verdict_text v) = verdict_certified m c v kept verdict in
-    let T : Kind → Type 0 = λ k. IsTrueVerdict m c k in
-    let A : Kind → Type 0 = λ k. IsCounted m c k (splits_found v.found) (leaves_found v.found) in
+    let T : Verdict → Type 0 = λ k. IsTrueVerdict m c k in
+    let A : Verdict → Type 0 = λ k. IsCounted m c k (splits_found v.found) (leaves_found v.found) in
     let B : ℕ → Type 0 = λ k. IsCounted m c (plain_verdict r.verdict) k (leaves_found v.found) in
     let D : ℕ → Type 0 = λ k. IsCounted m c (plain_verdict r.verdict) r.splits k in record {
       is_true = subst T (sym report.verdict) (true_kind v.version m c (verdict_text v) v.found certified);
@@ -64,7 +64,7 @@ summary_of n m c v r one kept verdict report =
     }
 
 -- the verdict on the ring's front is reported
-pub ring_reported : (n : ℕ) (front : Front) → SaysFront CaseOf ring_model (ring_test n) front → (v : Verdict) → v.version ≡ One
+pub ring_reported : (n : ℕ) (front : Front) → SaysFront CaseOf ring_model (ring_test n) front → (v : FoundVerdict) → v.version ≡ One
     → ((m : WrittenModel) (c : Case) → IsFrontOf m c front → IsVerdict m c v)
     → (r : Report) → IsReport n v r → IsRingReport n r
 ring_reported n front say v one each r report = record {

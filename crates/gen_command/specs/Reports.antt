@@ -1,11 +1,11 @@
 -- The code's report, what it is of, and its text.
 use Rattle.std.specs.Prelude.{◌≡◌, ℕ, List, length}
 use Rattle.cert_check.specs.Verdicts.{plain_verdict}
-use Rattle.verdicts.specs.{declared.verdict.Verdict.{Verdict}, Verdicts.{kind_of_found}, StepCounts.{splits_found, leaves_found}}
+use Rattle.verdicts.specs.{declared.verdict.FoundVerdict.{FoundVerdict}, Verdicts.{kind_of_found}, StepCounts.{splits_found, leaves_found}}
 use Rattle.gen_command.specs.{declared.report.Report.{Report}, Texts.{ring_text}}
 
 -- the report of what was found of the ring of n cores
-pub record IsReport (n : ℕ) (v : Verdict) (r : Report) : Type 0 where
+pub record IsReport (n : ℕ) (v : FoundVerdict) (r : Report) : Type 0 where
   pub cores : r.cores ≡ n
   pub verdict : plain_verdict r.verdict ≡ kind_of_found v.found
   pub nodes : r.nodes ≡ length v.front.numbering

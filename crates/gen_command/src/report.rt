@@ -3,16 +3,16 @@ ghost use Rattle.pc_common.specs.Room.{Puts};
 ghost use Rattle.pc_common.specs.Writes.{Writes};
 ghost use Rattle.gen_command.specs.Reports.{IsReport, report_text};
 
-use cert_check::{Verdict as Kind, verdict_line};
+use cert_check::{Verdict, verdict_line};
 use itoa::Buffer;
 use pc_common::{Failed, Room, Sink};
-use verdicts::{Verdict, count_found, verdict_kind};
+use verdicts::{FoundVerdict, count_found, verdict_kind};
 
 /// What `gen` reports: the number of cores, the verdict, and how many nodes, splits and leaves there are.
 #[derive(Clone, Copy)]
 pub struct Report {
     pub cores: u8,
-    pub verdict: Kind,
+    pub verdict: Verdict,
     /// How many nodes the ground tree has.
     pub nodes: u32,
     /// How many steps of the refutation split a branch, 0 where there is a graph.
@@ -22,7 +22,7 @@ pub struct Report {
 }
 
 /// The report of what was found of the ring of `n` cores.
-pub(crate) fn report_of(n: u8, verdict: &Verdict) -> Report
+pub(crate) fn report_of(n: u8, verdict: &FoundVerdict) -> Report
     ensures { IsReport n verdict.now result }
 {
     let counts = count_found(&verdict.found);

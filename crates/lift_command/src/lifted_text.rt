@@ -14,7 +14,7 @@ ghost use Rattle.lift_command.specs.WrittenLines.{line_text, HasSmallCore};
 
 use super::lines::{put_line, show_line};
 use super::words::put;
-use lifter::{Steps, lift_steps};
+use lifter::{LiftedSteps, lift_steps};
 use pc_case::{Case, Expect, OpId};
 use pc_common::Memory;
 use pc_ground::Front;
@@ -43,7 +43,7 @@ fn put_header(text: &mut Vec<u8>, case: &Case) -> Result<(), Memory>
 }
 
 /// Puts a line for each step.
-fn put_lines(text: &mut Vec<u8>, case: &Case, steps: &Steps) -> Result<(), Memory>
+fn put_lines(text: &mut Vec<u8>, case: &Case, steps: &LiftedSteps) -> Result<(), Memory>
     requires { All (HasValue case.now.ops) steps.now }
     ensures { OnOk result (text.new.items ≡ text.old.items ++ flat_map (line_text case.now.ops) steps.now) }
 {
@@ -54,7 +54,7 @@ fn put_lines(text: &mut Vec<u8>, case: &Case, steps: &Steps) -> Result<(), Memor
 }
 
 /// Does nothing. It shows that the numbers of all steps are of 64 bits.
-fn show_steps(steps: &Steps)
+fn show_steps(steps: &LiftedSteps)
     ensures numbers { All (λ s. All IsSmall (numbers_of s)) steps.now }
     ensures cores { All HasSmallCore steps.now }
 {

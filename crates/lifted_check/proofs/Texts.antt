@@ -1,6 +1,6 @@
 -- What may stand next in a lifted text.
 use Rattle.std.{proofs.Common.{◌≡◌, ◌⊎◌, inl, inr, ℕ, Bool, true, false, List, [], ◌∷◌, ◌++◌, refl, sym, ◌∙◌, ap, subst, append_assoc}, specs.Prelude.{codes}}
-use Rattle.lifted_facts.specs.{PlainFacts.{Branch, root}, declared.open_branches.Branches.{Branches}, Opens.{opens_at}}
+use Rattle.lifted_facts.specs.{PlainFacts.{Branch, root}, declared.open_branches.FactBranches.{FactBranches}, Opens.{opens_at}}
 use Rattle.lifted_check.specs.LiftedTexts.{Question, header, second_line, LineAdvances, LinesRun, IsPartialText, IsLiftedText, BeginsLifted}
 use Rattle.lifted_check.specs.{Stages.{IsAsked, StandsAt, AreStepsSoFar, HasGone, HasSteppedOn, is_end}, declared.stage.Stage.{Stage}}
 use Rattle.lifted_check.{specs.declared.stage.Stage.TheVariants.{Start, First, Second, Steps, Ended}, proofs.OneStep.{no_end_step}}
@@ -142,7 +142,7 @@ no_more q lines line w begins = go b.is
             (let P : List (List ℕ) → Type 0 = λ ls. LinesRun q.case ls (root q.axioms ∷ []) [] in ended rest [] (subst P same all))
 
 -- a step line, taken where the branches are
-pub steps_gone : (q : Question) → IsAsked q → (old new : Branches) (lines : List (List ℕ)) (line : List ℕ)
+pub steps_gone : (q : Question) → IsAsked q → (old new : FactBranches) (lines : List (List ℕ)) (line : List ℕ)
     → AreStepsSoFar q old lines → (line ≡ codes "end" → ⊥)
     → new.case.now ≡ old.case.now → (good : Bool) → HasSteppedOn q.case line (opens_at old) (opens_at new) good → HasGone q lines line (Steps new) good
 steps_gone q kept old new lines line so_far other same true a = record {
@@ -158,7 +158,7 @@ steps_gone q kept old new lines line so_far other same false none =
     go (a_step next a) = none next a
     go (the_end is closed) = other is
 
-pub steps_ended : (q : Question) (o : Branches) (lines : List (List ℕ)) → AreStepsSoFar q o lines → (opens_at o) ≡ []
+pub steps_ended : (q : Question) (o : FactBranches) (lines : List (List ℕ)) → AreStepsSoFar q o lines → (opens_at o) ≡ []
     → IsLiftedText q (lines ++ codes "end" ∷ [])
 steps_ended q o lines so_far closed = record {
   steps = so_far.steps;
@@ -166,7 +166,7 @@ steps_ended q o lines so_far closed = record {
   run = (let P : List Branch → Type 0 = λ bs. LinesRun q.case so_far.steps (root q.axioms ∷ []) bs in subst P closed so_far.run);
 }
 
-pub end_stuck : (q : Question) → IsAsked q → (o : Branches) (lines : List (List ℕ)) → AreStepsSoFar q o lines
+pub end_stuck : (q : Question) → IsAsked q → (o : FactBranches) (lines : List (List ℕ)) → AreStepsSoFar q o lines
     → ((opens_at o) ≡ [] → ⊥) → BeginsLifted q (lines ++ codes "end" ∷ []) → ⊥
 end_stuck q kept o lines so_far «open» begins = go (steps_next q kept lines so_far.steps (opens_at o) (codes "end") so_far.are so_far.run begins)
   where

@@ -2,12 +2,12 @@
 use Rattle.std.specs.Prelude.{◌≡◌, ℕ, List, [], ◌∷◌, ◌++◌, Bool, true, false, Option, Some, None, codes}
 use Rattle.pc_common.specs.Case.{Case}
 use Rattle.pc_case.specs.MicroOps.{AreMicroOps}
-use Rattle.lifted_facts.specs.{PlainFacts.{Branch, root}, declared.open_branches.Branches.{Branches}, Opens.{opens_at}}
+use Rattle.lifted_facts.specs.{PlainFacts.{Branch, root}, declared.open_branches.FactBranches.{FactBranches}, Opens.{opens_at}}
 use Rattle.lifted_check.specs.{LiftedTexts.{Question, header, second_line, LineAdvances, LinesRun, IsLiftedText, BeginsLifted}, declared.stage.Stage.{Stage}}
 use Rattle.lifted_check.specs.declared.stage.Stage.TheVariants.{Start, First, Second, Steps, Ended}
 
 -- step lines after a header, which leave these branches open
-pub record AreStepsSoFar (q : Question) (o : Branches) (lines : List (List ℕ)) : Type 0 where
+pub record AreStepsSoFar (q : Question) (o : FactBranches) (lines : List (List ℕ)) : Type 0 where
   pub steps : List (List ℕ)
   pub case : o.case.now ≡ q.case
   pub are : lines ≡ header q ++ steps

@@ -16,7 +16,7 @@ use super::stage::Stage;
 use super::step::step_of;
 use super::value::read_instance;
 use super::words::first_word;
-use lifted_facts::{Branches, Step, Way};
+use lifted_facts::{FactBranches, FactStep, Way};
 use pc_case::Case;
 use pc_common::Memory;
 use pc_syntax::Closed;
@@ -32,14 +32,14 @@ fn read_keyword(line: &[u8]) -> Option<(Keyword, &[u8])>
 }
 
 /// Takes the line of an instantiation, of which this stands after its keyword.
-fn take_instance(case: &Case, branches: &mut Branches<'_>, rest: &[u8]) -> Result<bool, Memory>
+fn take_instance(case: &Case, branches: &mut FactBranches<'_>, rest: &[u8]) -> Result<bool, Memory>
     ensures case { branches.new.case.now ≡ branches.old.case.now }
     ensures stepped { IfOk result (λ good. (line : List ℕ) → IsCase case.now → branches.old.case.now ≡ case.now
         → words line ≡ keyword_text InstWord ∷ words rest.now
         → HasSteppedOn case.now line (opens_at branches.old) (opens_at branches.new) good) }
 {
     match read_instance(case, rest) {
-        Some((number, value)) => branches.take(Step::Derive(Way::Inst(value), number)),
+        Some((number, value)) => branches.take(FactStep::Derive(Way::Inst(value), number)),
         None => Ok(false),
     }
 }
@@ -47,7 +47,7 @@ fn take_instance(case: &Case, branches: &mut Branches<'_>, rest: &[u8]) -> Resul
 /// Takes the line of a step without a value, of which this stands after its keyword.
 fn take_numbers(
     row: &mut Vec<u64>,
-    branches: &mut Branches<'_>,
+    branches: &mut FactBranches<'_>,
     keyword: Keyword,
     rest: &[u8],
 ) -> Result<bool, Memory>
@@ -72,7 +72,7 @@ fn take_numbers(
 pub(crate) fn take_line(
     case: &Case,
     row: &mut Vec<u64>,
-    branches: &mut Branches<'_>,
+    branches: &mut FactBranches<'_>,
     line: &[u8],
 ) -> Result<bool, Memory>
     ensures case { branches.new.case.now ≡ branches.old.case.now }
@@ -124,11 +124,11 @@ fn after_second<'a>(
     if !is_third(line) {
         return Ok(None);
     }
-    Ok(Some(Stage::Steps(Branches::new(alloc, case, axioms)?)))
+    Ok(Some(Stage::Steps(FactBranches::new(alloc, case, axioms)?)))
 }
 
 /// The stage after the last line, where no branch may be open.
-fn end_steps<'a>(branches: &Branches<'_>) -> Option<Stage<'a>>
+fn end_steps<'a>(branches: &FactBranches<'_>) -> Option<Stage<'a>>
     ensures { (q : Question) (lines : List (List ℕ)) → IsAsked q → AreStepsSoFar q branches.now lines
         → GoesTo q lines (codes "end") result }
 {

@@ -1,7 +1,7 @@
 ghost use Rattle.std.specs.Prelude.{◌≡◌};
 ghost use Rattle.lifted_check.specs.Stages.{is_end as is_end_of};
 
-use lifted_facts::Branches;
+use lifted_facts::FactBranches;
 
 /// How far a lifted text was read.
 pub(crate) enum Stage<'a> {
@@ -12,7 +12,7 @@ pub(crate) enum Stage<'a> {
     /// The first two lines.
     Second,
     /// The three lines of the header, and steps that leave these branches open.
-    Steps(Branches<'a>),
+    Steps(FactBranches<'a>),
     /// A whole text.
     Ended,
 }

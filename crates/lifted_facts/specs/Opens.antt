@@ -1,6 +1,6 @@
 -- The open branches of the code.
 use Rattle.std.specs.Prelude.{List, reverse}
-use Rattle.lifted_facts.specs.{declared.open_branches.Branches.{Branches}, PlainFacts.{Branch}, OpenBranches.{opens_of}}
+use Rattle.lifted_facts.specs.{declared.open_branches.FactBranches.{FactBranches}, PlainFacts.{Branch}, OpenBranches.{opens_of}}
 
-abbrev pub opens_at : Branches → List Branch
+abbrev pub opens_at : FactBranches → List Branch
 opens_at b = opens_of b.is_open b.facts.items (reverse b.later.items)

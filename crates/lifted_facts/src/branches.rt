@@ -9,9 +9,9 @@ ghost use Rattle.lifted_facts.specs.Opens.{opens_at};
 use super::fact::Fact;
 use super::leaves::closes;
 use super::named::{part_at, sides_at};
-use super::open_branches::Branches;
+use super::open_branches::FactBranches;
 use super::parts::said_of;
-use super::step::{Leaf, Step};
+use super::step::{FactLeaf, FactStep};
 use super::waiting::Waiting;
 use super::way::Way;
 use pc_case::Case;
@@ -32,13 +32,17 @@ fn axiom_facts<'a>(alloc: Global, axioms: &'a [Closed]) -> Result<Vec<Fact<'a>>,
     Ok(facts)
 }
 
-impl<'a> Branches<'a> {
+impl<'a> FactBranches<'a> {
     /// The one branch of no step, whose facts are the axioms.
-    pub fn new(alloc: Global, case: &'a Case, axioms: &'a [Closed]) -> Result<Branches<'a>, Memory>
+    pub fn new(
+        alloc: Global,
+        case: &'a Case,
+        axioms: &'a [Closed],
+    ) -> Result<FactBranches<'a>, Memory>
         ensures case { IfOk result (λ branches. branches.case.now ≡ case.now) }
         ensures opens { IfOk result (λ branches. opens_at branches ≡ root (plain_axioms axioms.now) ∷ []) }
     {
-        Ok(Branches {
+        Ok(FactBranches {
             case,
             facts: axiom_facts(alloc, axioms)?,
             later: Vec::new(alloc),
@@ -48,7 +52,7 @@ impl<'a> Branches<'a> {
 
     /// Takes a step at the first open branch. False where no branch is open, or where the step's condition does not
     /// hold. After false, or where memory is refused, nothing is said of the branches.
-    pub fn take(&mut self, step: Step<'_>) -> Result<bool, Memory>
+    pub fn take(&mut self, step: FactStep<'_>) -> Result<bool, Memory>
         ensures case { self.new.case.now ≡ self.old.case.now }
         ensures advanced { IfOk result (HasAdvanced self.old.case.now (plain_step step.entry) (opens_at self.old)
             (opens_at self.new)) }
@@ -57,9 +61,9 @@ impl<'a> Branches<'a> {
             return Ok(false);
         }
         match step {
-            Step::Derive(way, number) => self.derive(way, number),
-            Step::Split(number) => self.split(number),
-            Step::Close(leaf) => self.close(leaf),
+            FactStep::Derive(way, number) => self.derive(way, number),
+            FactStep::Split(number) => self.split(number),
+            FactStep::Close(leaf) => self.close(leaf),
         }
     }
 
@@ -107,7 +111,7 @@ impl<'a> Branches<'a> {
     }
 
     /// Closes the open branch by a leaf, so that the next one that waits is first.
-    fn close(&mut self, leaf: Leaf<'_>) -> Result<bool, Memory>
+    fn close(&mut self, leaf: FactLeaf<'_>) -> Result<bool, Memory>
         requires { self.old.is_open ≡ true }
         ensures case { self.new.case.now ≡ self.old.case.now }
         ensures advanced { IfOk result (HasAdvanced self.old.case.now (close_step (plain_leaf leaf.entry))

@@ -8,7 +8,7 @@ ghost use Rattle.lifted_facts.specs.Steps.{plain_leaf};
 use super::fact::Fact;
 use super::falsity::is_false;
 use super::named::fact_at;
-use super::step::Leaf;
+use super::step::FactLeaf;
 use pc_case::Case;
 use pc_ground::NodeKey;
 
@@ -158,14 +158,14 @@ fn is_falsity(case: &Case, facts: &[Fact<'_>], number: u64) -> bool
 }
 
 /// Whether the leaf closes the branch of these facts. Takes no memory.
-pub(crate) fn closes(case: &Case, facts: &[Fact<'_>], leaf: Leaf<'_>) -> bool
+pub(crate) fn closes(case: &Case, facts: &[Fact<'_>], leaf: FactLeaf<'_>) -> bool
     requires { All (IsProper case.now) facts.now }
     ensures { IsTrue result ↔ Closes case.now (map plain_fact facts.now) (plain_leaf leaf.entry) }
 {
     match leaf {
-        Leaf::False(number) => is_falsity(case, facts, number),
-        Leaf::Cycle(first, more) => is_cycle(facts, first, more),
-        Leaf::Path(first, more, denial) => is_path(facts, first, more, denial),
-        Leaf::Absent(denial, number) => is_absent(facts, denial, number),
+        FactLeaf::False(number) => is_falsity(case, facts, number),
+        FactLeaf::Cycle(first, more) => is_cycle(facts, first, more),
+        FactLeaf::Path(first, more, denial) => is_path(facts, first, more, denial),
+        FactLeaf::Absent(denial, number) => is_absent(facts, denial, number),
     }
 }

@@ -8,7 +8,7 @@ use pc_case::Case;
 /// The branches that the steps of a lifted refutation so far leave open.
 ///
 /// It takes memory for the facts of the first open branch, and for one fact of each other.
-pub struct Branches<'a> {
+pub struct FactBranches<'a> {
     pub(crate) case: &'a Case,
     /// What is known on the first branch.
     pub(crate) facts: Vec<Fact<'a>>,
@@ -19,9 +19,9 @@ pub struct Branches<'a> {
 }
 
 // By hand: docs/DECISIONS.md, "Drops are written by hand".
-impl Drop for Branches<'_> {
+impl Drop for FactBranches<'_> {
     fn drop(self) {
-        let Branches {
+        let FactBranches {
             case: _,
             facts: _,
             later: _,

@@ -2,7 +2,7 @@ use super::way::Way;
 
 /// What closes a branch. Its facts are named by their numbers, from 0.
 #[derive(Clone, Copy)]
-pub enum Leaf<'a> {
+pub enum FactLeaf<'a> {
     /// The fact holds in no world.
     False(u64),
     /// The edges, of which the first stands apart, are joined and end where they begin.
@@ -16,10 +16,10 @@ pub enum Leaf<'a> {
 
 /// A step of a lifted refutation, at the first open branch.
 #[derive(Clone, Copy)]
-pub enum Step<'a> {
+pub enum FactStep<'a> {
     /// Adds the part of a fact that is named so.
     Derive(Way, u64),
     /// Puts two branches in the place of one, each with one side of the fact more.
     Split(u64),
-    Close(Leaf<'a>),
+    Close(FactLeaf<'a>),
 }

@@ -10,7 +10,7 @@ use Rattle.pc_syntax.specs.IsClosed.{IsClosed, IsBound, FitsCore, FitsNode, FitN
 use Rattle.pc_ground.specs.Unfolded.{node_said, edge_said}
 use Rattle.static_preds.{specs.{Slots.{AreInRange}, Values.{meanings, sort_bound, scope_of}}, proofs.Terms.{node_named}}
 use Rattle.lifted_facts.specs.PlainFacts.{said}
-use Rattle.lifter.specs.{Trees.{signed_tree, said_tree, joined_trees, node_tree, edge_tree, fact_tree}, declared.kind.Kind.TheVariants.{Open}}
+use Rattle.lifter.specs.{Trees.{signed_tree, said_tree, joined_trees, node_tree, edge_tree, fact_tree}, declared.kind.FactKind.TheVariants.{Open}}
 use Rattle.lifter.{specs.Kinds.{kind_of, kind_over}, proofs.{TreeLaws.{nodes_tree, edges_tree}, KindLaws.{kind_of_members}}}
 
 -- a slot of this sort

@@ -4,7 +4,7 @@ use Rattle.pc_common.specs.Case.{Case}
 use Rattle.lifted_facts.specs.declared.{way.Way.{Way}, fact.Fact.{Fact, TheVariants.{Said, Node as NodeFact, Edge as EdgeFact}}}
 use Rattle.lifted_facts.specs.{PlainFacts.{PlainFact, plain_fact, plain_part}, Parts.{part_of, sides, is_false}}
 use Rattle.lifted_facts.specs.Lifted.{LiftedStep, derive, split, close, falsity}
-use Rattle.lifter.specs.{Trees.{fact_tree, joined_trees}, PartLists.{parts}, declared.kind.Kind.{Kind, TheVariants.{True, False, Open}}}
+use Rattle.lifter.specs.{Trees.{fact_tree, joined_trees}, PartLists.{parts}, declared.kind.FactKind.{FactKind, TheVariants.{True, False, Open}}}
 use Rattle.lifter.{specs.{Kinds.{kind_of, joined_kind}, Closings.{HasClosed}}, proofs.{KindLaws.{kind_joined}, SideLaws.{sides_tree, parts_tree}}}
 use Rattle.lifter.proofs.RunsMore.{last_fact, one_longer, ran_derive, ran_split, ran_close}
 
@@ -26,7 +26,7 @@ pub closed_by_part : (c : Case) (f g : PlainFact) (way : Way) (k n m : ℕ) (old
 closed_by_part c f g way k n m old one new part more is rest = λ start b opens len has r.
     rest start (b ++ g ∷ []) opens (one_longer b g n m len more) (last_fact b g n len) (ran_derive c start old one way k b g opens (f, has, part) is r)
 
-either_false : (a b : Kind) → joined_kind false a b ≡ False → (a ≡ False) × (b ≡ False)
+either_false : (a b : FactKind) → joined_kind false a b ≡ False → (a ≡ False) × (b ≡ False)
 either_false False b e = (refl, e)
 either_false True b e = cc
 either_false Open True e = cc

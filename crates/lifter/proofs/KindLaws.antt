@@ -2,7 +2,7 @@
 use Rattle.std.proofs.Common.{◌≡◌, ◌⊎◌, inl, inr, Bool, true, false, List, [], ◌∷◌, map, length, refl, ◌∙◌, ap}
 use Rattle.pc_common.{specs.World.{Node}, proofs.Elements.{In}}
 use Rattle.pc_ground.specs.{Tree.{Tree, always, never, leaf, both, either}, PlainGround.{conjoined, disjoined}}
-use Rattle.lifter.specs.{Trees.{joined_tree, joined_trees}, declared.kind.Kind.{Kind, TheVariants.{True, Open, False}}}
+use Rattle.lifter.specs.{Trees.{joined_tree, joined_trees}, declared.kind.FactKind.{FactKind, TheVariants.{True, Open, False}}}
 use Rattle.lifter.specs.Kinds.{kind_of, joined_kind, decider, neutral, kind_over}
 
 kind_conjoined : (t u : Tree Node) → kind_of (conjoined t u) ≡ joined_kind true (kind_of t) (kind_of u)
@@ -56,11 +56,11 @@ pub kind_of_more : (all : Bool) (t : Tree Node) (ts : List (Tree Node))
 kind_of_more true t ts = kind_conjoined t (joined_trees true ts)
 kind_of_more false t ts = kind_disjoined t (joined_trees false ts)
 
-pub decided_first : (all : Bool) (k : Kind) → joined_kind all (decider all) k ≡ decider all
+pub decided_first : (all : Bool) (k : FactKind) → joined_kind all (decider all) k ≡ decider all
 decided_first true k = refl
 decided_first false k = refl
 
-pub decided_second : (all : Bool) (k : Kind) → joined_kind all k (decider all) ≡ decider all
+pub decided_second : (all : Bool) (k : FactKind) → joined_kind all k (decider all) ≡ decider all
 decided_second true True = refl
 decided_second true False = refl
 decided_second true Open = refl
@@ -68,11 +68,11 @@ decided_second false True = refl
 decided_second false False = refl
 decided_second false Open = refl
 
-pub neutral_first : (all : Bool) (k : Kind) → joined_kind all (neutral all) k ≡ k
+pub neutral_first : (all : Bool) (k : FactKind) → joined_kind all (neutral all) k ≡ k
 neutral_first true k = refl
 neutral_first false k = refl
 
-pub joined_assoc : (all : Bool) (a b k : Kind) → joined_kind all (joined_kind all a b) k ≡ joined_kind all a (joined_kind all b k)
+pub joined_assoc : (all : Bool) (a b k : FactKind) → joined_kind all (joined_kind all a b) k ≡ joined_kind all a (joined_kind all b k)
 joined_assoc true True b k = refl
 joined_assoc true False b k = refl
 joined_assoc true Open True k = refl
@@ -88,7 +88,7 @@ joined_assoc false Open Open True = refl
 joined_assoc false Open Open False = refl
 joined_assoc false Open Open Open = refl
 
-open_more : (all : Bool) (a k : Kind) → a ≡ Open → (k ≡ neutral all) ⊎ (k ≡ Open) → joined_kind all a k ≡ Open
+open_more : (all : Bool) (a k : FactKind) → a ≡ Open → (k ≡ neutral all) ⊎ (k ≡ Open) → joined_kind all a k ≡ Open
 open_more true a k e (inl h) = ap (λ x. joined_kind true x k) e ∙ ap (joined_kind true Open) h
 open_more false a k e (inl h) = ap (λ x. joined_kind false x k) e ∙ ap (joined_kind false Open) h
 open_more true a k e (inr h) = ap (λ x. joined_kind true x k) e ∙ ap (joined_kind true Open) h

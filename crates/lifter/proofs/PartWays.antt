@@ -9,7 +9,7 @@ use Rattle.pc_ground.specs.Tree.{Tree, always, never, leaf, both, either}
 use Rattle.static_preds.{proofs.Walked.{drop_at}, specs.Values.{meanings}}
 use Rattle.lifted_facts.specs.declared.{fact.{Said.{Said as SaidFact}, Fact.{Fact, TheVariants.{Said}}}, way.Way.{Way}}
 use Rattle.lifted_facts.specs.{PlainFacts.{PlainFact, said, one_node, one_edge, plain_fact, plain_part}, Parts.{said_inside, part_of}}
-use Rattle.lifter.specs.{Trees.{joined_tree, joined_trees}, declared.kind.Kind.{Kind, TheVariants.{True, False, Open}}, Kinds.{kind_of, joined_kind}}
+use Rattle.lifter.specs.{Trees.{joined_tree, joined_trees}, declared.kind.FactKind.{FactKind, TheVariants.{True, False, Open}}, Kinds.{kind_of, joined_kind}}
 use Rattle.lifter.{specs.{PartLists.{parts}, WayTable.{way_of}}, proofs.KindLaws.{kind_of_more}}
 
 module _ (c : Case) (slots : List Meaning) where
@@ -60,34 +60,34 @@ is_never (both a b) e = cc
 is_never (either a b) e = cc
 
 -- And that is False for no first part
-later_false : (a b : Kind) → joined_kind true a b ≡ False → (a ≡ False → ⊥) → b ≡ False
+later_false : (a b : FactKind) → joined_kind true a b ≡ False → (a ≡ False → ⊥) → b ≡ False
 later_false True b e no_first = e
 later_false False b e no_first = absurd (no_first refl)
 later_false Open True e no_first = cc
 later_false Open False e no_first = refl
 later_false Open Open e no_first = cc
 
-open_rest : (a b : Kind) → (a ≡ False → ⊥) → b ≡ Open → joined_kind true a b ≡ Open
+open_rest : (a b : FactKind) → (a ≡ False → ⊥) → b ≡ Open → joined_kind true a b ≡ Open
 open_rest True b no_first e = e
 open_rest False b no_first e = absurd (no_first refl)
 open_rest Open b no_first e = ap (joined_kind true Open) e
 
-pub both_open : (a b : Kind) → joined_kind true a b ≡ Open → (a ≡ False → ⊥) × (b ≡ False → ⊥)
+pub both_open : (a b : FactKind) → joined_kind true a b ≡ Open → (a ≡ False → ⊥) × (b ≡ False → ⊥)
 both_open True b e = (λ h. cc, λ h. cc)
 both_open False b e = cc
 both_open Open True e = (λ h. cc, λ h. cc)
 both_open Open False e = cc
 both_open Open Open e = (λ h. cc, λ h. cc)
 
-pub open_not_false : (k : Kind) → k ≡ Open → k ≡ False → ⊥
+pub open_not_false : (k : FactKind) → k ≡ Open → k ≡ False → ⊥
 open_not_false k e f = (let clash : Open ≡ False = sym e ∙ f in cc)
 
-pub only_true : (k : Kind) → (k ≡ False → ⊥) → (k ≡ Open → ⊥) → k ≡ True
+pub only_true : (k : FactKind) → (k ≡ False → ⊥) → (k ≡ Open → ⊥) → k ≡ True
 only_true True e f = refl
 only_true False e f = absurd (e refl)
 only_true Open e f = absurd (f refl)
 
-open_then_true : (k : Kind) → k ≡ Open → joined_kind true k True ≡ Open
+open_then_true : (k : FactKind) → k ≡ Open → joined_kind true k True ≡ Open
 open_then_true k e = ap (λ x. joined_kind true x True) e
 
 module _ {X : Type 0} (tree : X → Tree Node) where
@@ -116,7 +116,7 @@ module _ {X : Type 0} (tree : X → Tree Node) where
   none_false (y ∷ ys) (suc k) x there fine e = none_false ys k x there
       (λ h. fine (kind_of_more true (tree y) (map tree ys) ∙ ap (joined_kind true (kind_of (tree y))) h ∙ last (kind_of (tree y)))) e
     where
-      last : (k : Kind) → joined_kind true k False ≡ False
+      last : (k : FactKind) → joined_kind true k False ≡ False
       last True = refl
       last False = refl
       last Open = refl

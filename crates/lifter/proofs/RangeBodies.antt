@@ -3,7 +3,7 @@ use Rattle.std.proofs.Common.{◌≡◌, ◌<◌, ℕ, ◌+◌, Bool, List, [], 
 use Rattle.pc_common.specs.Case.{Case}
 use Rattle.pc_syntax.specs.{declared.{term.Sort.{Sort}, bound.Bound.{Bound}}, Truth.{Meaning, range_of}, Closed.{PlainClosed}}
 use Rattle.static_preds.{specs.{Slots.{bound_at}, Values.{meanings}}, proofs.Ranges.{next_value, meanings_inside}}
-use Rattle.lifter.specs.{Trees.{said_tree, joined_trees, bodies}, declared.kind.Kind.{Kind}, Kinds.{kind_of, joined_kind, decider}}
+use Rattle.lifter.specs.{Trees.{said_tree, joined_trees, bodies}, declared.kind.FactKind.{FactKind}, Kinds.{kind_of, joined_kind, decider}}
 use Rattle.lifter.proofs.KindLaws.{kind_of_more, decided_first, decided_second, joined_assoc}
 
 -- the next body and those after it
@@ -25,11 +25,11 @@ kind_next all c plus slots inside sort p k v within value bound =
     ∙ kind_of_more all (said_tree c plus p (meanings inside)) (bodies c plus sort p (meanings slots) (k + 1))
 
 -- one more member, which decides, and one more that may not
-pub walked_decided : (all : Bool) (kind member here rest whole : Kind) → member ≡ decider all → here ≡ joined_kind all member rest
+pub walked_decided : (all : Bool) (kind member here rest whole : FactKind) → member ≡ decider all → here ≡ joined_kind all member rest
     → joined_kind all kind here ≡ whole → member ≡ whole
 walked_decided all kind member here rest whole d e w =
     d ∙ sym (decided_second all kind) ∙ ap (joined_kind all kind) (sym (e ∙ ap (λ m. joined_kind all m rest) d ∙ decided_first all rest)) ∙ w
 
-pub walked_on : (all : Bool) (kind member here rest whole : Kind) → here ≡ joined_kind all member rest → joined_kind all kind here ≡ whole
+pub walked_on : (all : Bool) (kind member here rest whole : FactKind) → here ≡ joined_kind all member rest → joined_kind all kind here ≡ whole
     → joined_kind all (joined_kind all kind member) rest ≡ whole
 walked_on all kind member here rest whole e w = joined_assoc all kind member rest ∙ ap (joined_kind all kind) (sym e) ∙ w

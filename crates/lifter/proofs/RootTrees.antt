@@ -8,7 +8,7 @@ use Rattle.pc_ground.specs.{Keys.{key_node, row_node, renamed_kind}, Tree.{Tree,
 use Rattle.pc_ground.specs.{Unfolded.{closed_unfolded}, GroundTree.{closed_ground_tree}, Stages.{plain_axioms}, Refutes.{asserted, all_signed, IsRefutation}}
 use Rattle.pc_ground.proofs.{FlatRows.{root_of, part_whole, part_row, renamed_false}, Refuted.{refutation_sound}}
 use Rattle.lifted_facts.specs.PlainFacts.{said, Branch, root}
-use Rattle.lifter.specs.{Trees.{fact_tree, said_tree, joined_trees}, declared.{kind.Kind.TheVariants.{False as NeverKind, Open}, state.State.{State}}}
+use Rattle.lifter.specs.{Trees.{fact_tree, said_tree, joined_trees}, declared.{kind.FactKind.TheVariants.{False as NeverKind, Open}, state.State.{State}}}
 use Rattle.lifter.specs.{Kinds.{kind_of}, KnownFacts.{IsPart, TellsAll}, States.{branch_of, IsGood, IsGoodState, no_more, IsMatchedState}}
 use Rattle.lifter.{specs.{PartLists.{facts_from}, Unfoldings.{HasUnfolded}, Progress.{HasStepsLeft}}, proofs.TreeLaws.{over_all, start_tree}}
 use Rattle.lifter.proofs.{CoveredBranches.{covered_all}, KnownLaws.{good_same, matched_same}}

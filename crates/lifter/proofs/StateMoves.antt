@@ -5,7 +5,7 @@ use Rattle.pc_common.{specs.{Case.{Case}, World.{Node}}, proofs.Places.{slice_ge
 use Rattle.pc_ground.specs.declared.row.Row.{Row}
 use Rattle.lifted_facts.specs.{declared.{fact.Fact.{Fact}, way.Way.{Way}}, PlainFacts.{PlainFact, Branch, plain_fact, IsProper}}
 use Rattle.lifted_facts.specs.Lifted.{LiftedStep, derive, split, HasFact, HasPart, HasSides, Runs}
-use Rattle.lifter.specs.{Trees.{fact_tree}, declared.{kind.Kind.TheVariants.{False}, state.{Task.{Task, TheVariants.{Close}}, Later.{Later}, State.{State}}}}
+use Rattle.lifter.specs.{Trees.{fact_tree}, declared.{kind.FactKind.TheVariants.{False}, state.{Task.{Task, TheVariants.{Close}}, Later.{Later}, State.{State}}}}
 use Rattle.lifter.specs.{Kinds.{kind_of}, Closings.{HasClosed}, KnownFacts.{PlainKey, Entry, IsKnown, AreKnown, HasMarked, HaveMore}}
 use Rattle.lifter.specs.States.{branch_of, waiting, IsDue, AreKept, AreLater, IsGood, IsGoodState, AreMatched, due, Moves, HasGained}
 use Rattle.lifter.proofs.RunsMore.{last_fact, one_longer, ran_derive, ran_split}

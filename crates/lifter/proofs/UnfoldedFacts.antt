@@ -5,7 +5,7 @@ use Rattle.pc_ground.specs.{Keys.{literal_node}, declared.{node_key.NodeKey.{Nod
 use Rattle.pc_ground.specs.declared.{literal.Literal.TheVariants.{Node as a_node, Edge as an_edge, NoNode as not_node, NoEdge as not_edge}, row.Row.{Row}}
 use Rattle.pc_ground.{specs.{Tree.{Tree, never, leaf}, PlainGround.{disjoined}, Refutes.{asserted}}, proofs.NormalForms.{disjoined_never}}
 use Rattle.lifted_facts.specs.{PlainFacts.{PlainFact, Branch}, Parts.{sides, is_false}, Lifted.{HasFact}}
-use Rattle.lifter.specs.{Trees.{fact_tree}, declared.{kind.Kind.{Kind, TheVariants.{True, False, Open}}, state.State.{State}}, Kinds.{kind_of, joined_kind}}
+use Rattle.lifter.specs.{Trees.{fact_tree}, declared.{kind.FactKind.{FactKind, TheVariants.{True, False, Open}}, state.State.{State}}, Kinds.{kind_of, joined_kind}}
 use Rattle.lifter.specs.{PartLists.{IsSaid, parts_from}, KnownFacts.{at_position, HasKey, IsPart, IsOr, TellsLiteral, TellsAll}, States.{branch_of, Moves}}
 use Rattle.lifter.{specs.Unfoldings.{fact_of, HasUnfolded}, proofs.{KindLaws.{kind_joined}, SideLaws.{sides_tree, parts_tree, false_tree}, PartWays.{is_never}}}
 use Rattle.lifter.proofs.{StateMoves.{moves_then}, Tellings.{tells_leaf, tells_either}, TakenParts.{open_either}}
@@ -17,12 +17,12 @@ literal_tree c (not_node a) = refl
 literal_tree c (not_edge a b) = refl
 
 -- Or that is no constant, where the first side is one, and where only the second one is
-lost_one : (a b : Kind) → joined_kind false a b ≡ Open → (a ≡ Open → ⊥) → (a ≡ False) × (b ≡ Open)
+lost_one : (a b : FactKind) → joined_kind false a b ≡ Open → (a ≡ Open → ⊥) → (a ≡ False) × (b ≡ Open)
 lost_one True b e other = cc
 lost_one False b e other = (refl, e)
 lost_one Open b e other = absurd (other refl)
 
-lost_two : (a b : Kind) → a ≡ Open → joined_kind false a b ≡ Open → (b ≡ Open → ⊥) → b ≡ False
+lost_two : (a b : FactKind) → a ≡ Open → joined_kind false a b ≡ Open → (b ≡ Open → ⊥) → b ≡ False
 lost_two True b a e other = cc
 lost_two False b a e other = cc
 lost_two Open True a e other = cc

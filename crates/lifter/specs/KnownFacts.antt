@@ -5,7 +5,7 @@ use Rattle.pc_ground.specs.{Keys.{key_node}, declared.literal.Literal.{Literal}}
 use Rattle.pc_ground.specs.declared.{literal.Literal.TheVariants.{Node as a_node, Edge as an_edge, NoNode as not_node, NoEdge as not_edge}, row.Row.{Row}}
 use Rattle.pc_ground.specs.{Tree.{Tree, always, never, leaf, both, either}, Rows.{rows_of}}
 use Rattle.lifted_facts.specs.{PlainFacts.{PlainFact, one_node, Branch}, Parts.{sides}, Lifted.{HasFact, IsEdge, Asserts}}
-use Rattle.lifter.specs.{Trees.{fact_tree}, declared.{kind.Kind.TheVariants.{Open}, key.Key.{Key, TheVariants.{At, Edge, NoEdge, NoNode, Present}}}}
+use Rattle.lifter.specs.{Trees.{fact_tree}, declared.{kind.FactKind.TheVariants.{Open}, key.Key.{Key, TheVariants.{At, Edge, NoEdge, NoNode, Present}}}}
 use Rattle.lifter.specs.Kinds.{kind_of}
 
 -- what can be known

@@ -2,11 +2,11 @@ ghost use Rattle.std.specs.Prelude.{◌≡◌, ◌+◌, IfOk, OnOk};
 ghost use Rattle.lifted_facts.specs.PlainFacts.{plain_fact, IsProper};
 ghost use Rattle.lifter.specs.Trees.{fact_tree};
 ghost use Rattle.lifter.specs.Kinds.{kind_of};
-ghost use Rattle.lifter.specs.declared.kind.Kind.TheVariants.{False};
+ghost use Rattle.lifter.specs.declared.kind.FactKind.TheVariants.{False};
 ghost use Rattle.lifter.specs.Closings.{HasClosed};
 
 use super::fact_kind::false_part;
-use super::line::{Line, Steps};
+use super::line::{LiftedSteps, Line};
 use super::state::Later;
 use lifted_facts::{Fact, is_false, sides};
 use pc_case::Case;
@@ -28,7 +28,7 @@ pub(crate) fn close(
     fact: &Fact<'_>,
     number: u64,
     count: u64,
-    steps: &mut Steps,
+    steps: &mut LiftedSteps,
 ) -> Result<(), Memory>
     requires proper { IsProper case.now fact.now }
     requires kind { kind_of (fact_tree case.now (plain_fact fact.now)) ≡ False }
@@ -53,7 +53,7 @@ pub(crate) fn close(
 }
 
 /// Adds the steps that close a waiting branch by its last fact, which is False.
-pub(crate) fn close_due(case: &Case, due: &Later<'_>, steps: &mut Steps) -> Result<(), Memory>
+pub(crate) fn close_due(case: &Case, due: &Later<'_>, steps: &mut LiftedSteps) -> Result<(), Memory>
     requires proper { IsProper case.now due.now.fact }
     requires kind { kind_of (fact_tree case.now (plain_fact due.now.fact)) ≡ False }
     ensures { OnOk result

@@ -5,23 +5,23 @@ ghost use Rattle.lifted_facts.specs.Parts.{part_of};
 ghost use Rattle.lifter.specs.Trees.{fact_tree};
 ghost use Rattle.lifter.specs.Kinds.{kind_of};
 ghost use Rattle.lifter.specs.PartLists.{parts, parts_from};
-ghost use Rattle.lifter.specs.declared.kind.Kind.TheVariants.{False, Open};
+ghost use Rattle.lifter.specs.declared.kind.FactKind.TheVariants.{False, Open};
 
-use super::kind::Kind;
+use super::kind::FactKind;
 use super::listed_parts::{part_at, part_count};
 use super::said_kind::kind_of_said;
 use lifted_facts::{Fact, Way};
 use pc_case::Case;
 
 /// Which constant a fact is. Takes no memory.
-pub fn kind_of_fact(case: &Case, fact: &Fact<'_>) -> Kind
+pub fn kind_of_fact(case: &Case, fact: &Fact<'_>) -> FactKind
     requires { IsProper case.now fact.now }
     ensures { result ≡ kind_of (fact_tree case.now (plain_fact fact.now)) }
 {
     match fact {
         Fact::Said(said) => kind_of_said(case, said),
-        Fact::Node { .. } => Kind::Open,
-        Fact::Edge { .. } => Kind::Open,
+        Fact::Node { .. } => FactKind::Open,
+        Fact::Edge { .. } => FactKind::Open,
     }
 }
 
@@ -36,7 +36,7 @@ pub fn false_part<'a>(case: &Case, fact: &Fact<'a>) -> (Way, Fact<'a>)
     for k in 0..part_count(case, fact) {
         let named = part_at(case, fact, k);
         match kind_of_fact(case, &named.1) {
-            Kind::False => return named,
+            FactKind::False => return named,
             _ => {}
         }
     }
@@ -56,7 +56,7 @@ pub fn last_open(case: &Case, fact: &Fact<'_>) -> usize
         let at = count - 1 - k;
         let named = part_at(case, fact, at);
         match kind_of_fact(case, &named.1) {
-            Kind::Open => return at,
+            FactKind::Open => return at,
             _ => {}
         }
     }

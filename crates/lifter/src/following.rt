@@ -14,7 +14,7 @@ ghost use Rattle.lifter.specs.Progress.{HasStepsLeft, IsNextStep, HasTakenStep, 
 use super::closing::close_due;
 use super::key::Key;
 use super::leaves::{add_absent, add_cycle, add_path};
-use super::line::{Line, Steps};
+use super::line::{LiftedSteps, Line};
 use super::moving::copy_fact;
 use super::roots::{begin, close_axiom, unfold_axioms};
 use super::rows::right_of;
@@ -189,7 +189,7 @@ pub fn lift_steps(
     axioms: &[Closed],
     tree: &Flat,
     refutation: &Refutation,
-) -> Result<Steps, Memory>
+) -> Result<LiftedSteps, Memory>
     requires tree { tree.now ≡ rows_of (closed_ground_tree case.now (plain_axioms axioms.now)) }
     requires refuted { IsRefutation One (closed_ground_tree case.now (plain_axioms axioms.now)) refutation.now }
     ensures { IfOk result (λ steps. IsLiftedRefutation case.now (plain_axioms axioms.now) steps) }

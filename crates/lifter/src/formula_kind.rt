@@ -8,33 +8,50 @@ ghost use Rattle.static_preds.specs.Values.{meanings, scope_of};
 ghost use Rattle.lifter.specs.Trees.{signed_tree, said_tree, joined_tree, joined_trees, bodies};
 ghost use Rattle.lifter.specs.Kinds.{kind_of, kind_over};
 
-use super::kind::{Kind, decides, join_kinds, neutral};
+use super::kind::{FactKind, decides, join_kinds, neutral};
 use pc_case::Case;
 use pc_syntax::{ClosedArgs, ClosedFormula, Env, Sort};
 use static_preds::{bind_next, copy_of, holds, range_len, value_in_range, with_values};
 
 /// Which constant And, or, where not `all`, Or over so many members is, of which none is a constant.
-pub(crate) fn kind_of_count(all: bool, count: usize) -> Kind
+pub(crate) fn kind_of_count(all: bool, count: usize) -> FactKind
     ensures { result ≡ kind_over all count }
 {
-    if count == 0 { neutral(all) } else { Kind::Open }
+    if count == 0 {
+        neutral(all)
+    } else {
+        FactKind::Open
+    }
 }
 
 /// Which constant a truth value under a sign is.
-fn kind_of_truth(plus: bool, truth: bool) -> Kind
+fn kind_of_truth(plus: bool, truth: bool) -> FactKind
     ensures { result ≡ kind_of (signed_tree plus (decided truth)) }
 {
     if plus {
-        if truth { Kind::True } else { Kind::False }
+        if truth {
+            FactKind::True
+        } else {
+            FactKind::False
+        }
     } else {
-        if truth { Kind::False } else { Kind::True }
+        if truth {
+            FactKind::False
+        } else {
+            FactKind::True
+        }
     }
 }
 
 /// Which constant a formula under a sign is, where its slots stand for what `env` says. What the left side decides is
 /// not walked. Takes no memory.
 #[cycle(walk)]
-pub(crate) fn kind_of_formula(case: &Case, env: &Env, plus: bool, formula: &ClosedFormula) -> Kind
+pub(crate) fn kind_of_formula(
+    case: &Case,
+    env: &Env,
+    plus: bool,
+    formula: &ClosedFormula,
+) -> FactKind
     requires closed { IsClosed (scope_of env.now.items) (plain_closed formula.now) }
     requires range { AreInRange case.now env.now.items }
     ensures { result ≡ kind_of (said_tree case.now plus (plain_closed formula.now) (meanings env.now.items)) }
@@ -69,7 +86,7 @@ fn kind_of_two(
     left: &ClosedFormula,
     right_plus: bool,
     right: &ClosedFormula,
-) -> Kind
+) -> FactKind
     requires left_closed { IsClosed (scope_of env.now.items) (plain_closed left.now) }
     requires right_closed { IsClosed (scope_of env.now.items) (plain_closed right.now) }
     requires range { AreInRange case.now env.now.items }
@@ -95,7 +112,7 @@ pub(crate) fn kind_of_range(
     sort: Sort,
     body: &ClosedFormula,
     from: usize,
-) -> Kind
+) -> FactKind
     requires room { length env.now.items < MAX_VARIABLES }
     requires closed { IsClosed (with_sort (scope_of env.now.items) sort) (plain_closed body.now) }
     requires range { AreInRange case.now env.now.items }
@@ -123,7 +140,7 @@ fn kind_of_bound(
     plus: bool,
     args: &ClosedArgs,
     body: &ClosedFormula,
-) -> Kind
+) -> FactKind
     requires closed { IsClosed (scope_of env.now.items) (closed_bind args.now (plain_closed body.now)) }
     requires range { AreInRange case.now env.now.items }
     ensures { result

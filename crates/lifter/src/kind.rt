@@ -3,7 +3,7 @@ ghost use Rattle.lifter.specs.Kinds.{joined_kind, decider, neutral as neutral_of
 
 /// Which constant a formula is in a test.
 #[derive(Clone, Copy, Debug, PartialEq, Eq)]
-pub enum Kind {
+pub enum FactKind {
     /// It is true in each world.
     True,
     /// It is true in no world.
@@ -13,35 +13,35 @@ pub enum Kind {
 }
 
 /// And of two.
-fn both(first: Kind, second: Kind) -> Kind
+fn both(first: FactKind, second: FactKind) -> FactKind
     ensures { result ≡ joined_kind true first second }
 {
     match first {
-        Kind::True => second,
-        Kind::False => Kind::False,
-        Kind::Open => match second {
-            Kind::False => Kind::False,
-            _ => Kind::Open,
+        FactKind::True => second,
+        FactKind::False => FactKind::False,
+        FactKind::Open => match second {
+            FactKind::False => FactKind::False,
+            _ => FactKind::Open,
         },
     }
 }
 
 /// Or of two.
-fn either(first: Kind, second: Kind) -> Kind
+fn either(first: FactKind, second: FactKind) -> FactKind
     ensures { result ≡ joined_kind false first second }
 {
     match first {
-        Kind::False => second,
-        Kind::True => Kind::True,
-        Kind::Open => match second {
-            Kind::True => Kind::True,
-            _ => Kind::Open,
+        FactKind::False => second,
+        FactKind::True => FactKind::True,
+        FactKind::Open => match second {
+            FactKind::True => FactKind::True,
+            _ => FactKind::Open,
         },
     }
 }
 
 /// And of two, or, where not `all`, Or of two.
-pub(crate) fn join_kinds(all: bool, first: Kind, second: Kind) -> Kind
+pub(crate) fn join_kinds(all: bool, first: FactKind, second: FactKind) -> FactKind
     ensures { result ≡ joined_kind all first second }
 {
     if all {
@@ -52,19 +52,19 @@ pub(crate) fn join_kinds(all: bool, first: Kind, second: Kind) -> Kind
 }
 
 /// Whether this side makes And, or, where not `all`, Or the same constant.
-pub(crate) fn decides(all: bool, side: Kind) -> bool
+pub(crate) fn decides(all: bool, side: FactKind) -> bool
     ensures { IsTrue result ↔ (side ≡ decider all) }
 {
     match side {
-        Kind::True => !all,
-        Kind::False => all,
-        Kind::Open => false,
+        FactKind::True => !all,
+        FactKind::False => all,
+        FactKind::Open => false,
     }
 }
 
 /// And, or, where not `all`, Or of nothing.
-pub(crate) fn neutral(all: bool) -> Kind
+pub(crate) fn neutral(all: bool) -> FactKind
     ensures { result ≡ neutral_of all }
 {
-    if all { Kind::True } else { Kind::False }
+    if all { FactKind::True } else { FactKind::False }
 }

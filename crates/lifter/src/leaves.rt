@@ -6,7 +6,7 @@ ghost use Rattle.lifter.specs.Progress.{HasClosedBy};
 
 use super::key::Key;
 use super::known::Known;
-use super::line::{Line, Numbers};
+use super::line::{FactNumbers, Line};
 use super::state::State;
 use pc_common::{Listed, Memory};
 use pc_ground::NodeKey;
@@ -30,7 +30,7 @@ fn numbers_along(
     from: NodeKey,
     via: &[NodeKey],
     to: NodeKey,
-) -> Result<Numbers, Memory>
+) -> Result<FactNumbers, Memory>
     requires { AreEdges known.now (key_node from) (map key_node via.now ++ key_node to ∷ []) }
     ensures { IfOk result (λ ks. AreNumbers known.now (key_node from) (map key_node via.now ++ key_node to ∷ []) ks) }
 {
@@ -51,7 +51,7 @@ fn numbers_to(
     from: NodeKey,
     via: &[NodeKey],
     to: NodeKey,
-) -> Result<(u64, Numbers), Memory>
+) -> Result<(u64, FactNumbers), Memory>
     requires { AreEdges known.now (key_node from) (map key_node via.now ++ key_node to ∷ []) }
     ensures { IfOk result
         (λ r. AreNumbers known.now (key_node from) (map key_node via.now ++ key_node to ∷ []) (r.0 ∷ r.1)) }

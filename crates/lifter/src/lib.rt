@@ -38,6 +38,6 @@ mod unfolding;
 
 pub use fact_kind::{false_part, kind_of_fact, last_open};
 pub use following::lift_steps;
-pub use kind::Kind;
-pub use line::{Line, Steps};
+pub use kind::FactKind;
+pub use line::{LiftedSteps, Line};
 pub use listed_parts::{part_at, part_count};

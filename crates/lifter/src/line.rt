@@ -8,7 +8,7 @@ use std::alloc::Global;
 use std::marker::Model;
 
 /// Numbers of facts.
-pub type Numbers = Listed<u64>;
+pub type FactNumbers = Listed<u64>;
 
 /// One step of a lifted refutation. Facts are named by their numbers, from 0.
 pub enum Line {
@@ -19,10 +19,10 @@ pub enum Line {
     /// The fact holds in no world.
     False(u64),
     /// The edges, of which the first stands apart, are joined and end where they begin.
-    Cycle(u64, Numbers),
+    Cycle(u64, FactNumbers),
     /// The edges, of which the first stands apart, are joined, and the last fact denies an edge from their start to
     /// their end.
-    Path(u64, Numbers, u64),
+    Path(u64, FactNumbers, u64),
     /// The first fact denies a node that the second one asserts, by itself or as an end of an edge.
     Absent(u64, u64),
 }
@@ -42,18 +42,18 @@ impl Drop for Line {
 }
 
 /// The steps of a lifted refutation so far.
-pub struct Steps {
+pub struct LiftedSteps {
     lines: Listed<Line>,
 }
 
 // By hand: docs/DECISIONS.md, "Drops are written by hand".
-impl Drop for Steps {
+impl Drop for LiftedSteps {
     fn drop(self) {
-        let Steps { lines: _ } = self;
+        let LiftedSteps { lines: _ } = self;
     }
 }
 
-impl Model for Steps {
+impl Model for LiftedSteps {
     ghost use Rattle.std.specs.Prelude.{List, map};
     ghost use Rattle.lifted_facts.specs.Lifted.{LiftedStep};
     ghost use Rattle.lifter.specs.WrittenSteps.{plain_line};
@@ -63,12 +63,12 @@ impl Model for Steps {
     ghost view = { λ s. map plain_line s.lines };
 }
 
-impl Steps {
+impl LiftedSteps {
     /// No step. Takes no memory.
-    pub(crate) fn new(alloc: Global) -> Steps
+    pub(crate) fn new(alloc: Global) -> LiftedSteps
         ensures { result ≡ [] }
     {
-        Steps {
+        LiftedSteps {
             lines: Listed::new(alloc),
         }
     }

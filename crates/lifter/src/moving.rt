@@ -6,7 +6,7 @@ ghost use Rattle.lifted_facts.specs.PlainFacts.{plain_fact, IsProper};
 ghost use Rattle.lifted_facts.specs.Lifted.{HasPart, HasSides};
 ghost use Rattle.lifter.specs.Trees.{fact_tree};
 ghost use Rattle.lifter.specs.Kinds.{kind_of};
-ghost use Rattle.lifter.specs.declared.kind.Kind.TheVariants.{False};
+ghost use Rattle.lifter.specs.declared.kind.FactKind.TheVariants.{False};
 ghost use Rattle.lifter.specs.KnownFacts.{plain_key, HasKey, IsKnown};
 ghost use Rattle.lifter.specs.States.{branch_of, Moves, GainsFact};
 

@@ -7,7 +7,7 @@ ghost use Rattle.lifted_facts.specs.PlainFacts.{PlainFact, Branch, said, root, p
 ghost use Rattle.lifted_facts.specs.Lifted.{HasFact, Runs};
 ghost use Rattle.lifter.specs.Trees.{fact_tree};
 ghost use Rattle.lifter.specs.Kinds.{kind_of};
-ghost use Rattle.lifter.specs.declared.kind.Kind.TheVariants.{False, Open};
+ghost use Rattle.lifter.specs.declared.kind.FactKind.TheVariants.{False, Open};
 ghost use Rattle.lifter.specs.KnownFacts.{IsPart};
 ghost use Rattle.lifter.specs.States.{branch_of, AreKept};
 ghost use Rattle.lifter.specs.PartLists.{facts_from};
@@ -15,9 +15,9 @@ ghost use Rattle.lifter.specs.Unfoldings.{HasUnfolded, HasTaken};
 
 use super::closing::close;
 use super::fact_kind::kind_of_fact;
-use super::kind::Kind;
+use super::kind::FactKind;
 use super::known::Known;
-use super::line::Steps;
+use super::line::LiftedSteps;
 use super::rows::right_of;
 use super::state::State;
 use super::unfolding::unfold;
@@ -63,7 +63,7 @@ pub(crate) fn begin<'a>(alloc: Global, axioms: &'a [Closed]) -> Result<State<'a>
         facts: axiom_facts(alloc, axioms)?,
         known: Known::new(alloc),
         later: Vec::new(alloc),
-        steps: Steps::new(alloc),
+        steps: LiftedSteps::new(alloc),
     })
 }
 
@@ -77,7 +77,7 @@ fn false_axiom<'a>(case: &Case, axioms: &'a [Closed]) -> (usize, Fact<'a>)
     for k in 0..axioms.len() {
         let fact = axiom_fact(&axioms[k]);
         match kind_of_fact(case, &fact) {
-            Kind::False => return (k, fact),
+            FactKind::False => return (k, fact),
             _ => {}
         }
     }
@@ -95,7 +95,7 @@ fn last_axiom(case: &Case, axioms: &[Closed]) -> usize
         let at = axioms.len() - 1 - k;
         let fact = axiom_fact(&axioms[at]);
         match kind_of_fact(case, &fact) {
-            Kind::Open => return at,
+            FactKind::Open => return at,
             _ => {}
         }
     }
@@ -122,7 +122,7 @@ fn unfold_next_axiom<'a>(
 {
     let fact = axiom_fact(&axioms[k]);
     match kind_of_fact(case, &fact) {
-        Kind::Open => {
+        FactKind::Open => {
             let right = right_of(tree, at);
             unfold(case, tree, state, &fact, k as u64, at + 1)?;
             Ok(right)

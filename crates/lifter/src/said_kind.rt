@@ -4,7 +4,7 @@ ghost use Rattle.lifter.specs.Trees.{fact_tree};
 ghost use Rattle.lifter.specs.Kinds.{kind_of};
 
 use super::formula_kind::{kind_of_count, kind_of_formula, kind_of_range};
-use super::kind::Kind;
+use super::kind::FactKind;
 use lifted_facts::Said;
 use pc_case::Case;
 use pc_syntax::ClosedFormula;
@@ -17,7 +17,7 @@ fn left(start: usize, count: usize) -> usize
 }
 
 /// Which constant a part of an axiom is, from its start on. Takes no memory.
-pub(crate) fn kind_of_said(case: &Case, said: &Said<'_>) -> Kind
+pub(crate) fn kind_of_said(case: &Case, said: &Said<'_>) -> FactKind
     requires { IsProperPart case.now said.now }
     ensures { result ≡ kind_of (fact_tree case.now (plain_part said.now)) }
 {

@@ -1,5 +1,5 @@
 use super::known::Known;
-use super::line::Steps;
+use super::line::LiftedSteps;
 use lifted_facts::Fact;
 
 /// What a waiting branch is for.
@@ -29,5 +29,5 @@ pub(crate) struct State<'a> {
     pub(crate) known: Known,
     /// The next one last.
     pub(crate) later: Vec<Later<'a>>,
-    pub(crate) steps: Steps,
+    pub(crate) steps: LiftedSteps,
 }

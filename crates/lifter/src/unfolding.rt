@@ -8,14 +8,14 @@ ghost use Rattle.lifted_facts.specs.Lifted.{HasFact};
 ghost use Rattle.lifter.specs.Trees.{fact_tree};
 ghost use Rattle.lifter.specs.Kinds.{kind_of};
 ghost use Rattle.lifter.specs.PartLists.{IsSaid, parts, parts_from};
-ghost use Rattle.lifter.specs.declared.kind.Kind.TheVariants.{Open};
+ghost use Rattle.lifter.specs.declared.kind.FactKind.TheVariants.{Open};
 ghost use Rattle.lifter.specs.KnownFacts.{IsPart};
 ghost use Rattle.lifter.specs.States.{branch_of};
 ghost use Rattle.lifter.specs.Unfoldings.{fact_of, HasUnfolded, HasTaken};
 
 use super::fact_kind::{kind_of_fact, last_open};
 use super::key::Key;
-use super::kind::Kind;
+use super::kind::FactKind;
 use super::listed_parts::part_at;
 use super::moving::{derive, lose_first, lose_second, mark};
 use super::rows::right_of;
@@ -128,8 +128,8 @@ fn unfold_either<'a>(
     // the contract alone speaks of it
     let _whole = fact;
     match kind_of_fact(case, first) {
-        Kind::Open => match kind_of_fact(case, second) {
-            Kind::Open => mark(case, state, Key::At(at), number),
+        FactKind::Open => match kind_of_fact(case, second) {
+            FactKind::Open => mark(case, state, Key::At(at), number),
             _ => {
                 let next = lose_second(case, state, number, first, second)?;
                 unfold(case, tree, state, first, next, at)
@@ -189,7 +189,7 @@ fn unfold_next<'a>(
 {
     let named = part_at(case, fact, k);
     match kind_of_fact(case, &named.1) {
-        Kind::Open => {
+        FactKind::Open => {
             let right = right_of(tree, at);
             let next = derive(case, state, named.0, number, &named.1)?;
             unfold(case, tree, state, &named.1, next, at + 1)?;

@@ -1,4 +1,4 @@
-//! Parses one file as a model, or reads it whole, to measure each alone: `bench/reading` calls it.
+//! Parses one file as a model, or reads it whole, to measure each alone: `bench/reading.py` calls it.
 //!
 //! Clause: none says what the program answers; `named_text` returns at most 1,048,576 bytes (its clause).
 //!

@@ -1,4 +1,5 @@
 mod Items
+mod KeptSteps
 mod LineWords
 mod NodeWalk
 mod StepLines

@@ -18,6 +18,7 @@
 //! docs/certificates.md.
 #![tactic(auto)]
 
+mod cut;
 mod kind;
 mod list;
 mod node_row;
@@ -28,6 +29,7 @@ mod step_head;
 mod words;
 mod writing;
 
+pub use cut::Cut;
 pub use kind::{Kind, Leaf};
 pub use list::Refutation;
 pub use node_row::NodeRow;

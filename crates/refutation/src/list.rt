@@ -1,24 +1,30 @@
-ghost use Rattle.std.specs.Prelude.{◌≡◌, ◌<◌, ◌+◌, ◌^◌, ◌++◌, [], ◌∷◌, List, length, map, slice_get, Some, is_ok, IfOk, if◌then◌else◌};
+ghost use Rattle.std.specs.Prelude.{◌≡◌, ◌<◌, ◌+◌, ◌^◌, ◌++◌, [], ◌∷◌, List, length, map, slice_get, Bool, Some, is_ok, IfOk, OnOk, if◌then◌else◌};
+ghost use Rattle.std.specs.Vec.Iter.{into_iter_items, into_iter_len};
 ghost use Rattle.pc_common.specs.World.{Node as PlainNode};
 ghost use Rattle.pc_common.specs.Steps.{Step as PlainStep, split, close};
+ghost use Rattle.refutation.specs.Kept.{kept};
 ghost use Rattle.refutation.specs.Steps.{plain_step, plain_leaf, plain_kind, IsLeaf, HasLine, open_branches};
 
+use super::cut::Cut;
 use super::kind::{Kind, Leaf};
 use super::step::{Nodes, Step};
 use pc_common::{Listed, Memory};
 use pc_ground::NodeKey;
 use std::alloc::Global;
 use std::marker::Model;
+use std::vec::IntoIter;
 
 /// The steps of a refutation so far, in prefix order. At the start one branch is open.
 pub struct Refutation {
     steps: Listed<Step>,
+    /// Which steps are not needed, the outer cuts after those within them. No clause speaks of it.
+    cuts: Vec<Cut>,
 }
 
 // By hand: docs/DECISIONS.md, "Drops are written by hand".
 impl Drop for Refutation {
     fn drop(self) {
-        let Refutation { steps: _ } = self;
+        let Refutation { steps: _, cuts: _ } = self;
     }
 }
 
@@ -58,6 +64,7 @@ impl Refutation {
     {
         Refutation {
             steps: Listed::new(alloc),
+            cuts: Vec::new(alloc),
         }
     }
 
@@ -105,5 +112,48 @@ impl Refutation {
         ensures { slice_get self.now k ≡ Some (plain_step result.now) }
     {
         self.steps.get(k)
+    }
+
+    /// Notes which steps are not needed, the outer cuts after those within them. It is a hint, and the steps stay.
+    pub fn note_cuts(&mut self, cuts: Vec<Cut>)
+        ensures { self.new ≡ self.old }
+    {
+        self.cuts = cuts;
+    }
+
+    /// Which steps were noted as not needed. Takes no memory.
+    pub fn cuts(&self) -> &[Cut] {
+        self.cuts.as_slice()
+    }
+
+    /// The steps whose flag is set.
+    pub fn keep(self, alloc: Global, stays: &[bool]) -> Result<Refutation, Memory>
+        ensures { IfOk result (λ short. short ≡ kept stays.now self) }
+    {
+        let Refutation { steps, cuts: _ } = self;
+        let mut rest = steps.into_vec().into_iter();
+        let mut short = Refutation::new(alloc);
+        for flag in stays {
+            short.keep_next(&mut rest, *flag)?;
+        }
+        Ok(short)
+    }
+
+    /// Puts the next step last where it stays.
+    fn keep_next(&mut self, rest: &mut IntoIter<Step>, stays: bool) -> Result<(), Memory>
+        requires { into_iter_len rest.old ≡ length (into_iter_items rest.old) }
+        ensures counted { into_iter_len rest.new ≡ length (into_iter_items rest.new) }
+        ensures next { OnOk result ((flags : List Bool) →
+            self.new ++ kept flags (map plain_step (into_iter_items rest.new))
+            ≡ self.old ++ kept (stays ∷ flags) (map plain_step (into_iter_items rest.old))) }
+    {
+        match rest.next() {
+            Some(step) if stays => {
+                self.steps.push(step)?;
+                Ok(())
+            }
+            Some(_) => Ok(()),
+            None => Ok(()),
+        }
     }
 }

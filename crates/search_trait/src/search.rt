@@ -10,7 +10,7 @@ use std::alloc::Global;
 
 /// What grounds the parts of a model and a test, and finds whether the outcome of a front is observable. The one error of
 /// each call is that memory was refused.
-pub trait Search {
+pub trait FrontSearch {
     /// The front of these parts, which it takes over: their ground tree and its numbers come to them.
     fn front_of(alloc: Global, parts: Parts) -> Result<Front, Memory>
         ensures case { IfOk result (λ f. f.case ≡ parts.case) }

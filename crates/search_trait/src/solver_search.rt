@@ -1,4 +1,4 @@
-use super::search::Search;
+use super::search::FrontSearch;
 use super::searching::search_front;
 use super::shortening::shorten_found;
 use pc_case::Case;
@@ -10,7 +10,7 @@ use std::alloc::Global;
 /// What `grounder` makes, and the search of `solver`.
 pub struct Solver;
 
-impl Search for Solver {
+impl FrontSearch for Solver {
     fn front_of(alloc: Global, parts: Parts) -> Result<Front, Memory> {
         grounder::front_of(alloc, parts)
     }

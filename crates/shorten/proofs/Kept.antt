@@ -1,40 +1,61 @@
--- The steps that stay of those that were passed so far.
-use Rattle.std.proofs.Common.{◌≡◌, ◌≤◌, ℕ, ◌+◌, List, [], ◌∷◌, ◌++◌, ◌⊎◌, inl, inr, Some, length, take, slice_get, sym, ◌∙◌, ap, subst, arith}
-use Rattle.std.proofs.lemmas.{List.{take_all, take_more}, Option.{slice_get_within, get_or_from_slice_get}}
+-- What stays of a list is no longer than it, and is told item by item.
+use Rattle.std.proofs.Common.{◌≡◌, ◌≤◌, ℕ, ◌+◌, List, [], ◌∷◌, ◌++◌, Bool, true, false, Some, length, min, take, get_or, slice_get, refl, sym, ◌∙◌, ap, arith}
+use Rattle.std.proofs.lemmas.{List.{append-nil, length-take, take_all, take_more}, Option.{slice_get_within, get_or_from_slice_get}}
+use Rattle.refutation.specs.Kept.{kept}
 use Rattle.shorten.specs.Subsequences.{IsSubsequence, none, left_out, stays}
 
 pub all_stay : {A : Type 0} (xs : List A) → IsSubsequence xs xs
 all_stay [] = none
 all_stay (x ∷ xs) = stays x (all_stay xs)
 
+pub kept_within : {A : Type 0} (flags : List Bool) (xs : List A) → IsSubsequence (kept flags xs) xs
+unfolding kept
+kept_within [] [] = none
+kept_within [] (x ∷ xs) = left_out x (kept_within [] xs)
+kept_within (b ∷ flags) [] = none
+kept_within (true ∷ flags) (x ∷ xs) = stays x (kept_within flags xs)
+kept_within (false ∷ flags) (x ∷ xs) = left_out x (kept_within flags xs)
+
 pub no_longer : {A : Type 0} {xs ys : List A} → IsSubsequence xs ys → length xs ≤ length ys
 no_longer none = omega arith
 no_longer (left_out y rest) = omega (arith, no_longer rest)
 no_longer (stays y rest) = omega (arith, no_longer rest)
 
--- one item more, which is left out or stays
-last_left_out : {A : Type 0} {xs ys : List A} (z : A) → IsSubsequence xs ys → IsSubsequence xs (ys ++ z ∷ [])
-last_left_out z none = left_out z none
-last_left_out z (left_out y rest) = left_out y (last_left_out z rest)
-last_left_out z (stays y rest) = stays y (last_left_out z rest)
+-- one item more
+kept_last : {A : Type 0} (flags : List Bool) (xs : List A) (b : Bool) (x : A) → length flags ≡ length xs
+    → kept (flags ++ b ∷ []) (xs ++ x ∷ []) ≡ kept flags xs ++ kept (b ∷ []) (x ∷ [])
+unfolding kept
+kept_last [] [] b x same = refl
+kept_last [] (y ∷ xs) b x same = absurd (omega (arith, same))
+kept_last (a ∷ flags) [] b x same = absurd (omega (arith, same))
+kept_last (true ∷ flags) (y ∷ xs) b x same = ap (λ ys. y ∷ ys) (kept_last flags xs b x (omega (arith, same)))
+kept_last (false ∷ flags) (y ∷ xs) b x same = kept_last flags xs b x (omega (arith, same))
 
-last_stays : {A : Type 0} {xs ys : List A} (z : A) → IsSubsequence xs ys → IsSubsequence (xs ++ z ∷ []) (ys ++ z ∷ [])
-last_stays z none = stays z none
-last_stays z (left_out y rest) = left_out y (last_stays z rest)
-last_stays z (stays y rest) = stays y (last_stays z rest)
+one_more : {A : Type 0} (xs : List A) (k : ℕ) (x : A) → slice_get xs k ≡ Some x → take (k + 1) xs ≡ take k xs ++ x ∷ []
+one_more xs k x at = take_more xs k x (slice_get_within xs k x at) ∙ ap (λ y. take k xs ++ y ∷ []) (get_or_from_slice_get xs k x x at)
 
-module _ {A : Type 0} (old : List A) (steps : List A) (k : ℕ) (s : A) (at : slice_get steps k ≡ Some s) (before : IsSubsequence old (take k steps)) where
-  one_more : take k steps ++ s ∷ [] ≡ take (k + 1) steps
-  one_more =
-      sym (take_more steps k s (slice_get_within steps k s at) ∙ ap (λ x. take k steps ++ x ∷ []) (get_or_from_slice_get steps k s s at))
+module _ {A : Type 0} (flags : List Bool) (xs : List A) (same : length flags ≡ length xs) (k : ℕ) where
+  same_takes : length (take k flags) ≡ length (take k xs)
+  same_takes = length-take k flags ∙ ap (λ n. min k n) same ∙ sym (length-take k xs)
 
-  pub next_left_out : IsSubsequence old (take (k + 1) steps)
-  next_left_out = subst (IsSubsequence old) one_more (last_left_out s before)
+  pub all_kept : length xs ≤ k → kept (take k flags) (take k xs) ≡ kept flags xs
+  all_kept all =
+      ap (λ bs. kept bs (take k xs)) (take_all k flags (omega (arith, all, same))) ∙ ap (λ ys. kept flags ys) (take_all k xs all)
 
-  pub next_copied : (new : List A) → (new ≡ old ++ s ∷ []) ⊎ (new ≡ old) → IsSubsequence new (take (k + 1) steps)
-  next_copied new (inl e) =
-      subst (IsSubsequence new) one_more (subst (λ xs. IsSubsequence xs (take k steps ++ s ∷ [])) (sym e) (last_stays s before))
-  next_copied new (inr e) = subst (λ xs. IsSubsequence xs (take (k + 1) steps)) (sym e) next_left_out
+  module _ (x : A) (at : slice_get xs k ≡ Some x) (b d : Bool) (flag : get_or flags k d ≡ b) where
+    flag_more : take (k + 1) flags ≡ take k flags ++ b ∷ []
+    flag_more =
+        take_more flags k d (omega (arith, slice_get_within xs k x at, same)) ∙ ap (λ c. take k flags ++ c ∷ []) flag
 
-pub all_passed : {A : Type 0} (xs steps : List A) (k : ℕ) → length steps ≤ k → IsSubsequence xs (take k steps) → IsSubsequence xs steps
-all_passed xs steps k all is = subst (IsSubsequence xs) (take_all k steps all) is
+    next : kept (take (k + 1) flags) (take (k + 1) xs) ≡ kept (take k flags) (take k xs) ++ kept (b ∷ []) (x ∷ [])
+    next = rw (flag_more, one_more xs k x at) (kept_last (take k flags) (take k xs) b x same_takes)
+
+  pub next_stays : (x : A) → slice_get xs k ≡ Some x → (d : Bool) → get_or flags k d ≡ true
+      → kept (take (k + 1) flags) (take (k + 1) xs) ≡ kept (take k flags) (take k xs) ++ x ∷ []
+  unfolding kept
+  next_stays x at d flag = next x at true d flag
+
+  pub next_goes : (x : A) → slice_get xs k ≡ Some x → (d : Bool) → get_or flags k d ≡ false
+      → kept (take (k + 1) flags) (take (k + 1) xs) ≡ kept (take k flags) (take k xs)
+  unfolding kept
+  next_goes x at d flag = next x at false d flag ∙ append-nil (kept (take k flags) (take k xs))

@@ -1,8 +1,9 @@
-ghost use Rattle.std.specs.Prelude.{◌≡◌, IsTrue, IfOk};
+ghost use Rattle.std.specs.Prelude.{◌≡◌, IsTrue, IfOk, length};
 ghost use Rattle.pc_common.specs.World.{Node};
 ghost use Rattle.pc_ground.specs.Tree.{Tree};
 ghost use Rattle.pc_ground.specs.Rows.{rows_of};
 ghost use Rattle.pc_ground.specs.Refutes.{IsRefutation};
+ghost use Rattle.refutation.specs.Kept.{kept};
 ghost use Rattle.tree_check.specs.OpenBranches.{StandsAtRoot};
 
 use pc_common::Memory;
@@ -25,19 +26,22 @@ fn begin<'a>(alloc: Global, tree: &'a Flat, version: Version) -> Result<Branches
     }
 }
 
-/// Whether the steps are a refutation of the tree.
+/// Whether the steps that stay are a refutation of the tree.
 pub(crate) fn is_refutation(
     alloc: Global,
     tree: &Flat,
     version: Version,
     steps: &Refutation,
+    stays: &[bool],
 ) -> Result<bool, Memory>
+    requires { length stays.now ≡ length steps.now }
     ensures { IfOk result (λ good. IsTrue good → (t : Tree Node) → tree.now ≡ rows_of t
-        → IsRefutation version t steps.now) }
+        → IsRefutation version t (kept stays.now steps.now)) }
 {
     let mut branches = begin(alloc, tree, version)?;
     for k in 0..steps.len() {
-        if !branches.take(steps.step(k).kind())? {
+        let step = steps.step(k);
+        if stays[k] && !branches.take(step.kind())? {
             return Ok(false);
         }
     }

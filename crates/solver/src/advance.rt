@@ -34,8 +34,7 @@ pub(crate) fn advance<L: Ledger>(
         < 1 + weight (spelled tree.now.rows) (branches_of tree.now branch.old)) }
     ensures longer { IfOk result (λ _. HasMore branch.old.refutation branch.new.refutation) }
 {
-    // for the proof alone: there are fewer than 2^63 steps
-    let _steps_so_far = branch.refutation.len();
+    let step = branch.refutation.len();
     let mark = branch.graph.mark();
     let place = choose(alloc, tree, version, first, mark, branch, steps)?;
     let (left, side) = sides(tree, version, place);
@@ -46,6 +45,6 @@ pub(crate) fn advance<L: Ledger>(
         .push_split(place.negated, place.position as u64)?;
     branch
         .agenda
-        .split(alloc, tree, version, place, &branch.graph)?;
+        .split(alloc, tree, version, place, &branch.graph, step)?;
     find(alloc, tree, version, left, branch, steps)
 }

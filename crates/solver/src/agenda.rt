@@ -1,6 +1,7 @@
 ghost use Rattle.std.specs.Prelude.{◌≡◌, All, length};
 ghost use Rattle.solver.specs.Below.{IsRowBelow};
 
+use super::alternatives::{Alternatives, count_open};
 use super::bits::Bits;
 use super::failures::Failures;
 use super::gains::{Gained, Gains};
@@ -15,6 +16,7 @@ use super::watch::{Watch, Watched, end_of_ors};
 use order_graph::{Clash, OrderGraph};
 use pc_common::Memory;
 use pc_ground::{Row, Version};
+use refutation::Cut;
 use std::alloc::Global;
 
 /// What stood at a position before a change.
@@ -50,6 +52,7 @@ pub(crate) struct Agenda {
     /// Which splits took part in what failed so far.
     failures: Failures,
     gains: Gains,
+    alternatives: Alternatives,
     /// Whether memory was refused to the trail or the marks.
     is_refused: bool,
 }
@@ -72,6 +75,7 @@ impl Drop for Agenda {
             seen: _,
             failures: _,
             gains: _,
+            alternatives: _,
             is_refused: _,
         } = self;
     }
@@ -96,6 +100,7 @@ impl Agenda {
             seen: 0,
             failures: Failures::new(alloc, nodes, count),
             gains: Gains::new(alloc),
+            alternatives: Alternatives::new(alloc),
             is_refused: false,
         };
         agenda.make_room(count);
@@ -115,7 +120,11 @@ impl Agenda {
 
     /// Whether memory was refused to any hint. Then that hint went without what it was to keep.
     fn is_refused(&self) -> bool {
-        self.is_refused | self.watch.is_refused | self.gains.is_refused | self.failures.is_refused()
+        self.is_refused
+            | self.watch.is_refused
+            | self.gains.is_refused
+            | self.alternatives.is_refused
+            | self.failures.is_refused()
     }
 
     /// What is known of the position.
@@ -185,8 +194,8 @@ impl Agenda {
         }
     }
 
-    /// The Or is split, and its right side waits. Returns `Memory` where memory was refused to a hint: so what is split
-    /// is never chosen by a hint that lacks something.
+    /// The Or is split by this step, and its right side waits. Returns `Memory` where memory was refused to a hint: so
+    /// what is split is never chosen by a hint that lacks something.
     pub(crate) fn split(
         &mut self,
         alloc: Global,
@@ -194,13 +203,14 @@ impl Agenda {
         version: Version,
         place: Place,
         graph: &OrderGraph,
+        step: usize,
     ) -> Result<(), Memory> {
         if self.is_refused() {
             return Err(Memory);
         }
         self.begin_watch(alloc, tree, version, graph);
         self.change(place.position, Standing::none());
-        self.failures.split(place, graph);
+        self.failures.split(place, graph, step);
         self.is_refused |= self.marks.push(self.trail.len()).is_err();
         self.moment = self.moment.wrapping_add(1);
         Ok(())
@@ -380,9 +390,81 @@ impl Agenda {
         None
     }
 
-    /// A leaf closes the side that was entered last by this clash.
-    pub(crate) fn learn(&mut self, clash: &Clash, graph: &OrderGraph) {
-        self.failures.learn(clash, graph);
+    /// A leaf closes the side that was entered last by this clash, and the steps so far end with it. From the first one on,
+    /// closed sides are asked in another way. Returns `Memory` where memory was refused to a hint: so which steps are needed
+    /// is never told by a hint that lacks something.
+    pub(crate) fn learn(
+        &mut self,
+        clash: &Clash,
+        graph: &OrderGraph,
+        end: usize,
+    ) -> Result<(), Memory> {
+        if !self.has_failed() {
+            self.renew();
+        }
+        self.failures.learn(clash, graph, end);
+        if self.is_refused() {
+            return Err(Memory);
+        }
+        Ok(())
+    }
+
+    /// Hands out which steps are not needed, as far as was learned.
+    pub(crate) fn take_cuts(&mut self, alloc: Global) -> Vec<Cut> {
+        self.failures.take_cuts(alloc)
+    }
+
+    /// Whether a side has failed.
+    pub(crate) fn has_failed(&self) -> bool {
+        !self.failures.is_empty()
+    }
+
+    /// Forgets which sides are closed, now and at the splits that wait.
+    fn renew(&mut self) {
+        for p in 0..self.standings.len() {
+            let standing = self.standing(p);
+            if standing.is_pending() {
+                self.set(p, standing.renewed());
+            }
+        }
+        for k in 0..self.trail.len() {
+            let Change { position, standing } = self.trail[k];
+            let standing = standing.renewed();
+            self.trail[k] = Change { position, standing };
+        }
+    }
+
+    /// The first choice of which each alternative is as good as closed; if there is none, the first of which each but one
+    /// is. No choice has a side with a literal that would clash.
+    pub(crate) fn first_forced(&mut self, rows: &[Row<u32>], graph: &OrderGraph) -> Option<Place>
+        requires { All (IsRowBelow graph.now.nodes) rows.now }
+    {
+        let mut forced = None;
+        let mut from = 0;
+        for _ in 0..rows.len() {
+            let Some(position) = self.open.first_from(from) else {
+                return forced;
+            };
+            from = position.saturating_add(1);
+            // two leaves are open where no literal would clash
+            if skip_at(rows, position) == 3 {
+                continue;
+            }
+            let standing = self.refresh(rows, graph, position);
+            if !standing.is_open() {
+                continue;
+            }
+            let negated = standing.is_negated();
+            let place = Place { negated, position };
+            let count = self.alternatives.count_left(rows, graph, negated, position);
+            if count == 0 {
+                return Some(place);
+            }
+            if count == 1 && forced.is_none() {
+                forced = Some(place);
+            }
+        }
+        forced
     }
 
     /// The Or to split next where a failure is replayed, if one is.
@@ -390,33 +472,41 @@ impl Agenda {
         self.failures.guide()
     }
 
-    /// The choice with the newest record: the newest failures, of several the most, of several the first by position.
-    /// Without any record it is `first`, the first choice.
+    /// The choice with the newest failures, of several the one with the fewest alternatives that are not closed, of several
+    /// the one with the most failures, of several the first by position. `first` is the first choice.
     pub(crate) fn newest(&mut self, rows: &[Row<u32>], graph: &OrderGraph, first: Place) -> Place
         requires { All (IsRowBelow graph.now.nodes) rows.now }
     {
-        if self.failures.is_empty() {
-            return first;
-        }
         let mut chosen = first;
         let mut newest = self.failures.record(first.position);
-        let mut from = first.position.saturating_add(1);
+        let mut count = usize::MAX;
+        let mut from = first.position;
         for _ in 0..rows.len() {
-            let Some(position) = self.open.first_common(self.failures.recorded(), from) else {
+            let Some(position) = self.open.first_from(from) else {
                 return chosen;
             };
-            let record = self.failures.record(position);
-            if record.is_newer(newest) {
-                let standing = self.refresh(rows, graph, position);
-                if standing.is_open() {
-                    newest = record;
-                    chosen = Place {
-                        negated: standing.is_negated(),
-                        position,
-                    };
-                }
-            }
             from = position.saturating_add(1);
+            let record = self.failures.record(position);
+            let is_newer = record.is_newer(newest);
+            // none has fewer than two open, since none is forced
+            if newest.is_newer(record) || (!is_newer && count <= 2 && !record.has_more(newest)) {
+                continue;
+            }
+            let standing = self.refresh(rows, graph, position);
+            if !standing.is_open() {
+                continue;
+            }
+            let negated = standing.is_negated();
+            if is_newer {
+                count = usize::MAX;
+            }
+            let limit = count.saturating_add(1);
+            let open = count_open(rows, graph, negated, position, limit);
+            if open < count || (open == count && record.has_more(newest)) {
+                chosen = Place { negated, position };
+                newest = record;
+                count = open;
+            }
         }
         chosen
     }

@@ -92,22 +92,6 @@ impl Bits {
         None
     }
 
-    /// The lowest number from `from` on that is in both.
-    pub(crate) fn first_common(&self, other: &Bits, from: usize) -> Option<usize> {
-        let mut mask = u64::MAX << (from % 64);
-        for at in from / 64..self.words.len() {
-            if at >= other.words.len() {
-                return None;
-            }
-            let word = self.words[at] & other.words[at] & mask;
-            if word != 0 {
-                return Some(lowest(word, at));
-            }
-            mask = u64::MAX;
-        }
-        None
-    }
-
     /// The highest number up to `k`, among those in the words from that of `low` on.
     pub(crate) fn last_up_to(&self, k: usize, low: usize) -> Option<usize> {
         let mut mask = u64::MAX >> (63 - k % 64);

@@ -56,16 +56,18 @@ impl Branch {
         })
     }
 
-    pub(crate) fn into_refutation(self) -> Refutation
+    /// The steps, with those that are not needed noted.
+    pub(crate) fn into_refutation(self, alloc: Global) -> Refutation
         ensures { result ≡ self.refutation }
     {
         let Branch {
             graph: _,
             asserted: _,
-            agenda: _,
+            mut agenda,
             later: _,
-            refutation,
+            mut refutation,
         } = self;
+        refutation.note_cuts(agenda.take_cuts(alloc));
         refutation
     }
 }

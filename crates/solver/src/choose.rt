@@ -7,6 +7,7 @@ ghost use Rattle.solver.specs.Opens.{positions, IsFurther, IsSame, IsMarked};
 ghost use Rattle.solver.specs.Branches.{HasSameRest};
 
 use super::agenda::Agenda;
+use super::alternatives::side_is_closed;
 use super::branch::Branch;
 use super::candidate::is_candidate_now;
 use super::closing::would_close;
@@ -114,9 +115,11 @@ fn is_closed<L: Ledger>(
     Ok(clashes)
 }
 
-/// Whether the side is closed at once. One that was is not asked again: on its branch a closed side stays closed.
+/// Whether the side is closed at once: once a side has failed, whether a literal of it would clash. One that was closed is
+/// not asked again: on its branch a closed side stays closed.
 fn ask_side<L: Ledger>(
     is_known: bool,
+    has_failed: bool,
     tree: &NumberedTree,
     side: Side,
     mark: Mark,
@@ -131,6 +134,9 @@ fn ask_side<L: Ledger>(
     if is_known {
         return Ok(true);
     }
+    if has_failed {
+        return Ok(side_is_closed(tree.rows(), graph, side));
+    }
     is_closed(tree, side, mark, graph, steps)
 }
 
@@ -141,6 +147,7 @@ fn with_sides<L: Ledger>(
     version: Version,
     place: Place,
     standing: Standing,
+    has_failed: bool,
     mark: Mark,
     graph: &mut OrderGraph,
     steps: &mut Steps<L>,
@@ -154,14 +161,14 @@ fn with_sides<L: Ledger>(
     }
     let (left, right) = sides(tree, version, place);
     let is_known = standing.is_left_closed();
-    let left_closed = ask_side(is_known, tree, left, mark, graph, steps)?;
+    let left_closed = ask_side(is_known, has_failed, tree, left, mark, graph, steps)?;
     if left_closed {
         if let Version::One = version {
             return Ok(standing.asked(true, false, true));
         }
     }
     let is_known = standing.is_right_closed();
-    let right_closed = ask_side(is_known, tree, right, mark, graph, steps)?;
+    let right_closed = ask_side(is_known, has_failed, tree, right, mark, graph, steps)?;
     let settled = match version {
         Version::One => right_closed,
         Version::Two => left_closed & right_closed,
@@ -192,7 +199,10 @@ fn ask<L: Ledger>(
         negated: standing.is_negated(),
         position,
     };
-    let asked = with_sides(tree, version, place, standing, mark, graph, steps)?;
+    let has_failed = agenda.has_failed();
+    let asked = with_sides(
+        tree, version, place, standing, has_failed, mark, graph, steps,
+    )?;
     agenda.change(position, asked);
     Ok(asked)
 }
@@ -233,8 +243,9 @@ fn first_closed<L: Ledger>(
     Ok(one_sided)
 }
 
-/// The choice that the agenda proposes to split: the first with enough sides closed at once or with one, and
-/// where none has one, the one whose split took part in the newest failure.
+/// The choice that the agenda proposes to split: the first with enough sides closed at once or with one. Where none has one,
+/// it is `first` until a side has failed. From then on it is the first whose alternatives are all as good as closed, or all
+/// but one; and else the one with the newest record.
 fn propose<L: Ledger>(
     tree: &NumberedTree,
     version: Version,
@@ -251,12 +262,18 @@ fn propose<L: Ledger>(
     if let Some(place) = first_closed(tree, version, mark, graph, agenda, steps)? {
         return Ok(place);
     }
+    if !agenda.has_failed() {
+        return Ok(first);
+    }
+    if let Some(place) = agenda.first_forced(tree.rows(), graph) {
+        return Ok(place);
+    }
     Ok(agenda.newest(tree.rows(), graph, first))
 }
 
 /// The candidate to split. In a replay it is the Or that was split on the left. Otherwise version 1 takes the first
 /// with a side that is closed at once, and version 2 the first with both sides closed, or else with one. If no side of
-/// any is closed, it is the one with the newest record, and without any record `first`. What the agenda proposes is
+/// any is closed, it is what the failures say (`propose`), and without any failure `first`. What the agenda proposes is
 /// tested.
 pub(crate) fn choose<L: Ledger>(
     alloc: Global,

@@ -4,7 +4,7 @@ ghost use Rattle.solver.specs.Below.{IsRowBelow};
 
 use super::gains::comes_to;
 use super::ors::literal_at;
-use super::rows::row_at;
+use super::rows::{row_at, skip_at};
 use super::side::Side;
 use order_graph::OrderGraph;
 use pc_ground::{Literal, Row, RowKind};
@@ -39,7 +39,7 @@ fn edges_clash(graph: &OrderGraph, a: u32, b: u32, c: u32, d: u32) -> bool
 }
 
 /// Whether two literals clash together with the graph's, though neither clashes by itself.
-fn pair_clashes(graph: &OrderGraph, first: Literal<u32>, second: Literal<u32>) -> bool
+pub(crate) fn pair_clashes(graph: &OrderGraph, first: Literal<u32>, second: Literal<u32>) -> bool
     requires first_in { IsBelow graph.now.nodes first }
     requires second_in { IsBelow graph.now.nodes second }
 {
@@ -83,20 +83,33 @@ fn any_clashes(
     }
 }
 
-/// Whether the literals of the side clash, where the graph can be asked and nothing need be asserted: where the side's own
-/// part is one literal or none, and so is what it denies.
+/// Whether the two leaves of the part at `root` are asserted, and clash: none where it is another part.
+fn pair_closes(rows: &[Row<u32>], negated: bool, root: usize, graph: &OrderGraph) -> Option<bool>
+    requires { All (IsRowBelow graph.now.nodes) rows.now }
+{
+    if skip_at(rows, root) != 3 {
+        return None;
+    }
+    let first = literal_at(rows, negated, root.saturating_add(1));
+    let second = literal_at(rows, negated, root.saturating_add(2));
+    Some(any_clashes(graph, first, second))
+}
+
+/// Whether the literals of the side clash, where the graph can be asked and nothing need be asserted: where they are two at
+/// most, of its own part or one of it and one of what it denies.
 pub(crate) fn would_close(rows: &[Row<u32>], side: Side, graph: &OrderGraph) -> Option<bool>
     requires { All (IsRowBelow graph.now.nodes) rows.now }
 {
     let own = literal_at(rows, side.negated, side.root);
-    if own.is_none() && !asserts_none(rows, side.negated, side.root) {
-        return None;
-    }
+    let is_whole = own.is_some() || asserts_none(rows, side.negated, side.root);
     let Some(left) = side.denied else {
-        return Some(clashes_alone(graph, own));
+        if is_whole {
+            return Some(clashes_alone(graph, own));
+        }
+        return pair_closes(rows, side.negated, side.root, graph);
     };
     let denied = literal_at(rows, !side.negated, left);
-    if denied.is_none() && !asserts_none(rows, !side.negated, left) {
+    if !is_whole || (denied.is_none() && !asserts_none(rows, !side.negated, left)) {
         return None;
     }
     Some(any_clashes(graph, denied, own))

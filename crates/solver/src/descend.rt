@@ -38,7 +38,8 @@ pub(crate) fn descend<L: Ledger>(
     let _positions = tree.len();
     let mut side = side;
     while let Some(clash) = enter_next(tree, side, branch, steps)? {
-        branch.agenda.learn(&clash, &branch.graph);
+        let end = branch.refutation.len().saturating_add(1);
+        branch.agenda.learn(&clash, &branch.graph, end)?;
         close(alloc, tree, clash, &mut branch.refutation)?;
         let Some(next) = go_back(branch, steps) else {
             return Ok(false);

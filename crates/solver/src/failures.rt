@@ -1,4 +1,3 @@
-use super::bits::Bits;
 use super::conflict_sets::ConflictSets;
 use super::first_literals::FirstLiterals;
 use super::place::Place;
@@ -6,7 +5,9 @@ use super::records::{Record, Records};
 use super::scripts::{Script, Scripts};
 use order_graph::{Clash, OrderGraph};
 use pc_ground::Literal;
+use refutation::Cut;
 use std::alloc::Global;
+use std::mem;
 
 /// How the left side of a split failed, while its right side is searched.
 #[derive(Clone, Copy)]
@@ -17,12 +18,16 @@ struct LeftFailure {
     /// How many scripts there were after it, and how many levels waited before its conflict set.
     scripts: usize,
     waited: usize,
+    /// Where its steps end.
+    end: usize,
 }
 
 /// A split on the way to the first open branch: a decision level of the search.
 #[derive(Clone, Copy)]
 struct Fork {
     place: Place,
+    /// Which step it is.
+    step: usize,
     /// The level at which its Or was asserted.
     origin: usize,
     /// How many literals, and how many scripts, there were before it.
@@ -59,7 +64,11 @@ pub(crate) struct Failures {
     /// The script of the failure at hand, and the one that the next split is to follow.
     found: Option<usize>,
     guide: Option<usize>,
-    /// Whether memory was refused to the forks or the levels.
+    /// Where the steps end that close the side at hand.
+    end: usize,
+    /// Which steps are not needed.
+    cuts: Vec<Cut>,
+    /// Whether memory was refused to the forks, the levels or the cuts.
     is_refused: bool,
 }
 
@@ -76,6 +85,8 @@ impl Drop for Failures {
             scripts: _,
             found: _,
             guide: _,
+            end: _,
+            cuts: _,
             is_refused: _,
         } = self;
     }
@@ -94,8 +105,15 @@ impl Failures {
             scripts: Scripts::new(alloc),
             found: None,
             guide: None,
+            end: 0,
+            cuts: Vec::new(alloc),
             is_refused: false,
         }
+    }
+
+    /// Hands out which steps are not needed.
+    pub(crate) fn take_cuts(&mut self, alloc: Global) -> Vec<Cut> {
+        mem::replace(&mut self.cuts, Vec::new(alloc))
     }
 
     /// Whether memory was refused to any of them.
@@ -115,11 +133,6 @@ impl Failures {
     /// In which failures the splits of the Or took part.
     pub(crate) fn record(&self, position: usize) -> Record {
         self.records.record(position)
-    }
-
-    /// The Ors whose splits took part in a failure.
-    pub(crate) fn recorded(&self) -> &Bits {
-        self.records.recorded()
     }
 
     /// The Or is asserted on the side at hand.
@@ -174,9 +187,9 @@ impl Failures {
         Some(script.place)
     }
 
-    /// The Or is split, and its left side is searched next. Where it is another Or than the replay has here, the replay
-    /// ends.
-    pub(crate) fn split(&mut self, place: Place, graph: &OrderGraph) {
+    /// The Or is split by this step, and its left side is searched next. Where it is another Or than the replay has here,
+    /// the replay ends.
+    pub(crate) fn split(&mut self, place: Place, graph: &OrderGraph, step: usize) {
         self.literals.add(graph);
         let mut script = self.guide;
         self.guide = None;
@@ -191,6 +204,7 @@ impl Failures {
         let scripts = self.scripts.len();
         let fork = Fork {
             place,
+            step,
             origin,
             literals,
             scripts,
@@ -200,8 +214,10 @@ impl Failures {
         self.is_refused |= self.forks.push(fork).is_err();
     }
 
-    /// A leaf closes the side at hand by this clash. The graph has the literals that clash.
-    pub(crate) fn learn(&mut self, clash: &Clash, graph: &OrderGraph) {
+    /// A leaf closes the side at hand by this clash, and the steps so far end with it. The graph has the literals that
+    /// clash.
+    pub(crate) fn learn(&mut self, clash: &Clash, graph: &OrderGraph, end: usize) {
+        self.end = end;
         self.conflicts.clear();
         self.add_clash(clash, graph);
         let level = self.forks.len();
@@ -318,6 +334,7 @@ impl Failures {
             script: self.found,
             scripts: self.scripts.len(),
             waited,
+            end: self.end,
         };
         let fork = Fork {
             left: Some(left),
@@ -335,7 +352,7 @@ impl Failures {
     fn close(&mut self, fork: Fork, left: LeftFailure) {
         let level = self.forks.len().saturating_add(1);
         if left.is_independent {
-            self.take_left(left);
+            self.take_left(fork, left);
         } else if self.conflicts.has(level) {
             self.join(fork, left);
         } else {
@@ -343,18 +360,28 @@ impl Failures {
         }
     }
 
-    /// The fork took no part in the failure of its left side: that conflict set and script stand for both sides.
-    fn take_left(&mut self, left: LeftFailure) {
+    /// The fork took no part in the failure of its left side: that conflict set and script stand for both sides, and the
+    /// steps of the left side for the split.
+    fn take_left(&mut self, fork: Fork, left: LeftFailure) {
         self.scripts.truncate(left.scripts);
         self.found = left.script;
         self.conflicts.clear();
         self.conflicts.unite(left.waited);
+        self.cut(fork.step, fork.step.saturating_add(1));
+        self.cut(left.end, self.end);
     }
 
-    /// The fork took no part in the failure of its right side: that conflict set and script stand for both sides.
+    /// The steps from `start` on, up to the one before `end`, are not needed.
+    fn cut(&mut self, start: usize, end: usize) {
+        self.is_refused |= self.cuts.push(Cut { start, end }).is_err();
+    }
+
+    /// The fork took no part in the failure of its right side: that conflict set and script stand for both sides, and the
+    /// steps of the right side for the split.
     fn take_right(&mut self, fork: Fork, left: LeftFailure) {
         self.conflicts.discard(left.waited);
         self.found = self.scripts.remove(fork.scripts, left.scripts, self.found);
+        self.cut(fork.step, left.end);
     }
 
     /// The fork took part in the failures of both sides: their conflict sets and scripts are joined.

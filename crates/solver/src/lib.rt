@@ -23,8 +23,8 @@
 //!
 //! ```text
 //! a candidate of the first open branch          search.rt
-//!   | choose the Or to split                    choose.rt; proposed by agenda.rt, failures.rt and records.rt,
-//!   |                                           and tested by candidate.rt
+//!   | choose the Or to split                    choose.rt; proposed by agenda.rt, closing.rt, alternatives.rt, failures.rt
+//!   |                                           and records.rt, and tested by candidate.rt
 //!   | its sides; the right one waits            ors.rt, advance.rt, later.rt
 //!   v
 //! assert the literals of a side    <---------+  enter.rt, asserted.rt; the graph is order_graph's
@@ -40,10 +40,12 @@
 //! ```
 //!
 //! Which Or a turn splits is proposed by hints that no clause speaks of, and what they propose is tested. The `agenda`
-//! keeps which Ors are pending and which of their sides are closed at once. `failures` keeps the conflict sets: the
-//! splits of the newest ones come first. Where a left side failed without its split, the right side is refuted by the
-//! same splits again. A hint that memory is refused to goes on without what it was to keep; it notes that, and the next
-//! split returns `Memory`.
+//! keeps which Ors are pending and which of their sides are closed at once. `alternatives` asks, once a side has failed,
+//! which Ors have one alternative left or none. `failures` keeps the conflict sets: the splits of the newest ones come
+//! first. Where a left side failed without its split, the right side is refuted by the same splits again. Where a side
+//! failed without its split, `failures` keeps which steps are not needed for that, and hands them out with the
+//! refutation. A hint that memory is refused to goes on without what it was to keep; it notes that, and the next split or
+//! leaf returns `Memory`.
 //!
 //! `solve` runs a `Search` from its first turn to its last. Between two turns the steps so far with the open branches
 //! are a partial refutation, and the graph's literals are those of the first open branch.
@@ -51,6 +53,7 @@
 
 mod advance;
 mod agenda;
+mod alternatives;
 mod answer;
 mod asserted;
 mod bits;

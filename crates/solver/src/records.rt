@@ -1,4 +1,3 @@
-use super::bits::Bits;
 use std::alloc::Global;
 
 /// How many failures count as one time. Where each had a time of its own, a search of questions without structure
@@ -19,28 +18,31 @@ impl Record {
         Record { time: 0, count: 0 }
     }
 
-    /// Whether this one is newer than the other: it has a later time, or the same and more failures.
+    /// Whether its last failure is of a later time than that of the other.
     pub(crate) fn is_newer(self, other: Record) -> bool {
-        if self.time == other.time {
-            self.count > other.count
-        } else {
-            self.time > other.time
-        }
+        self.time > other.time
+    }
+
+    /// Whether both have their last failure at one time.
+    pub(crate) fn is_as_new(self, other: Record) -> bool {
+        self.time == other.time
+    }
+
+    /// Whether there were more failures than those of the other.
+    pub(crate) fn has_more(self, other: Record) -> bool {
+        self.count > other.count
     }
 }
 
 /// The records of all Ors. To split what took part in the last conflict comes from Lecoutre and others (2009), to
 /// count the conflicts and to let the older ones weigh less from Moskewicz and others (2001).
 pub(crate) struct Records {
-    /// How many positions there are: the list below, of one record a position, is made with the first failure, and so is
-    /// the set.
+    /// How many positions there are: the list below, of one record a position, is made with the first failure.
     positions: usize,
     records: Vec<Record>,
-    /// The Ors that have a record.
-    recorded: Bits,
     /// How many failures there were.
     failures: u64,
-    /// Whether memory was refused to one of both.
+    /// Whether memory was refused to the list.
     pub(crate) is_refused: bool,
 }
 
@@ -50,7 +52,6 @@ impl Drop for Records {
         let Records {
             positions: _,
             records: _,
-            recorded: _,
             failures: _,
             is_refused: _,
         } = self;
@@ -63,7 +64,6 @@ impl Records {
         Records {
             positions,
             records: Vec::new(alloc),
-            recorded: Bits::new(alloc),
             failures: 0,
             is_refused: false,
         }
@@ -86,13 +86,11 @@ impl Records {
                 .records
                 .resize(self.positions, Record::empty())
                 .is_err();
-            self.is_refused |= self.recorded.make_room(self.positions);
         }
         if position < self.records.len() {
             let time = (self.failures / PERIOD).saturating_add(1);
             let count = self.records[position].count.saturating_add(1);
             self.records[position] = Record { time, count };
-            self.recorded.put(position, true);
         }
     }
 
@@ -103,10 +101,5 @@ impl Records {
         } else {
             Record::empty()
         }
-    }
-
-    /// The Ors that have a record.
-    pub(crate) fn recorded(&self) -> &Bits {
-        &self.recorded
     }
 }

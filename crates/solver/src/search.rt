@@ -90,7 +90,7 @@ fn settle(
     ensures steps { GoesOn (λ old new. new ≡ old) branch.refutation result }
 {
     match status {
-        SearchStatus::Refuted => Turn::Done(Answer::Unobservable(branch.into_refutation())),
+        SearchStatus::Refuted => Turn::Done(Answer::Unobservable(branch.into_refutation(alloc))),
         SearchStatus::Satisfied(shown) => Turn::Done(Answer::Observable(shown)),
         SearchStatus::Undecided(first) => Turn::More(Search {
             alloc,

@@ -65,6 +65,12 @@ impl Standing {
             .with(TRUTH_STALE, in_truth | self.has(TRUTH_STALE))
     }
 
+    /// The same, where all of what is known of its sides is to be asked again in another way.
+    pub(crate) fn renewed(self) -> Standing {
+        self.with(LEFT_CLOSED | RIGHT_CLOSED | SETTLED, false)
+            .with(SIDES_STALE, self.is_pending())
+    }
+
     /// The same, with whether it is true now.
     pub(crate) fn told(self, holds: bool) -> Standing {
         self.with(TRUTH_STALE, false).with(HOLDS, holds)

@@ -1,4 +1,5 @@
 pub mod WordsOutcomes
+pub mod Told
 pub mod WrittenStatus
 pub mod Headline
 pub mod OneVerdict

@@ -1,6 +1,5 @@
 pub mod Answers
 pub mod Headline
-pub mod AnswerTexts
 pub mod Runs
 pub mod Decides
 pub mod Laws

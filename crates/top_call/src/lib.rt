@@ -10,15 +10,16 @@
 //! assert!(rt; sink.taken() == text.as_slice());
 //! ```
 //!
-//! `parse` of `command_base` takes the words, `answer_to` hands a command to the crate of its own, and `tell` writes
-//! the text of what that returned. A command's crate says what it reads and what it returns; here is a line for each
-//! command in each table. `pipecheck_run` hands `run` on, beside the other public calls of the top: a crate that
+//! `parse` of `command_base` takes the words, `perform` hands a command to the crate of its own, and `tell` writes the
+//! text of the `Reply` that this returned. A command's crate says what it reads and what it returns; here is a line for
+//! each command in each table. `pipecheck_run` hands `run` on, beside the other public calls of the top: a crate that
 //! hands on `front` carries all that is said of what it returns, and the program, which waits for this one, needs
 //! nothing of that.
 #![tactic(auto)]
 
-mod answer;
 mod laws;
+mod replies;
+mod reply;
 mod top;
 
 pub use command_base::one_command;

@@ -1,18 +1,17 @@
-ghost use Rattle.std.specs.Prelude.{◌≡◌, ◌≢◌, ◌≤◌, ◌⊎◌, None};
+ghost use Rattle.std.specs.Prelude.{◌≡◌, ◌≢◌, ◌≤◌, ◌⊎◌, ◌↔◌, true, IfOk};
 ghost use Rattle.pc_common.specs.Faults.{Rose};
 ghost use Rattle.pc_common.specs.Reads.{Reads};
 ghost use Rattle.pc_common.specs.declared.status.Status.TheVariants.{Usage as SUsage, ReadFault as SReadFault, WriteFault as SWriteFault, Memory as SMemory};
-ghost use Rattle.command_base.specs.Inputs.{plain_inputs};
-ghost use Rattle.gen_command.specs.GenAnswers.{IsGenOutcome};
-ghost use Rattle.command_base.specs.Command.{plain_command, word_bytes, check as check_of, verify as verify_of, lift_tree as lift_tree_of, ask_query as ask_query_of, verify_lifted as verify_lifted_of, sweep_rows as sweep_rows_of, verify_listing as verify_listing_of, check_listing as check_listing_of, find_core as find_core_of, IsNoCommand, ReadsNoFiles, IsWithin, inputs_of};
+ghost use Rattle.command_base.specs.Command.{plain_command, word_bytes, IsNoCommand, ReadsNoFiles, IsWithin};
+ghost use Rattle.command_base.specs.Endings.{returned_status, returned_text};
 ghost use Rattle.top_call.specs.Answers.{usage_text};
-ghost use Rattle.top_call.specs.AnswerTexts.{answer_text, answer_status, CanBeWritten};
-ghost use Rattle.top_call.specs.Decides.{IsCommandOutcome, IsWordsOutcome};
-ghost use Rattle.top_call.specs.Runs.{run_of, HasAnswered, TakesWhole, TakesFirst, LacksWhereItFails, FailsWhereItLacks, WritesAnswer, CutsAnswer, TellsTruth, HasDueStatus};
+ghost use Rattle.top_call.specs.Decides.{IsTold, HasAnsweredCommand, HasAnsweredWords};
+ghost use Rattle.top_call.specs.Runs.{run_of, HasAnswered, TakesWhole, LacksWhereItFails, FailsWhereItLacks, WritesAnswer, CutsAnswer, TellsTruth, HasDueStatus};
 
-use super::answer::{Answer, status, write_answer};
+use super::replies::NoCommand;
+use super::reply::Reply;
 use ask_command::ask_files;
-use command_base::{Command, Ending, Inputs, ListingFile, TestFile, parse};
+use command_base::{Command, Ending, ListingFile, TestFile, parse};
 use core_command::find_core;
 use gen_command::generate;
 use lift_command::lift_files;
@@ -24,219 +23,109 @@ use sweep_command::sweep_files;
 use verdicts::check;
 use verify_command::{verify, verify_lifted};
 
-/// The answer to `check MODEL TEST` or, in version 2, to `check2 MODEL TEST`.
-fn check_answer<F: Files>(
+/// Whether nothing is written with this status.
+fn is_silent(status: Status) -> bool
+    ensures { (result ≡ true) ↔ ((status ≡ SReadFault) ⊎ (status ≡ SMemory)) }
+{
+    matches!(status, Status::ReadFault | Status::Memory)
+}
+
+/// Writes the text of a reply, unless its status says that nothing is written, and returns the status.
+fn tell<R: Reply, K: Sink>(out: &mut K, reply: &R) -> Status
+    requires { R.writable reply.now }
+    ensures { IsTold K.view (R.ends_with reply.now) (R.text reply.now) out.old out.new result }
+{
+    let status = reply.status();
+    if is_silent(status) {
+        return status;
+    }
+    match reply.write(out) {
+        Ok(()) => status,
+        Err(Failed) => Status::WriteFault,
+    }
+}
+
+/// Tells what a command returned.
+fn answer<R: Reply, K: Sink>(returned: Result<R, Ending>, out: &mut K) -> Status
+    requires { IfOk returned R.writable }
+    ensures { IsTold K.view (returned_status R.ends_with returned) (returned_text R.text returned) out.old out.new result }
+{
+    match returned {
+        Ok(reply) => tell(out, &reply),
+        Err(ending) => tell(out, &ending),
+    }
+}
+
+/// Answers a command. No file is touched by one that reads none.
+fn perform<F: Files, K: Sink>(
     alloc: Global,
-    version: Version,
-    inputs: Inputs<'_>,
+    command: Command<'_>,
     files: &mut F,
-) -> Answer
-    ensures outcome { IsCommandOutcome F.view (check_of version (plain_inputs inputs.entry)) files.old files.new
-        (answer_status result) (answer_text result) }
-    ensures writable { CanBeWritten result }
-{
-    match check::<TestFile, F>(alloc, inputs, version, files) {
-        Ok(verdict) => Answer::Checked(verdict),
-        Err(ending) => Answer::Ended(ending),
-    }
-}
-
-/// The answer to `verify MODEL TEST CERT`.
-fn verify_answer<F: Files>(
-    alloc: Global,
-    inputs: Inputs<'_>,
-    certificate: &str,
-    files: &mut F,
-) -> Answer
-    ensures outcome { IsCommandOutcome F.view (verify_of (plain_inputs inputs.entry) certificate.now)
-        files.old files.new (answer_status result) (answer_text result) }
-    ensures writable { CanBeWritten result }
-{
-    match verify::<TestFile, F>(alloc, inputs, certificate, files) {
-        Ok(checked) => Answer::Verified(checked),
-        Err(ending) => Answer::Ended(ending),
-    }
-}
-
-/// The answer to `core MODEL TEST`.
-fn core_answer<F: Files>(alloc: Global, inputs: Inputs<'_>, files: &mut F) -> Answer
-    ensures outcome { IsCommandOutcome F.view (find_core_of (plain_inputs inputs.entry))
-        files.old files.new (answer_status result) (answer_text result) }
-    ensures writable { CanBeWritten result }
-{
-    match find_core::<TestFile, Solver, F>(alloc, inputs, files) {
-        Ok(found) => Answer::Core(found),
-        Err(ending) => Answer::Ended(ending),
-    }
-}
-
-/// The answer to `check86 MODEL FILE`.
-fn check_listing_answer<F: Files>(alloc: Global, inputs: Inputs<'_>, files: &mut F) -> Answer
-    ensures outcome { IsCommandOutcome F.view (check_listing_of (plain_inputs inputs.entry))
-        files.old files.new (answer_status result) (answer_text result) }
-    ensures writable { CanBeWritten result }
-{
-    match check::<ListingFile, F>(alloc, inputs, Version::One, files) {
-        Ok(found) => Answer::Checked(found),
-        Err(ending) => Answer::Ended(ending),
-    }
-}
-
-/// The answer to `verify86 MODEL FILE CERT`.
-fn verify_listing_answer<F: Files>(
-    alloc: Global,
-    inputs: Inputs<'_>,
-    certificate: &str,
-    files: &mut F,
-) -> Answer
-    ensures outcome { IsCommandOutcome F.view (verify_listing_of (plain_inputs inputs.entry) certificate.now)
-        files.old files.new (answer_status result) (answer_text result) }
-    ensures writable { CanBeWritten result }
-{
-    match verify::<ListingFile, F>(alloc, inputs, certificate, files) {
-        Ok(found) => Answer::Verified(found),
-        Err(ending) => Answer::Ended(ending),
-    }
-}
-
-/// The answer to `sweep MODEL PATTERN`.
-fn sweep_answer<F: Files>(alloc: Global, inputs: Inputs<'_>, files: &mut F) -> Answer
-    ensures outcome { IsCommandOutcome F.view (sweep_rows_of (plain_inputs inputs.entry))
-        files.old files.new (answer_status result) (answer_text result) }
-    ensures writable { CanBeWritten result }
-{
-    match sweep_files::<F>(alloc, inputs, files) {
-        Ok(swept) => Answer::Swept(swept),
-        Err(ending) => Answer::Ended(ending),
-    }
-}
-
-/// The answer to `verify-lifted MODEL TEST CERT`.
-fn verify_lifted_answer<F: Files>(
-    alloc: Global,
-    inputs: Inputs<'_>,
-    certificate: &str,
-    files: &mut F,
-) -> Answer
-    ensures outcome { IsCommandOutcome F.view (verify_lifted_of (plain_inputs inputs.entry) certificate.now)
-        files.old files.new (answer_status result) (answer_text result) }
-    ensures writable { CanBeWritten result }
-{
-    match verify_lifted::<TestFile, F>(alloc, inputs, certificate, files) {
-        Ok(lifted) => Answer::Lifted(lifted),
-        Err(ending) => Answer::Ended(ending),
-    }
-}
-
-/// The answer to `ask MODEL TEST QUERY`.
-fn ask_answer<F: Files>(alloc: Global, inputs: Inputs<'_>, query: &str, files: &mut F) -> Answer
-    ensures outcome { IsCommandOutcome F.view (ask_query_of (plain_inputs inputs.entry) query.now)
-        files.old files.new (answer_status result) (answer_text result) }
-    ensures writable { CanBeWritten result }
-{
-    match ask_files::<Solver, F>(alloc, inputs, query, files) {
-        Ok(found) => Answer::Asked(found),
-        Err(ending) => Answer::Ended(ending),
-    }
-}
-
-/// The answer to `lift MODEL TEST CERT`.
-fn lift_answer<F: Files>(
-    alloc: Global,
-    inputs: Inputs<'_>,
-    certificate: &str,
-    files: &mut F,
-) -> Answer
-    ensures outcome { IsCommandOutcome F.view (lift_tree_of (plain_inputs inputs.entry) certificate.now)
-        files.old files.new (answer_status result) (answer_text result) }
-    ensures writable { CanBeWritten result }
-{
-    match lift_files::<TestFile, F>(alloc, inputs, certificate, files) {
-        Ok(found) => Answer::Lift(found),
-        Err(ending) => Answer::Ended(ending),
-    }
-}
-
-/// The answer to `gen N`, which touches no file.
-fn gen_answer(alloc: Global, n: u8) -> Answer
-    requires { 2 ≤ n × n ≤ 16 }
-    ensures outcome { IsGenOutcome n (answer_status result) (answer_text result) }
-    ensures writable { CanBeWritten result }
-{
-    match generate(alloc, n) {
-        Ok(report) => Answer::Generated(report),
-        Err(ending) => Answer::Ended(ending),
-    }
-}
-
-/// The answer to a command. No file is touched by one that reads none.
-fn answer_to<F: Files>(alloc: Global, command: Command<'_>, files: &mut F) -> Answer
+    out: &mut K,
+) -> Status
     requires { IsWithin (plain_command command) }
-    ensures outcome { IsCommandOutcome F.view (plain_command command.entry) files.old files.new
-        (answer_status result) (answer_text result) }
-    ensures writable { CanBeWritten result }
-    ensures idle { inputs_of (plain_command command.entry) ≡ None
-        → (files.new ≡ files.old) × (answer_status result ≢ SReadFault) }
+    ensures { HasAnsweredCommand F.view K.view (plain_command command.entry) files.old files.new out.old out.new result }
 {
     match command {
-        Command::Check(version, inputs) => check_answer(alloc, version, inputs, files),
+        Command::Check(version, inputs) => {
+            answer(check::<TestFile, F>(alloc, inputs, version, files), out)
+        }
         Command::Verify {
             inputs,
             certificate,
-        } => verify_answer(alloc, inputs, certificate, files),
-        Command::Core(inputs) => core_answer(alloc, inputs, files),
-        Command::CheckListing(inputs) => check_listing_answer(alloc, inputs, files),
+        } => answer(
+            verify::<TestFile, F>(alloc, inputs, certificate, files),
+            out,
+        ),
+        Command::Core(inputs) => answer(
+            find_core::<TestFile, Solver, F>(alloc, inputs, files),
+            out,
+        ),
+        Command::CheckListing(inputs) => answer(
+            check::<ListingFile, F>(alloc, inputs, Version::One, files),
+            out,
+        ),
         Command::VerifyListing {
             inputs,
             certificate,
-        } => verify_listing_answer(alloc, inputs, certificate, files),
-        Command::Sweep(inputs) => sweep_answer(alloc, inputs, files),
+        } => answer(
+            verify::<ListingFile, F>(alloc, inputs, certificate, files),
+            out,
+        ),
+        Command::Sweep(inputs) => answer(sweep_files::<F>(alloc, inputs, files), out),
         Command::VerifyLifted {
             inputs,
             certificate,
-        } => verify_lifted_answer(alloc, inputs, certificate, files),
-        Command::Ask { inputs, query } => ask_answer(alloc, inputs, query, files),
+        } => answer(
+            verify_lifted::<TestFile, F>(alloc, inputs, certificate, files),
+            out,
+        ),
+        Command::Ask { inputs, query } => {
+            answer(ask_files::<Solver, F>(alloc, inputs, query, files), out)
+        }
         Command::Lift {
             inputs,
             certificate,
-        } => lift_answer(alloc, inputs, certificate, files),
-        Command::Gen(n) => gen_answer(alloc, n),
+        } => answer(
+            lift_files::<TestFile, F>(alloc, inputs, certificate, files),
+            out,
+        ),
+        Command::Gen(n) => answer(generate(alloc, n), out),
     }
 }
 
-/// Decides the answer to the words.
-fn decide<F: Files>(alloc: Global, words: &[String], files: &mut F) -> Answer
-    ensures usage { IsNoCommand (word_bytes words.now) → answer_status result ≡ SUsage }
-    ensures outcome { IsWordsOutcome F.view (word_bytes words.now) files.old files.new
-        (answer_status result) (answer_text result) }
-    ensures writable { CanBeWritten result }
-    ensures idle { ReadsNoFiles (word_bytes words.now) → (files.new ≡ files.old) × (answer_status result ≢ SReadFault) }
+/// Answers the words.
+fn answer_words<F: Files, K: Sink>(
+    alloc: Global,
+    words: &[String],
+    files: &mut F,
+    out: &mut K,
+) -> Status
+    ensures { HasAnsweredWords F.view K.view (word_bytes words.now) files.old files.new out.old out.new result }
 {
     match parse(words) {
-        None => Answer::Usage,
-        Some(command) => answer_to(alloc, command, files),
-    }
-}
-
-/// Writes the text of an answer, where it has one, and returns the status.
-fn tell<K: Sink>(out: &mut K, answer: &Answer) -> Status
-    requires { CanBeWritten answer.now }
-    ensures same_modelled { (K.view out.new).modelled ≡ (K.view out.old).modelled }
-    ensures count { (K.view out.old).faults ≤ (K.view out.new).faults }
-    ensures kept { (result ≡ answer_status answer.now) ⊎ (result ≡ SWriteFault) }
-    ensures cause { result ≡ SWriteFault → Rose (K.view out.old).faults (K.view out.new).faults }
-    ensures silent { (answer_status answer.now ≡ SReadFault) ⊎ (answer_status answer.now ≡ SMemory)
-        → (result ≡ answer_status answer.now) × (out.new ≡ out.old) }
-    ensures whole { HasAnswered result → TakesWhole (K.view out.old) (answer_text answer.now) (K.view out.new) }
-    ensures short { result ≡ SWriteFault → TakesFirst (K.view out.old) (answer_text answer.now) (K.view out.new) }
-{
-    match answer {
-        Answer::Ended(Ending::ReadFault) => Status::ReadFault,
-        Answer::Ended(Ending::Memory) => Status::Memory,
-        _ => match write_answer(out, answer) {
-            Ok(()) => status(answer),
-            Err(Failed) => Status::WriteFault,
-        },
+        None => tell(out, &NoCommand),
+        Some(command) => perform(alloc, command, files, out),
     }
 }
 
@@ -303,8 +192,5 @@ pub fn run<F: Files, K: Sink>(alloc: Global, words: &[String], files: &mut F, ou
     ensures due { HasAnswered result → HasDueStatus
         (run_of F.view K.view words.now files.old out.old out.new result) }
 {
-    let answer = decide(alloc, words, files);
-    let status = tell(out, &answer);
-    drop(answer);
-    status
+    answer_words(alloc, words, files, out)
 }

@@ -5,14 +5,14 @@ use Rattle.pc_syntax.specs.Written.{WrittenModel}
 use Rattle.pc_ground.specs.declared.{front.Front.{Front}, version.Version.{Version}}
 use Rattle.command_base.specs.{Inputs.{Inputs, Contents, Says}, SecondFiles.{IsForm}, VerdictStatus.{IsTrueStatus}, Outcomes.{HasFront, IsFilesOutcome}}
 use Rattle.command_base.proofs.AnsweredFiles.{found_outcome, found_of, due_of_files}
-use Rattle.verdicts.specs.{declared.verdict.Verdict.{Verdict}, Verdicts.{status_of, verdict_text, IsVerdict}, Certified.{IsCertified}}
+use Rattle.verdicts.specs.{declared.verdict.FoundVerdict.{FoundVerdict}, Verdicts.{status_of, verdict_text, IsVerdict}, Certified.{IsCertified}}
 use Rattle.verdicts.proofs.{VerdictTexts.{verdict_certified}, CertifiedTruth.{certified_true, certified_due, no_usage_of, no_read_fault_of}}
 use Rattle.verdicts.specs.CheckAnswers.{AnswersCheck, IsCheckDue}
 
 module _ {F : Type 0} {view : F → FilesView} {old new : F}
     {case_of : List ℕ → Case → Type 0} {first_fault : List ℕ → List ℕ → InputFault → Type 0} {i : Inputs} where
   -- the verdict on the front of the two files
-  pub verdict_outcome : {front : Front} (f : HasFront view case_of i old new front) (v : Verdict) (version : Version)
+  pub verdict_outcome : {front : Front} (f : HasFront view case_of i old new front) (v : FoundVerdict) (version : Version)
       → v.version ≡ version → IsVerdict f.m f.c v
       → IsFilesOutcome view case_of first_fault i (IsCertified version) old new (status_of v.found) (verdict_text v)
   verdict_outcome f v version same is =

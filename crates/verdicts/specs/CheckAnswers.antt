@@ -4,7 +4,7 @@ use Rattle.pc_common.specs.{Outside.{FilesView}, Case.{Case}, declared.{fault.In
 use Rattle.pc_ground.specs.declared.version.Version.{Version}
 use Rattle.command_base.specs.{declared.{inputs.Inputs.{Inputs as CodeInputs}, ending.Ending.{Ending}}, Inputs.{Inputs, Contents, plain_inputs}}
 use Rattle.command_base.specs.{Endings.{HasOutcome}, Outcomes.{IsFilesOutcome}, VerdictStatus.{IsDueStatus}, FileAnswers.{AnswersFiles, IsDueOfFiles}}
-use Rattle.verdicts.specs.{declared.verdict.Verdict.{Verdict}, Verdicts.{status_of, verdict_text}, Certified.{IsCertified}}
+use Rattle.verdicts.specs.{declared.verdict.FoundVerdict.{FoundVerdict}, Verdicts.{status_of, verdict_text}, Certified.{IsCertified}}
 
 module _ (case_of : List ℕ → Case → Type 0) (first_fault : List ℕ → List ℕ → InputFault → Type 0) (holds : Contents)
     (i : Inputs) where
@@ -18,7 +18,7 @@ module _ (case_of : List ℕ → Case → Type 0) (first_fault : List ℕ → Li
 
 -- what `check` returns: the verdict with its certificate, or the ending
 abbrev pub ReturnsVerdict : {F : Type 0} → (F → FilesView) → (List ℕ → Case → Type 0)
-    → (List ℕ → List ℕ → InputFault → Type 0) → Version → CodeInputs → F → F → Result Verdict Ending → Type 0
+    → (List ℕ → List ℕ → InputFault → Type 0) → Version → CodeInputs → F → F → Result FoundVerdict Ending → Type 0
 ReturnsVerdict view case_of first_fault version i old new result =
     HasOutcome result (λ v. status_of v.found) verdict_text
     (IsFilesOutcome view case_of first_fault (plain_inputs i) (IsCertified version) old new)

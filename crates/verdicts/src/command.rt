@@ -3,7 +3,7 @@ ghost use Rattle.pc_ground.specs.NodeForm.{names_of};
 ghost use Rattle.verdicts.specs.Verdicts.{IsWritable};
 ghost use Rattle.verdicts.specs.CheckAnswers.{ReturnsVerdict};
 
-use super::verdict::{Verdict, short_verdict_on};
+use super::verdict::{FoundVerdict, short_verdict_on};
 use command_base::{Ending, Inputs, SecondFile, read_inputs};
 use pc_common::{Files, Memory};
 use pc_ground::Version;
@@ -16,7 +16,7 @@ pub fn check<S: SecondFile, F: Files>(
     inputs: Inputs<'_>,
     version: Version,
     files: &mut F,
-) -> Result<Verdict, Ending>
+) -> Result<FoundVerdict, Ending>
     ensures outcome { ReturnsVerdict F.view S.case_of S.first_fault version inputs.entry files.old files.new result }
     ensures writable { IfOk result (λ v. IsWritable (names_of v.front) v.found) }
 {

@@ -29,4 +29,4 @@ mod verdict;
 pub use command::check;
 pub use counting::{Counts, count_found};
 pub use report::write_verdict;
-pub use verdict::{Verdict, short_verdict_on, verdict_kind, verdict_on, verdict_status};
+pub use verdict::{FoundVerdict, short_verdict_on, verdict_kind, verdict_on, verdict_status};

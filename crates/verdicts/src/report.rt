@@ -5,7 +5,7 @@ ghost use Rattle.pc_ground.specs.NodeForm.{names_of};
 ghost use Rattle.refutation.specs.Steps.{step_text, IsStepIn};
 ghost use Rattle.verdicts.specs.Verdicts.{version_text, body_text, verdict_text, IsWritable};
 
-use super::verdict::{Verdict, verdict_kind};
+use super::verdict::{FoundVerdict, verdict_kind};
 use cert_check::{second_line, verdict_line};
 use graph_text::write_graph;
 use pc_common::{Failed, Sink, write_all};
@@ -56,7 +56,7 @@ fn write_body<K: Sink>(
 
 /// Writes a verdict with its certificate: the two lines before the body and the last one as one piece each.
 /// Takes no memory.
-pub fn write_verdict<K: Sink>(out: &mut K, verdict: &Verdict) -> Result<(), Failed>
+pub fn write_verdict<K: Sink>(out: &mut K, verdict: &FoundVerdict) -> Result<(), Failed>
     requires { IsWritable (names_of verdict.now.front) verdict.now.found }
     ensures { Writes K.view out.old out.new result (verdict_text verdict.now) }
 {

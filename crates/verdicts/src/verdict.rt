@@ -5,7 +5,7 @@ ghost use Rattle.pc_front.specs.Front.{IsFrontOf};
 ghost use Rattle.cert_check.specs.Verdicts.{plain_verdict};
 ghost use Rattle.verdicts.specs.Verdicts.{kind_of_found, status_of, IsVerdict};
 
-use cert_check::Verdict as Kind;
+use cert_check::Verdict;
 use pc_common::{Memory, Status};
 use pc_ground::{Front, Version};
 use search_trait::{search_front, shorten_found};
@@ -13,7 +13,7 @@ use solver::Answer as Found;
 use std::alloc::Global;
 
 /// What is found of a model and a test: their front, and a graph that shows the outcome or a refutation.
-pub struct Verdict {
+pub struct FoundVerdict {
     pub front: Front,
     /// That of the refutation, where there is one.
     pub version: Version,
@@ -21,9 +21,9 @@ pub struct Verdict {
 }
 
 // By hand: docs/DECISIONS.md, "Drops are written by hand".
-impl Drop for Verdict {
+impl Drop for FoundVerdict {
     fn drop(self) {
-        let Verdict {
+        let FoundVerdict {
             front: _,
             version: _,
             found: _,
@@ -32,13 +32,13 @@ impl Drop for Verdict {
 }
 
 /// What the search finds of a front: a verdict on each model and case that it is the front of.
-pub fn verdict_on(alloc: Global, front: Front, version: Version) -> Result<Verdict, Memory>
+pub fn verdict_on(alloc: Global, front: Front, version: Version) -> Result<FoundVerdict, Memory>
     ensures front { IfOk result (λ v. v.front ≡ front) }
     ensures version { IfOk result (λ v. v.version ≡ version) }
     ensures verdict { IfOk result (λ v. (m : WrittenModel) (c : PlainCase) → IsFrontOf m c front → IsVerdict m c v) }
 {
     let found = search_front(alloc, &front, version)?;
-    Ok(Verdict {
+    Ok(FoundVerdict {
         front,
         version,
         found,
@@ -46,14 +46,18 @@ pub fn verdict_on(alloc: Global, front: Front, version: Version) -> Result<Verdi
 }
 
 /// The same, where a refutation leaves out the splits that it does not need.
-pub fn short_verdict_on(alloc: Global, front: Front, version: Version) -> Result<Verdict, Memory>
+pub fn short_verdict_on(
+    alloc: Global,
+    front: Front,
+    version: Version,
+) -> Result<FoundVerdict, Memory>
     ensures front { IfOk result (λ v. v.front ≡ front) }
     ensures version { IfOk result (λ v. v.version ≡ version) }
     ensures verdict { IfOk result (λ v. (m : WrittenModel) (c : PlainCase) → IsFrontOf m c front → IsVerdict m c v) }
 {
     let found = search_front(alloc, &front, version)?;
     let short = shorten_found(alloc, &front, version, found)?;
-    Ok(Verdict {
+    Ok(FoundVerdict {
         front,
         version,
         found: short,
@@ -61,7 +65,7 @@ pub fn short_verdict_on(alloc: Global, front: Front, version: Version) -> Result
 }
 
 /// The status of a verdict.
-pub fn verdict_status(verdict: &Verdict) -> Status
+pub fn verdict_status(verdict: &FoundVerdict) -> Status
     ensures { result ≡ status_of verdict.now.found }
 {
     match verdict.found {
@@ -71,11 +75,11 @@ pub fn verdict_status(verdict: &Verdict) -> Status
 }
 
 /// Which verdict was found.
-pub fn verdict_kind(found: &Found) -> Kind
+pub fn verdict_kind(found: &Found) -> Verdict
     ensures { plain_verdict result ≡ kind_of_found found.now }
 {
     match found {
-        Found::Observable(_) => Kind::Observable,
-        Found::Unobservable(_) => Kind::Unobservable,
+        Found::Observable(_) => Verdict::Observable,
+        Found::Unobservable(_) => Verdict::Unobservable,
     }
 }

@@ -1,17 +1,19 @@
 use Rattle.std.{proofs.Common.{refl}, specs.Prelude.{codes}}
-use Rattle.cert_check.{specs.Questions.{question_of}, proofs.{Advances.{graph_end_stuck, graph_ended}, Shown.{parts_of, no_world, some_world}}}
+use Rattle.cert_check.{specs.Subjects.{question_of_subject}, proofs.{Advances.{graph_end_stuck, graph_ended}, Judged.{after_header}, Shown.{no_world, some_world}}}
 use Rattle.cert_check.proofs.next.end_graph.Goals as goal
 
 pub returns-then-not-branch : goal.returns-then-not-branch
-returns-then-not-branch c = λ lines so_far.
-    graph_end_stuck (question_of c.args.front.now) c.args.graph.now lines (codes "end") so_far refl
-    (no_world (parts_of c.args.front.now) c.graph.result.now c.args.graph.now c.graph.ensures.nodes c.graph.ensures.edges
-    c.in_ok-check_graph.field-0 c.in_ok-check_graph.ensures
+returns-then-not-branch c = λ lines so_far can.
+    graph_end_stuck (question_of_subject c.args.subject.now) c.args.graph.now lines (codes "end") so_far refl
+    (no_world c.args.subject.now c.graph.result.now c.args.graph.now c.graph.ensures.nodes c.graph.ensures.edges
+    c.in_ok-check_graph_of.field-0 c.in_ok-check_graph_of.ensures
     c.if-not-branch.true)
 
 pub returns : goal.returns
-returns c = λ lines so_far.
-    graph_ended (question_of c.args.front.now) c.args.graph.now lines (codes "end") so_far refl
-    (some_world (parts_of c.args.front.now) c.graph.result.now c.args.graph.now c.graph.ensures.nodes c.graph.ensures.edges
-    c.in_ok-check_graph.field-0 c.in_ok-check_graph.ensures
-    c.if-not-branch.false so_far.of_names)
+returns c = λ lines so_far. (
+  after_header c.args.subject.now so_far.lines_are,
+  graph_ended (question_of_subject c.args.subject.now) c.args.graph.now lines (codes "end") so_far refl
+      (some_world c.args.subject.now c.graph.result.now c.args.graph.now c.graph.ensures.nodes c.graph.ensures.edges
+      c.in_ok-check_graph_of.field-0 c.in_ok-check_graph_of.ensures
+      c.if-not-branch.false so_far.of_names),
+)

@@ -1,4 +1,3 @@
-use Rattle.std.proofs.Common.{true, false}
 use Rattle.pc_common.proofs.Bools.{clash}
 use Rattle.cert_check.specs.{Questions.{question_of}, declared.one.One.TheVariants.{Graph, Tree, Refused}}
 use Rattle.cert_check.proofs.OneTexts.{one_two, one_seen, tree_steps, one_unseen, one_at, only_one}

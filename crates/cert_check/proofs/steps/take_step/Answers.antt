@@ -1,4 +1,4 @@
-use Rattle.std.proofs.Common.{true, false, refl}
+use Rattle.std.proofs.Common.{refl}
 use Rattle.pc_common.proofs.Bools.{clash}
 use Rattle.cert_check.proofs.StepReads.{never_one_line, last_ahead, is_open, is_step, has_read}
 use Rattle.cert_check.proofs.steps.take_step.Goals as goal

@@ -1,7 +1,7 @@
 use Rattle.std.proofs.{Common.{◌≡◌, ◌≤◌, ◌+◌, ◌-◌, ℕ, length, sym, ◌∙◌, ap, subst, arith}, lemmas.Option.{slice_get_within}}
 use Rattle.pc_ground.specs.Tree.{always}
 use Rattle.lifted_facts.specs.PlainFacts.{plain_fact}
-use Rattle.lifter.specs.{Trees.{fact_tree}, declared.kind.Kind.TheVariants.{True, Open}, Kinds.{kind_of}, PartLists.{parts}}
+use Rattle.lifter.specs.{Trees.{fact_tree}, declared.kind.FactKind.TheVariants.{True, Open}, Kinds.{kind_of}, PartLists.{parts}}
 use Rattle.lifter.proofs.PartWays.{rest_of, rest_end, true_part, last_found}
 use Rattle.lifter.proofs.fact_kind.last_open.Goals as goal
 

@@ -2,7 +2,7 @@
 use Rattle.std.proofs.Common.{◌≡◌}
 use Rattle.pc_ground.specs.Stages.{plain_axioms}
 use Rattle.lifted_facts.specs.PlainFacts.{root}
-use Rattle.lifter.specs.{declared.kind.Kind.TheVariants.{False}, Kinds.{kind_of}, PartLists.{facts_from}}
+use Rattle.lifter.specs.{declared.kind.FactKind.TheVariants.{False}, Kinds.{kind_of}, PartLists.{facts_from}}
 use Rattle.lifter.proofs.roots.false_axiom.Given as goal
 
 abbrev pub invariant-loop-k : goal.invariant-loop-k

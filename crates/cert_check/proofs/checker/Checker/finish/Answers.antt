@@ -1,7 +1,5 @@
-use Rattle.std.proofs.Common.{subst}
 use Rattle.pc_common.specs.declared.limits.TheConstants.{MAX_CERTIFICATE}
-use Rattle.cert_check.{specs.{Certificates.{Question}, Proper.{IsAsked}, Questions.{question_of}}, proofs.Outcomes.{outcome_holds}}
-use Rattle.cert_check.proofs.Verified.{whole_verified, refused_verified}
+use Rattle.cert_check.{specs.Questions.{question_of}, proofs.{Outcomes.{outcome_holds}, Verified.{whole_verified, refused_verified}}}
 use Rattle.cert_check.proofs.checker.Checker.finish.Goals as goal
 
 pub returns-in-Whole-clause-verified : goal.returns-in-Whole-clause-verified
@@ -17,6 +15,5 @@ returns-in-Whole-clause-outcome c = λ front text fed.
 
 pub returns-in-Refused-clause-verified : goal.returns-in-Refused-clause-verified
 returns-in-Refused-clause-verified c = λ q text fed.
-    let A : Question → Type 0 = λ p. IsAsked p in
-    refused_verified q (subst A fed.front (c.show_asked.ensures c.of.ensures.view)) fed.start fed.asks text c.in-Refused.line
+    refused_verified q fed.asked.readable fed.start fed.asks text (λ says. (fed.tree, fed.asked)) c.in-Refused.line
     (c.in-Refused.ensures fed.start MAX_CERTIFICATE text fed.taken)

@@ -1,0 +1,350 @@
+#!/usr/bin/env python3
+"""Prints what commands take beside `check`, or beside the command that wrote what they judge. Each figure stands beside its bar.
+
+    bench/commands.py                      all of these, some ten minutes
+    bench/commands.py ask [MODEL ..]       of all questions of examples/queries, or those on these models: over one `check`
+    bench/commands.py core [MODEL ..]      of MP, SB and IRIW on all shipped models, or these: over as many checks as it makes searches
+    bench/commands.py sweep [MODEL]        of 4,096 rows on sc-inorder, or the model at this path: over the checks of its rows
+    bench/commands.py lift [all]           of some shipped tests on all models, or of all, which takes half an hour: over `verify`
+    bench/commands.py verify               over the `check` that wrote the text, and how it grows with the text
+    bench/commands.py verify-lifted        how it grows with the text, and how its memory stands to the ground tree, which is never made
+
+- An *ask* reads three files, makes two ground trees and two searches.
+- A *core* makes a search for each axiom and one more, then one for the set and one for each of its members; where the outcome
+  is observable it makes one, and is beside the table. Files are read and closed once.
+- A *sweep* stands beside `check` of 64 of its rows, drawn evenly, times 64; and the peak of its heap beside the greatest of those.
+  How the heap grows with the rows alone is asked on a model to which values are all the same, of 64 rows and of 4,096.
+- A *lift* may take three times the instructions of `verify` of the refutation, and 3,000 for each line that it writes; the
+  greatest share of that which one took is shown, and the bytes of the lifted texts over those of the refutations.
+- `verify-lifted` is asked of a refutation of 40 lines whose ground tree would have some 66 million positions, beside the test
+  without micro-ops; and of a text of lines of many kinds, of which one in seven adds a fact for good.
+
+Instructions and the heap are counted by valgrind, and are the same in each run, whatever else the machine does. The exit status
+is 1 where the verdict of a row of a sweep differs from that of its check or something could not be counted, 2 where the words
+are others, and else 0.
+"""
+import os
+import re
+import sys
+import tempfile
+from collections.abc import Callable
+from concurrent.futures import ThreadPoolExecutor
+from itertools import product
+
+sys.dont_write_bytecode = True
+
+# pylint: disable=wrong-import-position
+from counting import (
+    MIB, TOP, counted, heap_peak, instructions, names_of, peak_bytes, program, saved, saved_all, shipped, show, show_all
+)
+from questions import ONE_WRITE, RING, access, choices, fences_apart, ring, test_of
+
+Words = tuple[str, ...]
+
+
+def of_examples(*names: str) -> list[str]:
+    """The paths of files of examples."""
+    return [os.path.join(TOP, "examples", name) for name in names]
+
+
+def chosen(names: Words, there: list[str]) -> list[str]:
+    """These names, each of which has to be there, or all."""
+    for name in names:
+        if name not in there:
+            raise ValueError(f"there is no model {name}; there are {', '.join(there)}")
+    return list(names) or there
+
+
+def ask(*models: str) -> bool:
+    """A line for each question, and the greatest ratio."""
+    with open(of_examples("queries/answers.tsv")[0], encoding="ascii") as file:
+        rows = [line.rstrip("\n").split("\t") for line in file][1:]
+    ratios, known = [], chosen(models, sorted({row[1] for row in rows}))
+    for query, model, test, word in rows:
+        if model in known:
+            paths = shipped("models", model) + shipped("tests", test)
+            single, spent = instructions("check", *paths), instructions("ask", *paths, *shipped("queries", query))
+            ratios.append(spent / single)
+            print(f"{query:24} {model:12} {test:11} {word:9} {spent / 1e6:6.1f} million, a check {single / 1e6:5.1f}: "
+                  f"{spent / single:.2f}", flush=True)
+    show_all(ratios, "questions", 2.2)
+    return True
+
+
+def core(*models: str) -> bool:
+    """A line for each pair, and the greatest ratio."""
+    ratios = []
+    for model, test in product(chosen(models, names_of("models", ".uspec")), ("MP", "SB", "IRIW")):
+        paths = shipped("models", model) + shipped("tests", test)
+        found, single = counted("core", *paths), instructions("check", *paths)
+        with open(paths[0], encoding="ascii") as file:
+            axioms = len(re.findall(r"^Axiom ", file.read(), re.M))
+        searches = 1 if found.first == "core none" else axioms + 2 + int(found.first.split()[1])
+        ratio = found.instructions / (searches * single)
+        print(f"{model:12} {test:4} {found.first:9} {searches:3} searches {found.instructions / 1e6:7.1f} million, "
+              f"a check {single / 1e6:5.1f}: {ratio:.2f}", flush=True)
+        ratios += [ratio] if searches > 1 else []
+    show_all(ratios, "pairs with a core", 0.7)
+    return True
+
+
+CORES = 3
+ROWS = list(product(range(CORES + 1), repeat=2 * CORES))
+DRAWN = 64
+
+
+def row_of(values: tuple[int | str, ...]) -> str:
+    """Three cores, two addresses that each writes once, and six reads, which get these values; `Any` leaves one open."""
+    return test_of(
+        (core, [op]) for core in range(CORES) for at in range(2)
+        for op in (access("Write", (core + at) % 2, core + 1), access("Read", (core + at + 1) % 2, values[2 * core + at]))
+    )
+
+
+def alike(count: int) -> str:
+    """A pattern of twelve open reads, of which so many are of an address that is written: 2 to this power are its rows."""
+    reads = [(1, [access("Read", 0 if k < count else 1, "Any")]) for k in range(12)]
+    return test_of([(0, [access("Write", 0, 1)]), *reads])
+
+
+def sweep(model: str = "") -> bool:
+    """What a sweep takes beside the checks of its rows. Whether the verdicts are the same."""
+    model = model or shipped("models", "sc-inorder")[0]
+    with tempfile.TemporaryDirectory() as folder:
+        pattern = saved(folder, "p.pattern", row_of(("Any",) * 2 * CORES))
+        whole = counted("sweep", model, pattern)
+        rows = [line.split() for line in whole.text.splitlines() if line.startswith("row ")]
+        found = {tuple(map(int, row[1:-1])): row[-1] for row in rows}
+        if list(found) != ROWS:
+            raise SystemExit(f"not counted: no pattern of {len(ROWS)} rows is swept: {whole.text[:80]!r}")
+        part, single, heap, same = len(ROWS) // DRAWN, 0, 0, True
+        for row in (ROWS[k * part + 37 * k % part] for k in range(DRAWN)):
+            test = saved(folder, "r.test", row_of(row))
+            check = counted("check", model, test)
+            single, heap = single + check.instructions, max(heap, heap_peak("check", model, test))
+            same = same and check.first == found[row]
+        print(f"{len(ROWS)} rows, {list(found.values()).count('observable')} observable")
+        alone = single * part
+        show("instructions of a sweep over those of checks of its rows", whole.instructions / alone, 0.9,
+             f"   {whole.instructions:,} over {alone:,}")
+        peak = heap_peak("sweep", model, pattern)
+        print(f"heap: {peak:,} bytes of the sweep, {heap:,} of a check of {DRAWN} at most", flush=True)
+        few, many = (heap_peak("sweep", *of_examples("po.uspec"), saved(folder, "a.pattern", alike(k))) for k in (6, 12))
+        show("bytes of the heap for a row, from 64 to 4,096 rows", (many - few) / (2**12 - 2**6), 1.0, f"   {few:,} to {many:,}")
+    if not same:
+        print("VERDICTS DIFFER")
+    return same
+
+
+def lift_of(pair: Words) -> tuple[float, int, int] | None:
+    """Of a model and a test whose outcome is not observable: the share that `lift` takes of what it may, the bytes that it
+    writes, and those of the refutation; None of others."""
+    refutation = counted("check", *pair).text
+    if not refutation.startswith("unobservable\n"):
+        return None
+    with tempfile.TemporaryDirectory() as folder:
+        files = [*pair, saved(folder, "certificate", refutation)]
+        judging = instructions("verify", *files, says="verified unobservable\n")
+        lifting = counted("lift", *files, says="unobservable\n")
+    may = 3 * judging + 3_000 * lifting.text.count("\n")
+    return lifting.instructions / may, len(lifting.text), len(refutation)
+
+
+def lift(which: str = "") -> bool:
+    """What lifting takes, on all shipped models with all tests, or with every tenth one."""
+    if which not in ("", "all"):
+        raise ValueError(f"lift takes all tests by `all`, and no {which}")
+    tests = names_of("tests", ".test")[:: 1 if which else 10]
+    pairs = product(shipped("models", *names_of("models", ".uspec")), shipped("tests", *tests))
+    # it is made before any call, where it has to be
+    program()
+    with ThreadPoolExecutor(os.cpu_count()) as pool:
+        found = [one for one in pool.map(lift_of, pairs) if one is not None]
+    show(f"the greatest share that `lift` takes of what it may, of {len(found)} pairs", max(share for share, _, _ in found), 1)
+    longer = sum(lifted for _, lifted, _ in found) / sum(written for _, _, written in found)
+    show("bytes of the lifted texts over those of the refutations", longer, 20)
+    return True
+
+
+EITHER = '''StageName 0 "S".
+StageName 1 "T".
+Axiom "either": forall microops "i", forall microops "j", ProgramOrder i j =>
+  AddEdge ((i, S), (j, S), "") \\/ AddEdge ((j, S), (i, S), "").
+Axiom "late": forall microops "i", forall microops "j", ProgramOrder i j =>
+  ~EdgeExists ((i, S), (j, S), "") /\\ AddEdge ((i, S), (i, T), "")
+  /\\ ~EdgeExists ((j, S), (i, T), "").
+'''
+TWO_WRITES = test_of([(0, [access("Write", 0, value)]) for value in (1, 2)], "Forbidden.\n")
+# a model that names all stages, and asks for one edge
+ALL_STAGES = "".join(f'StageName {k} "S{k}".\n' for k in range(64))
+ONE_EDGE = ALL_STAGES + 'Axiom "one": exists microop "i", EdgeExists ((i, (0, S0)), (i, (0, S1))).\n'
+HEAD, AGAIN, LAST = "unobservable\ntest forbidden: ok\n", "split 1\npath 0.0@0:S 1.0@0:S\n", "path 1.0@0:S 0.0@0:S 0.0@0:T\nend\n"
+
+
+def show_over_check(folder: str, what: str, bar: float, files: list[str]) -> None:
+    """One line: the instructions of `verify` over those of the `check` that wrote the text."""
+    found = counted("check", *files)
+    splits = len(re.findall("^split", found.text, re.M))
+    ratio = instructions("verify", *files, saved(folder, "certificate", found.text)) / found.instructions
+    show(f"verify over check, {what}, {splits} splits", ratio, bar)
+
+
+def graph(count: int, has_edges: bool) -> str:
+    """A graph of so many nodes: of each micro-op in turn those of all cores and stages; each with an edge to the next, if asked."""
+    named = [f"{op}.0@{core}:S{stage}" for op in range(64) for core in range(64) for stage in range(64)][:count]
+    edges = [f"edge {a} {b}\n" for a, b in zip(named, named[1:])] if has_edges else []
+    return "".join(["observable\ntest unstated\n", *(f"node {it}\n" for it in named), *edges, "end\n"])
+
+
+def verify() -> bool:
+    """What judging takes over finding, how it grows with the text, and its memory."""
+    with tempfile.TemporaryDirectory() as folder:
+        def judged(files: list[str], text: str) -> int:
+            return instructions("verify", *files, saved(folder, "certificate", text), says="verified ")
+
+        def peak(files: list[str], text: str) -> int:
+            return peak_bytes("verify", *files, saved(folder, "certificate", text))
+
+        show_over_check(folder, "the ring of 16 cores", 1.0, saved_all(folder, model=RING, test=ring(16)))
+        for pair in (("in-order.uspec", "mp.test"), ("in-order.uspec", "sb.test"), ("store-buffer.uspec", "sb.test"),
+                     ("models/tso-buffer.uspec", "tests/IRIW.test"), ("models/sc-ooo.uspec", "tests/3.SB.test")):
+            show_over_check(folder, " and ".join(pair), 1.0, of_examples(*pair))
+        long = saved_all(folder, model=choices(120, 2), test=ONE_WRITE)
+        show_over_check(folder, "a random question of 120 choices", 0.1, long)
+        files = saved_all(folder, model=EITHER, test=TWO_WRITES)
+        half, whole = (judged(files, HEAD + AGAIN * (lines // 2) + LAST) for lines in (500_000, 1_000_000))
+        show("a certificate of a million lines over half of it", whole / half, 2.2)
+        full = HEAD + AGAIN * ((64 * MIB - len(HEAD) - len(LAST)) // len(AGAIN)) + LAST
+        show("MiB of memory for a text of 64 MiB of short lines, above those for an empty one",
+             (peak(files, full) - peak(files, "")) / MIB, 32)
+        # graphs of more nodes than `check` writes
+        files = saved_all(folder, model=ONE_EDGE, test=fences_apart(64))
+        half, whole = (judged(files, graph(edges + 1, True)) for edges in (8_192, 16_384))
+        show("a chain of 16,384 edges, of which the model asks for one, over one of 8,192", whole / half, 2.2)
+        files = saved_all(folder, model=ALL_STAGES, test=fences_apart(64))
+        show("MB of memory for 262,144 nodes", peak(files, graph(1 << 18, False)) / 1e6, 100)
+    return True
+
+
+LINES, MANY = 40, 1_000_000
+# for all four, no edge can be the second one where k is l: so each i is before each other j
+FOUR = """StageName 0 "S".
+Axiom "four": forall microops "i", forall microops "j", forall microops "k", forall microops "l",
+  ~SameMicroop i j => AddEdge ((i, S), (j, S)) \\/ AddEdge ((k, S), (l, S)).
+"""
+
+
+class Lifted:
+    """A lifted refutation that is being written. It counts the facts of the branch that is open."""
+
+    def __init__(self, second: str, facts: int) -> None:
+        self.lines = ["unobservable", second, "lifted"]
+        self.facts = facts
+
+    def adds(self, *words: str | int) -> int:
+        """A line that adds a fact, whose number is answered."""
+        self.says(*words)
+        self.facts += 1
+        return self.facts - 1
+
+    def says(self, *words: str | int) -> None:
+        """A line that adds none."""
+        self.lines.append(" ".join(map(str, words)))
+
+    def text(self) -> str:
+        """The text."""
+        return "\n".join([*self.lines, "end", ""])
+
+    def edge_of_four(self, i: int, j: int) -> tuple[int, int]:
+        """Both branches that the axiom of four leaves at i, j and twice 0.0: on the left one the edge from i to j. Answers its
+        number and that of the right side, which is closed later."""
+        fact = 0
+        for op in (i, j, 0, 0):
+            fact = self.adds("inst", fact, f"{op}.0")
+        premise = self.adds("split", fact)
+        self.says("not", premise)
+        self.says("false", premise + 1)
+        # the right branch has the conclusion in place of the premise
+        side = self.adds("split", premise)
+        return self.adds("member", side, 0), side
+
+    def back_and_forth(self, edge: int) -> None:
+        """Closes the branch by this edge and its reverse."""
+        reverse = self.adds("inst", self.adds("inst", 1, "0.0"), "1.0")
+        side = self.adds("split", reverse)
+        self.says("false", side)
+        self.says("cycle", edge, self.adds("member", side, 0))
+
+
+def four_text() -> str:
+    """A cycle of three edges, each of which the axiom has a second choice beside; lines without use fill it up."""
+    text = Lifted("test unstated", 1)
+    while len(text.lines) < LINES - 35:
+        text.adds("inst", 0, "0.0")
+    found = [text.edge_of_four(k, (k + 1) % 3) for k in range(3)]
+    text.says("cycle", *(edge for edge, _ in found))
+    for _, side in reversed(found):
+        # the edge from 0.0 to itself, on the right branch
+        text.facts = side + 1
+        text.says("cycle", text.adds("member", side, 0))
+    return text.text()
+
+
+def long_text(count: int) -> str:
+    """About so many lines on a shipped pair: the axiom is split again and again, and each left branch is closed by a cycle with
+    the other axiom."""
+    text = Lifted("test forbidden: ok", 2)
+    order = text.adds("inst", text.adds("inst", 0, "0.0"), "1.0")
+    text.says("false", text.adds("split", order))
+    edge = text.adds("member", order + 1, 0)
+    while len(text.lines) < count:
+        kept = text.adds("split", order)
+        text.back_and_forth(edge)
+        # the right branch has one fact more
+        text.facts = kept + 1
+    text.back_and_forth(edge)
+    return text.text()
+
+
+def verify_lifted() -> bool:
+    """What judging a lifted refutation takes."""
+    says, four = "verified unobservable\n", four_text()
+    assert four.count("\n") == LINES
+    with tempfile.TemporaryDirectory() as folder:
+        full = heap_peak("verify-lifted", *saved_all(folder, model=FOUR, test=fences_apart(64), text=four), says=says)
+        # without micro-ops the axiom is true, and the first line that asks for one is refused
+        files = saved_all(folder, model=FOUR, test=fences_apart(0), text=four)
+        empty = heap_peak("verify-lifted", *files, says="certificate refused at line 4\n")
+        show(f"MiB of heap for 64 micro-ops, four quantifiers, {LINES} lines, above those of no micro-op", (full - empty) / MIB, 8)
+        texts = [long_text(MANY // 2), long_text(MANY)]
+        pair = of_examples("po-and-reverse.uspec", "two-forbidden.test")
+        words = [["verify-lifted", *pair, saved(folder, f"text{k}", text)] for k, text in enumerate(texts)]
+        half, whole = (instructions(*it, says=says) for it in words)
+        show("a text of a million lines over half of it", whole / half, 2.2, f"   {whole / MANY:.0f} instructions for each line")
+        half, whole = (heap_peak(*it, says=says) for it in words)
+        facts = (texts[1].count("\n") - texts[0].count("\n")) / 7
+        print(f"bytes of heap for each fact of the open branches: {(whole - half) / facts:.0f}")
+    return True
+
+
+COMMANDS: dict[str, Callable[..., bool]] = {
+    "ask": ask, "core": core, "sweep": sweep, "lift": lift, "verify": verify, "verify-lifted": verify_lifted
+}
+# of how many words each can be
+MOST = {"sweep": 1, "lift": 1, "verify": 0, "verify-lifted": 0}
+
+
+def main(words: list[str]) -> int:
+    """The tables."""
+    if words and (words[0] not in COMMANDS or len(words) - 1 > MOST.get(words[0], len(words))):
+        print(__doc__, file=sys.stderr)
+        return 2
+    try:
+        return 0 if all([COMMANDS[name](*words[1:]) for name in words[:1] or COMMANDS]) else 1
+    except ValueError as reason:
+        print(f"commands: {reason}", file=sys.stderr)
+        return 2
+
+
+if __name__ == "__main__":
+    sys.exit(main(sys.argv[1:]))

@@ -1,0 +1,104 @@
+#!/usr/bin/env python3
+"""Prints how long the program takes beside solvers of the system's packages, in one run, and compares the verdicts.
+
+    bench/peers.py [RING ..]                           rings of so many cores (4, 8, 12 and 16 where none are named), and litmus
+                                                    tests on shipped pipelines, each beside all solvers that are here
+    bench/peers.py --shipped [--test TEST] [MODEL ..]  all shipped tests, or this one, on all shipped models, or these, beside z3
+
+docs/performance.md says what a ring is, and bench/solvers.py how the others are asked. A time is the least of five calls, and
+with --shipped of one, one after the other, so that a pair is timed on a machine in one state; the ten slowest pairs are printed. The
+bars: at 16 cores at most 1.0 times cadical and 0.5 times z3; a litmus test at most 0.2 times z3; with --shipped 0.2 times z3
+in total, and no pair over 2 times. The exit status is 1 where verdicts differ or one does not come, 2 where there is no z3 or no
+such model or test, and else 0.
+"""
+import math
+import os
+import shutil
+import sys
+import tempfile
+from itertools import product
+
+sys.dont_write_bytecode = True
+
+# pylint: disable=wrong-import-position
+import solvers
+from counting import names_of, program, saved_all, shipped, timed
+from questions import RING, ring
+
+CALLS, SLOWEST = 5, 10
+
+
+def beside(folder: str, paths: list[str], calls: int, *names: str) -> tuple[float, bool | None, dict[str, float], bool]:
+    """The seconds of `check` by the clock, its verdict, the seconds of these solvers, and whether all verdicts are one."""
+    answer = os.path.join(folder, "text")
+    ours = timed(math.inf, answer, program(), "check", *paths, calls=calls).clock
+    with open(answer, encoding="ascii") as file:
+        verdict = solvers.verdict_of(file.read())
+    verdicts, theirs = {verdict}, {}
+    for name, found in solvers.asked(folder, paths, *names, calls=calls):
+        assert found is not None
+        verdicts.add(found.verdict)
+        theirs[name] = found.call.clock
+    return ours, verdict, theirs, len(verdicts) == 1 and verdict is not None
+
+
+def compare(name: str, folder: str, paths: list[str]) -> bool:
+    """One line of the table. Whether all verdicts are one."""
+    ours, verdict, theirs, same = beside(folder, paths, CALLS, *solvers.SOLVERS)
+    said = {None: "no verdict", False: "unobservable", True: "observable"}[verdict]
+    cells = [f"{name:24} {1000 * ours:8.1f} ms {said:12}"]
+    cells += [f"{solver} {1000 * seconds:8.1f} ms, {ours / seconds:5.2f} x" for solver, seconds in theirs.items()]
+    print("   ".join(cells) + ("" if same else "   VERDICTS DIFFER"), flush=True)
+    return same
+
+
+def some(rings: list[int]) -> int:
+    """The rings and some litmus tests. The exit status."""
+    with tempfile.TemporaryDirectory() as folder:
+        same = [compare(f"ring of {cores}", folder, saved_all(folder, model=RING, test=ring(cores))) for cores in rings]
+        for model, test in product(("sc-inorder", "tso-buffer"), ("MP", "SB", "IRIW")):
+            same.append(compare(f"{test} on {model}", folder, shipped("models", model) + shipped("tests", test)))
+    return 0 if all(same) else 1
+
+
+def all_shipped(words: list[str]) -> int:
+    """The shipped pairs that the words name. The exit status."""
+    models, tests = names_of("models", ".uspec"), names_of("tests", ".test")
+    of_test = words[1:2] if words[:1] == ["--test"] else []
+    of_model = words[2:] if of_test else words
+    unknown = [name for name in of_model if name not in models] + [name for name in of_test if name not in tests]
+    lacking = [f"there is no {unknown[0]} in examples/models or examples/tests"] if unknown else []
+    if not shutil.which("z3"):
+        lacking.append("there is no z3 here, which the program is timed beside")
+    if lacking:
+        print(f"peers: {lacking[0]}", file=sys.stderr)
+        return 2
+    pairs, differ = [], 0
+    with tempfile.TemporaryDirectory() as folder:
+        for model, test in product(of_model or models, of_test or tests):
+            ours, _, theirs, same = beside(folder, shipped("models", model) + shipped("tests", test), 1, "z3")
+            pairs.append((ours, theirs["z3"], f"{model} {test}"))
+            if not same:
+                differ += 1
+                print(f"VERDICTS DIFFER: {model} {test}", flush=True)
+    for one, other, name in sorted(pairs, reverse=True)[:SLOWEST]:
+        print(f"{name:40} {1000 * one:8.1f} ms   z3 {1000 * other:8.1f} ms, {one / other:5.2f} x")
+    one, other = sum(pair[0] for pair in pairs), sum(pair[1] for pair in pairs)
+    most = max(one / other for one, other, _ in pairs)
+    print(f"{len(pairs)} pairs: {one:.2f} s, z3 {other:.2f} s, {one / other:.3f} x (bar 0.2); "
+          f"at most {most:.2f} x for a pair (bar 2); {differ} verdicts differ")
+    return 1 if differ else 0
+
+
+def main(words: list[str]) -> int:
+    """The table."""
+    if words[:1] == ["--shipped"]:
+        return all_shipped(words[1:])
+    if not all(word.isdecimal() for word in words):
+        print(__doc__, file=sys.stderr)
+        return 2
+    return some([int(word) for word in words] or [4, 8, 12, 16])
+
+
+if __name__ == "__main__":
+    sys.exit(main(sys.argv[1:]))

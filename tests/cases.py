@@ -1,0 +1,399 @@
+"""What the families of tests share: calls of programs and of tools with what they wrote, and a judge of cases.
+
+A family is a module tests/test_NAME.py with classes of `Cases`, which `tests/program` runs side by side; `python3 -m unittest`
+runs them too. A case is what `gives`, `judge` or `holds` judges by a name that says what it shows.
+"""
+from __future__ import annotations
+
+import atexit
+import contextlib
+import functools
+import io
+import os
+import resource
+import runpy
+import shutil
+import subprocess
+import sys
+import tempfile
+import textwrap
+import traceback
+import unittest
+from dataclasses import dataclass
+from typing import Any, Callable, Iterator, Mapping, Sequence
+
+TOP = os.path.dirname(os.path.dirname(os.path.realpath(__file__)))
+# where the modules of bench/ stand
+sys.path.append(f"{TOP}/bench")
+
+# What the script says where the program without its proofs answers. Where that one is tested, cases say what stands on standard
+# error beside this line, and on standard output beside the last words of scripts that call it.
+WITHOUT_PROOFS = (
+    "pipecheck: this answer is of the program without its proofs; ./pipecheck --prove proves it here, in 12 to 35 minutes on four "
+    "processors\n"
+)
+BY_THAT_PROGRAM = ", by the program without its proofs"
+# what it says where no program stands and none can be made
+NO_TOOLCHAIN = (
+    "pipecheck: the program is not built, and the toolchain that builds it, rt, is missing: README.md, 'Getting started', says "
+    "which one\n"
+)
+
+# a part of the names of the cases that are to run, where not all are
+wanted: str | None = None
+
+
+def is_proved() -> bool:
+    """Whether the program that is tested is the proved one."""
+    program()
+    return os.environ["PIPECHECK_PROVED"] != "no"
+
+
+@functools.cache
+def program() -> str:
+    """The program that stands for these sources, proved or not, which is made where there is none. What is called from here stays
+    with it."""
+    said = os.environ.get("TESTED_PROGRAM")
+    if said is None:
+        done = subprocess.run([f"{TOP}/script/standing"], stdin=subprocess.DEVNULL, stdout=subprocess.PIPE, check=True, text=True)
+        which, _, said = done.stdout.rstrip("\n").partition(" ")
+        os.environ["PIPECHECK_PROVED"] = "yes" if which == "proved" else "no"
+        os.environ["TESTED_PROGRAM"] = said
+    return said
+
+
+def lay_apart(folder: str) -> None:
+    """Has the scripts stand in this folder as where they are installed, with the program that stands here: which one does is not
+    asked there at each call, and what is in Python is compiled once."""
+    for it in ("commands.txt", "pipecheck", "script", "tools"):
+        if os.path.isdir(f"{TOP}/{it}"):
+            shutil.copytree(f"{TOP}/{it}", f"{folder}/{it}")
+        else:
+            shutil.copy2(f"{TOP}/{it}", f"{folder}/{it}")
+    os.remove(f"{folder}/script/build")
+    shutil.copy2(program(), f"{folder}/pipecheck_cli")
+    os.mkdir(f"{folder}/examples")
+    os.symlink(f"{TOP}/docs", f"{folder}/docs")
+    for it in os.listdir(f"{TOP}/examples"):
+        if it == "suite":
+            shutil.copy2(f"{TOP}/examples/suite", f"{folder}/examples/suite")
+        else:
+            os.symlink(f"{TOP}/examples/{it}", f"{folder}/examples/{it}")
+    subprocess.run([sys.executable, "-S", "-m", "compileall", "-q", f"{folder}/tools"], check=True)
+
+
+@functools.cache
+def apart() -> str:
+    """The folder of `lay_apart`, one for all families of a run."""
+    said = os.environ.get("APART")
+    if said is None:
+        said = tempfile.mkdtemp(prefix="pipecheck-apart-")
+        atexit.register(shutil.rmtree, said, ignore_errors=True)
+        lay_apart(said)
+        os.environ["APART"] = said
+    return said
+
+
+def pipecheck() -> str:
+    """The script `pipecheck` as it stands apart."""
+    return f"{apart()}/pipecheck"
+
+
+@dataclass(frozen=True)
+class Done:
+    """A call that has ended: its status, as a shell sees it, and what it wrote to standard output and to standard error."""
+
+    status: int
+    out: str
+    err: str
+
+
+def text_of(said: bytes) -> str:
+    """What was written; bytes that are no UTF-8 stay apart from each other."""
+    return said.decode("utf-8", "surrogateescape")
+
+
+def environment(more: Mapping[str, str | None] | None = None) -> dict[str, str]:
+    """The environment with these variables, and without those that are None."""
+    joined: dict[str, str | None] = {**os.environ, **(more or {})}
+    return {name: value for name, value in joined.items() if value is not None}
+
+
+def run(
+    words: Sequence[str | bytes], *, cwd: str = TOP, env: Mapping[str, str | None] | None = None, stdin: bytes | int = b"",
+    seconds: float = 300, **how: Any,
+) -> Done:
+    """Runs a command with nothing, these bytes or this file as standard input. `how` are further words of `subprocess.run`."""
+    options: dict[str, Any] = {"stdout": subprocess.PIPE, "stderr": subprocess.PIPE, "cwd": cwd, "timeout": seconds}
+    options["stdin" if isinstance(stdin, int) else "input"] = stdin
+    done = subprocess.run(list(words), env=environment(env), check=False, **{**options, **how})
+    return Done(status_of(done.returncode), text_of(done.stdout or b""), text_of(done.stderr or b""))
+
+
+def status_of(code: int) -> int:
+    """The status that a shell makes of that of a process."""
+    return code if code >= 0 else 128 - code
+
+
+def call(
+    entry: Callable[[], object], words: Sequence[str], *, cwd: str = TOP, env: Mapping[str, str | None] | None = None,
+    stdin: bytes = b"",
+) -> Done:
+    """Calls an entry of a tool, which reads `sys.argv`, with these words in a process that is forked from this one: what it imports
+    is there already, and what it changes goes with it."""
+    with tempfile.TemporaryFile() as given, tempfile.TemporaryFile() as out, tempfile.TemporaryFile() as err:
+        given.write(stdin)
+        given.seek(0)
+        sys.stdout.flush()
+        sys.stderr.flush()
+        child = os.fork()
+        if child == 0:
+            _become(entry, list(words), cwd, environment(env), [given.fileno(), out.fileno(), err.fileno()])
+        _, status = os.waitpid(child, 0)
+        out.seek(0)
+        err.seek(0)
+        return Done(status_of(os.waitstatus_to_exitcode(status)), text_of(out.read()), text_of(err.read()))
+
+
+def _become(entry: Callable[[], object], words: list[str], cwd: str, env: dict[str, str], files: list[int]) -> None:
+    """The child of `call`: it never returns."""
+    status = 1
+    try:
+        for number, file in enumerate(files):
+            os.dup2(file, number)
+        sys.stdin = io.TextIOWrapper(io.FileIO(0, closefd=False), encoding="utf-8", errors="surrogateescape")
+        sys.stdout = io.TextIOWrapper(io.BufferedWriter(io.FileIO(1, "w", closefd=False)), encoding="utf-8")
+        err = io.BufferedWriter(io.FileIO(2, "w", closefd=False))
+        sys.stderr = io.TextIOWrapper(err, encoding="utf-8", errors="backslashreplace")
+        os.environ.clear()
+        os.environ.update(env)
+        os.chdir(cwd)
+        sys.argv = words
+        try:
+            found = entry()
+            status = found if isinstance(found, int) else 0
+        except SystemExit as end:
+            status = end.code if isinstance(end.code, int) else 0 if end.code is None else 1
+            if isinstance(end.code, str):
+                print(end.code, file=sys.stderr)
+        except BaseException:  # pylint: disable=broad-exception-caught
+            traceback.print_exc()
+        with contextlib.suppress(OSError, ValueError):
+            sys.stdout.flush()
+            sys.stderr.flush()
+    finally:
+        os._exit(status)
+
+
+def tool(word: str, folder: str = TOP) -> list[str]:
+    """The command that calls a tool by its word, as the scripts call it."""
+    return [sys.executable, "-E", "-S", f"{folder}/tools", word]
+
+
+def tool_entry(module: str) -> Callable[[], object]:
+    """An entry that runs this module of tools/ as if it were called."""
+
+    def entry() -> None:
+        runpy.run_path(f"{TOP}/tools/{module.replace('.', '/')}.py", run_name="__main__")
+
+    return entry
+
+
+def script_entry(path: str) -> Callable[[], object]:
+    """An entry that runs the Python script at this path as if it were called."""
+
+    def entry() -> None:
+        runpy.run_path(path, run_name="__main__")
+
+    return entry
+
+
+def without_proofs(done: Done) -> Done:
+    """Takes out what is said of the program without its proofs, where that one is tested."""
+    if os.environ.get("PIPECHECK_PROVED") != "no":
+        return done
+    out = done.out
+    if out.endswith(BY_THAT_PROGRAM + "\n"):
+        out = out.removesuffix(BY_THAT_PROGRAM + "\n") + "\n"
+    return Done(done.status, out, done.err.replace(WITHOUT_PROOFS, ""))
+
+
+def write(path: str, text: str | bytes) -> str:
+    """Writes a file. Returns its path."""
+    with open(path, "wb") as file:
+        file.write(text if isinstance(text, bytes) else text.encode("utf-8", "surrogateescape"))
+    return path
+
+
+def read(path: str) -> str:
+    """The text of a file, which may be named from the top of the repository."""
+    with open(os.path.join(TOP, path), "rb") as file:
+        return text_of(file.read())
+
+
+class Cases(unittest.TestCase):
+    """Cases that share a table or what they need. `work` is a folder for each test method, which goes at its end."""
+
+    maxDiff = None
+    work: str
+
+    def setUp(self) -> None:
+        self.work = tempfile.mkdtemp(prefix="pipecheck-tests-")
+        self.addCleanup(shutil.rmtree, self.work, ignore_errors=True)
+
+    def is_wanted(self, name: str) -> bool:
+        """Whether the case of this name is to run."""
+        return wanted is None or wanted in name
+
+    @contextlib.contextmanager
+    def case(self, name: str) -> Iterator[None]:
+        """A case of this name, which the statements under `with` judge by `assert..`."""
+        with self.subTest(case=name):
+            yield
+
+    def judge(self, name: str, done: Done, status: int = 0, out: str = "", err: str = "") -> None:
+        """Judges what a call wrote, beside what is said of the program without its proofs."""
+        done = without_proofs(done)
+        with self.case(name):
+            self.assertEqual((done.status, done.out, done.err), (status, out, err))
+
+    def gives(
+        self, name: str, words: Sequence[str | bytes], status: int = 0, out: str = "", err: str = "", **how: Any
+    ) -> None:
+        """A command ends with this status and writes these two texts; `how` are words of `run`."""
+        if self.is_wanted(name):
+            self.judge(name, run(words, **how), status, out, err)
+
+    def shows(self, name: str, status: int, out: str, *words: str) -> None:
+        """The program itself writes this to standard output, and nothing to standard error."""
+        self.gives(name, [program(), *words], status, out)
+
+    def says(self, name: str, status: int, out: str, err: str, *words: str) -> None:
+        """By the script standard output and the status are the program's, and this is said on standard error."""
+        self.gives(name, [pipecheck(), *words], status, out, err)
+
+    def skips(self, name: str, why: str) -> None:
+        """A case that cannot run here, which is said and is no passed one."""
+        with self.case(name):
+            self.skipTest(why)
+
+    def same(self, name: str, found: object, wanted: object = True) -> None:
+        """What is found is what is wanted, which may be that something holds."""
+        if self.is_wanted(name):
+            with self.case(name):
+                self.assertEqual(found, wanted)
+
+
+def forms_of(word: str | None = None) -> str:
+    """The forms of a command as `help WORD` lists them, by the table: a sentence in lines of at most 76 columns after 4 blanks; of
+    no word the forms of all commands."""
+    forms = ""
+    for line in read("commands.txt").splitlines():
+        who, *parts = line.split("|")
+        if who in ("program", "script") and word in (None, parts[0]):
+            after = f" {parts[1]}" if parts[1] else ""
+            sentence = "".join(f"    {it}\n" for it in textwrap.wrap(parts[2], 76, break_long_words=False, break_on_hyphens=False))
+            forms += f"pipecheck {parts[0]}{after}\n{sentence}"
+    return forms
+
+
+def command_forms() -> str:
+    """The forms of all commands, as `help` lists them."""
+    return (
+        f"{forms_of()}Exit status: 0 observable, 1 unobservable, 6 a refused certificate, any other no\nverdict (docs/faults.md).\n"
+    )
+
+
+def copy_checkout(folder: str, copied: Sequence[str] = (), crates: Sequence[str] = ()) -> str:
+    """Makes a checkout without what was built: its files, the scripts, and the folders and crates of these names are copies, and
+    the others, which are only read, are links. Returns the folder."""
+    os.makedirs(f"{folder}/crates")
+    for name in set(os.listdir(TOP)) - {".git", "crates"}:
+        if os.path.isfile(f"{TOP}/{name}"):
+            shutil.copy2(f"{TOP}/{name}", f"{folder}/{name}")
+        else:
+            _take(f"{TOP}/{name}", f"{folder}/{name}", name in ("script", *copied))
+    for name in os.listdir(f"{TOP}/crates"):
+        os.mkdir(f"{folder}/crates/{name}")
+        for part in set(os.listdir(f"{TOP}/crates/{name}")) - {"out", "must-fail"}:
+            _take(f"{TOP}/crates/{name}/{part}", f"{folder}/crates/{name}/{part}", name in crates)
+    return folder
+
+
+def _take(path: str, at: str, is_copied: bool) -> None:
+    """Copies what stands at this path, or links it."""
+    if is_copied and os.path.isdir(path):
+        shutil.copytree(path, at, symlinks=True, ignore=shutil.ignore_patterns("__pycache__", "out"))
+    else:
+        os.symlink(path, at)
+
+
+def within(which: int, size: int) -> Callable[[], None]:
+    """Of `run` a `preexec_fn`, by which the command may have no more than this of one of the resources that `resource` names."""
+    return lambda: resource.setrlimit(which, (size, size))
+
+
+@contextlib.contextmanager
+def unread(named: str | None = None) -> Iterator[int]:
+    """The end of a pipe to write to, which nobody reads any more: of one between two commands, or of one of this name."""
+    if named is None:
+        reader, writer = os.pipe()
+    else:
+        os.mkfifo(named)
+        reader = os.open(named, os.O_RDONLY | os.O_NONBLOCK)
+        writer = os.open(named, os.O_WRONLY)
+    os.close(reader)
+    try:
+        yield writer
+    finally:
+        os.close(writer)
+
+
+def commands_without(folder: str, name: str) -> str:
+    """Makes a folder with a link to each command of this machine but those whose names begin so. Returns it, as a PATH."""
+    os.makedirs(folder)
+    for place in ("/usr/local/bin", "/usr/bin", "/bin"):
+        for it in os.listdir(place):
+            if not it.startswith(name) and not os.path.lexists(f"{folder}/{it}"):
+                os.symlink(f"{place}/{it}", f"{folder}/{it}")
+    return folder
+
+
+@contextlib.contextmanager
+def without_output(kind: str) -> Iterator[dict[str, Any]]:
+    """Words of `run` by which standard output takes nothing: a `full` device, a `closed` file, or a pipe `unread` by anyone."""
+    if kind == "closed":
+        yield {"stdout": None, "preexec_fn": functools.partial(os.close, 1)}
+        return
+    reader, file = os.pipe()
+    os.close(reader)
+    if kind == "full":
+        os.dup2(os.open("/dev/full", os.O_WRONLY), file)
+    try:
+        yield {"stdout": file}
+    finally:
+        os.close(file)
+
+
+def command(path: str, text: str) -> str:
+    """Writes a command, which this shell script is. Returns its path."""
+    os.makedirs(os.path.dirname(path), exist_ok=True)
+    write(path, text if text.startswith("#!") else f"#!/bin/sh\n{text}")
+    os.chmod(path, 0o755)
+    return path
+
+
+def as_proved(checkout: str, path: str) -> None:
+    """Has a copy of this program stand as the proved one in a checkout."""
+    script = (
+        'top=$PWD; . script/calls; mkdir -p "$out" && cp "$1" "$out/pipecheck_cli" && '
+        '{ hash_sources && echo "a kit logic 0123456789abcdef"; } >"$out/begun" && take_program "$out/begun"'
+    )
+    subprocess.run(["bash", "-c", script, "as_proved", path], cwd=checkout, check=True)
+
+
+def files_below(folder: str) -> list[str]:
+    """Each file below a folder, by its path there."""
+    return sorted(
+        os.path.relpath(f"{place}/{it}", folder) for place, _, names in os.walk(folder) for it in names
+    )

@@ -1,0 +1,551 @@
+#!/usr/bin/env python3
+"""Runs the program that stands on random texts, some made to break it, and judges each answer. It is no part of the gate.
+
+    tests/hostile.py [SECONDS [SEED]]      60 seconds, and a seed of the system's
+    tests/hostile.py --again CASE          one case, by the name that is told where it was wrong
+
+A run is one call of the program. What it may answer is said by docs/faults.md and, of these very files, by the second
+reading under tools/second, which also judges each certificate that the program writes, each lifted refutation that it makes
+of one, and each change of one that the program judges. Tests on shipped models, and sweeps of them with their reads
+open, are compared with the machines of tools/agree. Runs under a small limit of memory may end with status 7 in
+place of their answer; those that a signal ended are counted apart, as are those that came too late.
+
+The seed is printed first: with it the same cases come again, as many as there is time for. Files of what was wrong are
+kept in a folder that is named. The last line is 'N runs, M wrong', and the status is 1 where M is not 0.
+
+Variables of the environment: PIPECHECK, the program (the one that stands); HOSTILE_JOBS, how many run side by side (the
+number of processors); HOSTILE_FOLDER, where wrong runs are kept (out/hostile).
+"""
+import os
+import re
+import resource
+import secrets
+import shutil
+import signal
+import subprocess
+import sys
+import tempfile
+import time
+from collections import Counter
+from concurrent.futures import ProcessPoolExecutor
+from dataclasses import dataclass, field
+from glob import escape as glob_escape
+from glob import glob
+from random import Random
+from typing import Any, Callable
+
+TOP = os.path.dirname(os.path.dirname(os.path.realpath(__file__)))
+sys.dont_write_bytecode = True
+sys.path.insert(0, TOP)
+
+# pylint: disable=wrong-import-position
+from importlib import import_module
+
+from tests import random_texts
+from tools.agree.litmus import read_test
+from tools.second.cases import Case, read_case
+from tools.second.evaluating import false_axioms
+from tools.second.grounding import ground
+from tools.second.judging import Refused as CertificateRefused
+from tools.second.judging import judge
+from tools.second.lifted import LiftedJudge, judge_lifted
+from tools.second.models import Model
+from tools.second.patterns import read_pattern, sweep, sweep_text
+from tools.second.scopes import read_model
+from tools.second.searching import search
+from tools.second.main import LIMIT, Refused, ask, core, judged, judged_three, second_line, second_lines
+from tools.standing import tested
+
+TESTED = tested(TOP)
+PROGRAM = TESTED.path
+SECONDS_OF_A_CALL = 20
+SECONDS_OF_A_READING = 5
+USAGE = b"pipecheck: bad command line\n"
+UNOBSERVABLE = b"verified unobservable\n"
+Answer = tuple[int, bytes]
+
+
+class Wrong(Exception):
+    """What a run answered and should not have."""
+
+
+class Late(Exception):
+    """The program, or the second implementation, took longer than it may."""
+
+
+def fault_words() -> dict[str, set[str]]:
+    """The words that docs/faults.md has for the faults of each file."""
+    words: dict[str, set[str]] = {}
+    with open(os.path.join(TOP, "docs", "faults.md"), encoding="utf-8") as page:
+        for line in page:
+            head = re.match(r"\| word of a (\w+) ", line)
+            if head:
+                found = words.setdefault(head[1], set())
+            elif line.startswith("|") and words:
+                found.update(re.findall(r"`([a-z-]+)`", line.split("|")[1]))
+    return words
+
+
+WORDS = fault_words()
+
+
+def within(seconds: float, work: Callable[..., Any], *args: Any) -> Any:
+    """What the work gives within so many seconds."""
+
+    def stop(*_: Any) -> None:
+        raise Late
+
+    signal.signal(signal.SIGALRM, stop)
+    signal.setitimer(signal.ITIMER_REAL, seconds)
+    try:
+        return work(*args)
+    except (RecursionError, MemoryError) as error:
+        raise Late from error
+    finally:
+        signal.setitimer(signal.ITIMER_REAL, 0)
+
+
+@dataclass
+class Read:
+    """What the second implementation makes of two files: the line of their refusal, or what they say with its verdict."""
+
+    refused: bytes = b""
+    model: Model | None = None
+    case: Case | None = None
+    is_observable: bool = False
+
+    def second(self) -> bytes:
+        """The second line of the verdict."""
+        assert self.case is not None
+        return second_line(self.is_observable, self.case).encode()
+
+
+def read_pair(model_text: bytes, test_text: bytes) -> Read:
+    """Reads a model and a test, and searches."""
+    for kind, text in (("model", model_text), ("test", test_text)):
+        if len(text) > LIMIT:
+            return Read(refused=f"refused {kind} too-large at 1:1\n".encode())
+    try:
+        model, case = judged("model", read_model, model_text), judged("test", read_case, test_text)
+    except Refused as refused:
+        return Read(refused=f"{refused}\n".encode())
+    witness = search(ground(model, case))
+    if witness is not None and false_axioms(model, case, witness.nodes, witness.edges):
+        raise Wrong("the second implementation's witness makes an axiom false")
+    return Read(model=model, case=case, is_observable=witness is not None)
+
+
+def sweep_answer(model_text: bytes, pattern_text: bytes) -> Answer:
+    """What `sweep` has to answer to two files."""
+    for kind, text in (("model", model_text), ("test", pattern_text)):
+        if len(text) > LIMIT:
+            return 3, f"refused {kind} too-large at 1:1\n".encode()
+    try:
+        model, pattern = judged("model", read_model, model_text), judged("test", read_pattern, pattern_text)
+    except Refused as refused:
+        return 3, f"{refused}\n".encode()
+    return 0, sweep_text(sweep(model, pattern)).encode()
+
+
+def ask_answer(model_text: bytes, test_text: bytes, query_text: bytes) -> Answer:
+    """What `ask` has to answer to three files."""
+    for kind, text in (("model", model_text), ("test", test_text), ("query", query_text)):
+        if len(text) > LIMIT:
+            return 3, f"refused {kind} too-large at 1:1\n".encode()
+    try:
+        asked = judged_three(model_text, test_text, query_text)
+    except Refused as refused:
+        return 3, f"{refused}\n".encode()
+    answer, status = ask(*asked)
+    return status, answer.encode()
+
+
+def contents(path: str | bytes) -> bytes:
+    """The bytes of a file."""
+    with open(path, "rb") as file:
+        return file.read()
+
+
+def judgement(read: Read, text: bytes, takes_version_2: bool = True) -> Answer:
+    """What `verify` has to answer to this text; by the rules of version 1 alone what `lift` answers to it, but for a
+    refutation."""
+    assert read.model is not None and read.case is not None
+    try:
+        is_observable = judge(read.model, read.case, second_lines(read.case), text, takes_version_2)
+    except CertificateRefused as refused:
+        return 6, f"{refused}\n".encode()
+    return (0, b"verified observable\n") if is_observable else (1, UNOBSERVABLE)
+
+
+def lifted_judgement(read: Read, text: bytes) -> Answer:
+    """What `verify-lifted` has to answer to this text."""
+    assert read.model is not None and read.case is not None
+    try:
+        judge_lifted(read.model, read.case, second_line(False, read.case), text)
+    except CertificateRefused as refused:
+        return 6, f"{refused}\n".encode()
+    if read.is_observable:
+        raise Wrong("the second implementation takes a lifted refutation of an observable outcome")
+    return 1, UNOBSERVABLE
+
+
+def core_of(read: Read) -> Answer:
+    """What `core` has to answer."""
+    assert read.model is not None and read.case is not None
+    text, status = core(read.model, read.case)
+    return status, text.encode()
+
+
+@dataclass
+class Runs:
+    """The runs of one worker."""
+
+    folder: str
+    keep: str
+    random: Random = field(default_factory=Random)
+    counts: Counter[str] = field(default_factory=Counter)
+    said: list[str] = field(default_factory=list)
+
+    def path(self, name: str) -> str:
+        """The path of a file of this worker."""
+        return os.path.join(self.folder, name)
+
+    def write(self, name: str, text: bytes) -> str:
+        """Writes a file, and returns its path."""
+        with open(self.path(name), "wb") as file:
+            file.write(text)
+        return self.path(name)
+
+    def call(self, args: list[str | bytes], stdout: Any = subprocess.PIPE, memory: int = 0) -> Answer:
+        """Runs the program: its status, negative where a signal ended it, and what it wrote."""
+        self.counts["runs"] += 1
+        limit = (lambda: resource.setrlimit(resource.RLIMIT_AS, (memory, memory))) if memory else None
+        try:
+            done = subprocess.run([PROGRAM, *args], stdin=subprocess.DEVNULL, stdout=stdout, stderr=subprocess.PIPE,
+                                  timeout=SECONDS_OF_A_CALL, preexec_fn=limit, check=False)
+        except subprocess.TimeoutExpired as error:
+            raise Late from error
+        # under a limit of memory it is the system that may say there why the program could not begin
+        if done.stderr and not memory:
+            raise Wrong(f"{args}: standard error has {done.stderr[:80]!r}")
+        return done.returncode, done.stdout or b""
+
+    def demand(self, args: list[str | bytes], *allowed: Answer) -> Answer:
+        """Runs the program; its answer has to be one of these."""
+        answer = self.call(args)
+        if answer not in allowed:
+            wanted = " or ".join(f"{status}, {text[:80]!r}" for status, text in allowed)
+            raise Wrong(f"{args}: status {answer[0]}, {answer[1][:80]!r}, and not {wanted}")
+        return answer
+
+    # what is run
+
+    def pair(self, model_text: bytes, test_text: bytes) -> None:
+        """Both kinds of check on a pair, against the second implementation; then what can be done with the certificate."""
+        files: list[str | bytes] = [self.write("model", model_text), self.write("test", test_text)]
+        read = within(SECONDS_OF_A_READING, read_pair, model_text, test_text)
+        if read.refused:
+            self.refused(files, read.refused)
+            return
+        for word in ("check", "check2"):
+            status, text = self.call([word, *files])
+            verdict = b"observable" if read.is_observable else b"unobservable"
+            lines = text.split(b"\n")
+            if status != (0 if read.is_observable else 1) or lines[:2] != [verdict, read.second()]:
+                raise Wrong(f"{word}: status {status}, {text[:80]!r}; the second implementation says {verdict!r}")
+            if (lines[2:3] == [b"version 2"]) is not (word == "check2" and not read.is_observable):
+                raise Wrong(f"{word}: another version, {text[:80]!r}")
+            accepted = (status, b"verified " + verdict + b"\n")
+            if within(SECONDS_OF_A_READING, judgement, read, text) != accepted:
+                raise Wrong(f"{word}: the second implementation refuses the certificate")
+            self.certificate(files, read, text, accepted)
+            self.outside([word, *files], (status, text))
+        self.demand(["core", *files], within(SECONDS_OF_A_READING, core_of, read))
+        self.lifted(files, read)
+
+    def lifted(self, files: list[str | bytes], read: Read) -> None:
+        """Texts that begin as a lifted refutation does, and changes of them, against the second implementation."""
+        assert read.model is not None and read.case is not None
+        judge_of = LiftedJudge(read.model, read.case)
+        text = within(SECONDS_OF_A_READING, random_texts.lifted_text, self.random, judge_of, second_line(False, read.case))
+        for _ in range(3):
+            self.write("certificate", text)
+            answer = within(SECONDS_OF_A_READING, lifted_judgement, read, text)
+            self.demand(["verify-lifted", *files, self.path("certificate")], answer)
+            text = random_texts.changed_lifted(self.random, text)
+
+    def lift(self, files: list[str | bytes], read: Read, text: bytes) -> None:
+        """What `lift` makes of a certificate, which is there as a file. Both judges take the text that it makes."""
+        lift: list[str | bytes] = ["lift", *files, self.path("certificate")]
+        due = within(SECONDS_OF_A_READING, judgement, read, text, False)
+        if due != (1, UNOBSERVABLE):
+            self.demand(lift, due)
+            return
+        status, made = self.call(lift)
+        if status != 0 or within(SECONDS_OF_A_READING, lifted_judgement, read, made) != due:
+            raise Wrong(f"lift: status {status}, {made[:80]!r}, which the second implementation does not take")
+        self.demand(["verify-lifted", *files, self.write("made", made)], due)
+        self.outside(lift, (status, made))
+
+    def refused(self, files: list[str | bytes], line: bytes) -> None:
+        """All commands on two files refuse them by this line, which has a word of docs/faults.md."""
+        word = self.word_of(line)
+        third = self.path("none")
+        commands = (["check", *files], ["check2", *files], ["core", *files], ["verify", *files, third],
+                    ["verify-lifted", *files, third], ["lift", *files, third])
+        for args in commands:
+            self.demand(args, (3, line))
+        # the query is read before anything is judged
+        self.demand(["ask", *files, third], (3, line) if word == b"too-large" else (4, b""))
+        self.outside(["check", *files], (3, line))
+
+    @staticmethod
+    def word_of(line: bytes) -> bytes:
+        """The word of a refusal's line, which is one of docs/faults.md; a query has those of a model."""
+        kind, word = re.match(rb"refused (\w+) ([a-z-]+) at ", line).groups()  # type: ignore[union-attr]
+        if word.decode() not in WORDS[kind.decode().replace("query", "model")]:
+            raise Wrong(f"docs/faults.md has no word {word!r} of a {kind!r}")
+        return word
+
+    def certificate(self, files: list[str | bytes], read: Read, text: bytes, accepted: Answer) -> None:
+        """The certificate, rewritings that keep it right, and changes of it."""
+        verify: list[str | bytes] = ["verify", *files, self.write("certificate", text)]
+        self.demand(verify, accepted)
+        if len(text) > 20_000:
+            return
+        self.lift(files, read, text)
+        self.write("certificate", random_texts.rewritten_certificate(self.random, text))
+        self.demand(verify, accepted)
+        for _ in range(self.random.choice((1, 2, 4))):
+            spoilt = random_texts.changed_certificate(self.random, text)
+            self.write("certificate", spoilt)
+            self.demand(verify, within(SECONDS_OF_A_READING, judgement, read, spoilt))
+            self.lift(files, read, spoilt)
+
+    def outside(self, args: list[str | bytes], answer: Answer) -> None:
+        """Now and then the same with an output that fails, or with little memory."""
+        if self.random.random() < 0.1:
+            self.failing_output(args)
+        if self.random.random() < 0.2:
+            self.little_memory(args, answer)
+
+    def failing_output(self, args: list[str | bytes]) -> None:
+        """A full device, a closed output, a pipe that nobody reads: status 5."""
+        kind = self.random.choice(("full", "closed", "pipe"))
+        if kind == "closed":
+            self.counts["runs"] += 1
+            done = subprocess.run(["sh", "-c", 'exec "$@" >&-', "sh", PROGRAM, *args], stdin=subprocess.DEVNULL,
+                                  timeout=SECONDS_OF_A_CALL, check=False)
+            status = done.returncode
+        elif kind == "full":
+            with open("/dev/full", "wb") as full:
+                status = self.call(args, stdout=full)[0]
+        else:
+            reader, writer = os.pipe()
+            os.close(reader)
+            try:
+                status = self.call(args, stdout=writer)[0]
+            finally:
+                os.close(writer)
+        if status != 5:
+            raise Wrong(f"{args}: status {status} on a {kind} output")
+
+    def little_memory(self, args: list[str | bytes], answer: Answer) -> None:
+        """A limit of address space: the same answer, or status 7 and nothing written."""
+        memory = int(2 ** self.random.uniform(21, 25))
+        found = self.call(args, memory=memory)
+        if found[0] < 0 and not found[1]:
+            self.counts["signals"] += 1
+        elif found[0] == 127 and not found[1]:
+            self.counts["not begun"] += 1
+        elif found not in (answer, (7, b"")):
+            raise Wrong(f"{args} with {memory} bytes of memory: status {found[0]}, {found[1][:80]!r}")
+
+    def arguments(self) -> None:
+        """Arguments of any kind: no command, names of no file, bytes that are no text."""
+        names: list[str | bytes] = [
+            self.write("model", b'StageName 0 "S".\n'), self.write("test", b'Litmus "t".\n'), self.path("none"), self.folder, "",
+            b"\xff", "x" * 300, "--help", "check", "verify", "core", "sweep", "lift", "ask", "gen",
+            str(self.random.randint(0, 9)), "02", "+4", "4 ", "17", "1e1"]
+        words = "check check2 verify core sweep verify-lifted lift ask gen Check help".split()
+        firsts: list[str | bytes] = [*words, "", b"\xc3("]
+        args = [self.random.choice(firsts)]
+        count = self.random.choice((0, 1, 1, 2, 2, 2, 3, 3, 4))
+        args += self.random.choices(names, weights=[6, 6] + [1] * (len(names) - 2), k=count)
+        self.demand(args, self.answer_to(args))
+
+    def answer_to(self, args: list[str | bytes]) -> Answer:
+        """What the program answers to arguments of the names above, by docs/faults.md."""
+        if b"\xff" in args or b"\xc3(" in args:
+            return 8, b""
+        word, count = args[0], len(args)
+        if word == "gen" and count == 2 and args[1] in [str(n) for n in range(2, 17)]:
+            n = int(args[1])
+            splits = n * n - 2 * n + 2
+            return 0, f"gen {n}\nunobservable\nnodes {2 * n}\nsplits {splits}\nleaves {splits + 1}\nend\n".encode()
+        of_two, of_three = ("check", "check2", "core", "sweep"), ("verify", "verify-lifted", "lift", "ask")
+        if count != (3 if word in of_two else 4 if word in of_three else 0):
+            return 2, USAGE
+        if any(not os.path.isfile(name) for name in args[1:4 if word == "ask" else 3]):
+            return 4, b""
+        if word == "ask":
+            return ask_answer(*map(contents, args[1:4]))
+        kinds = [os.path.basename(name) for name in args[1:3]]
+        if kinds[0] == "test":
+            return 3, b"refused model syntax at 1:1\n"
+        if kinds[1] == "model":
+            return 3, b"refused test syntax at 1:1\n"
+        if word in ("verify", "verify-lifted", "lift"):
+            return (6, b"certificate refused at line 1\n") if os.path.isfile(args[3]) else (4, b"")
+        if word == "sweep":
+            return 0, b"sweep 1\nrow observable\nobservable 1\nunobservable 0\nend\n"
+        graph = b"observable\ntest unstated\nend\n"
+        return 0, b"core none\n" + graph + b"end\n" if word == "core" else graph
+
+    def pattern(self, model_text: bytes, pattern_text: bytes) -> None:
+        """A sweep of two files, against the second implementation's."""
+        files: list[str | bytes] = [self.write("model", model_text), self.write("test", pattern_text)]
+        answer = within(SECONDS_OF_A_READING, sweep_answer, model_text, pattern_text)
+        self.demand(["sweep", *files], answer)
+        if self.random.random() < 0.1:
+            self.little_memory(["sweep", *files], answer)
+
+    def query(self, model_text: bytes, test_text: bytes, query_text: bytes) -> None:
+        """A query of three files, against the second implementation's answer."""
+        texts = {"model": model_text, "test": test_text, "query": query_text}
+        files: list[str | bytes] = [self.write(name, text) for name, text in texts.items()]
+        answer = within(2 * SECONDS_OF_A_READING, ask_answer, *texts.values())
+        if answer[0] == 3:
+            self.word_of(answer[1])
+        self.demand(["ask", *files], answer)
+        self.outside(["ask", *files], answer)
+
+    def machine(self) -> None:
+        """A test on a shipped model, against the machine that the model names."""
+        path = self.random.choice(SHIPPED)
+        with open(path, "rb") as file:
+            model_text = file.read()
+        name = re.search(rb"(?im)^%[ \t]*memory model:[ \t]*([\w-]+)", model_text)[1].decode().lower()  # type: ignore[index]
+        text = random_texts.machine_test(self.random)
+        self.write("model", model_text)
+        test_path = self.write("test", text)
+        test = read_test(test_path)
+        outcomes = within(SECONDS_OF_A_CALL, lambda: import_module(f"tools.agree.machines.{name}").outcomes(test))
+        allowed = test.shown_by(outcomes)
+        status, answer = self.call(["check", self.path("model"), test_path])
+        if status != (0 if allowed else 1):
+            raise Wrong(f"{path}: status {status}, {answer[:80]!r}; the machine {name} {'allows' if allowed else 'forbids'} it")
+        # the same with some of the reads open
+        test = read_test(self.write("pattern", random_texts.opened(self.random, text)))
+        wanted = {" ".join(map(str, row)) for row in test.rows_shown_by(outcomes)}
+        status, answer = self.call(["sweep", self.path("model"), self.path("pattern")])
+        lines = [line.split(" ") for line in answer.decode().splitlines() if line.startswith("row")]
+        if status != 0 or {" ".join(line[1:-1]) for line in lines if line[-1] == "observable"} != wanted:
+            raise Wrong(f"{path}: status {status}, {answer[:200]!r}; the machine {name} shows {sorted(wanted)}")
+
+    def judged(self, name: str) -> None:
+        """The case of this name; what is wrong with it is kept."""
+        self.random = Random(name)
+        try:
+            self.one()
+        except Late:
+            self.counts["late"] += 1
+        except Wrong as wrong:
+            self.kept(name, wrong)
+
+    def one(self) -> None:
+        """One case of a kind that is chosen at random."""
+        kinds = ("whole", "changed", "arguments", "machine", "pattern", "query")
+        kind = self.random.choices(kinds, weights=(5, 5, 1, 2, 3, 3))[0]
+        if kind == "arguments":
+            self.arguments()
+        elif kind == "machine":
+            self.machine()
+        elif kind == "pattern":
+            pattern = random_texts.opened(self.random, random_texts.test_text(self.random), self.random.random() < 0.05)
+            if self.random.random() < 0.3:
+                pattern = random_texts.changed_file(self.random, pattern)
+            self.pattern(random_texts.ModelMaker(self.random).text(), pattern)
+        elif kind == "query":
+            maker = random_texts.ModelMaker(self.random)
+            texts = [maker.text(), random_texts.test_text(self.random), maker.query()]
+            if self.random.random() < 0.4:
+                which = self.random.choice((0, 1, 2, 2, 2))
+                texts[which] = random_texts.changed_file(self.random, texts[which])
+            self.query(*texts)
+        else:
+            model_text, test_text = random_texts.ModelMaker(self.random).text(), random_texts.test_text(self.random)
+            if kind == "changed":
+                which = self.random.randrange(3)
+                model_text = random_texts.changed_file(self.random, model_text) if which != 1 else model_text
+                test_text = random_texts.changed_file(self.random, test_text) if which != 0 else test_text
+            self.pair(model_text, test_text)
+
+    def kept(self, name: str, wrong: Wrong) -> None:
+        """Keeps the files of a wrong run."""
+        self.counts["wrong"] += 1
+        folder = tempfile.mkdtemp(prefix="wrong-", dir=self.keep)
+        shutil.copytree(self.folder, folder, dirs_exist_ok=True)
+        with open(os.path.join(folder, "said"), "w", encoding="utf-8") as file:
+            file.write(f"case {name}\n{wrong}\n")
+        self.said.append(f"case {name}, kept in {folder}: {wrong}")
+
+
+SHIPPED = sorted(glob(os.path.join(glob_escape(TOP), "examples", "models", "*.uspec")))
+
+
+def work(seed: str, seconds: float, keep: str) -> tuple[Counter[str], list[str]]:
+    """The runs of one worker, until the time is over."""
+    until, case = time.monotonic() + seconds, 0
+    with tempfile.TemporaryDirectory(prefix="hostile-") as folder:
+        runs = Runs(folder, keep)
+        while time.monotonic() < until:
+            runs.judged(f"{seed}.{case}")
+            case += 1
+        return runs.counts, runs.said
+
+
+def again(case: str, keep: str) -> tuple[Counter[str], list[str]]:
+    """One case."""
+    with tempfile.TemporaryDirectory(prefix="hostile-") as folder:
+        runs = Runs(folder, keep)
+        runs.judged(case)
+        return runs.counts, runs.said
+
+
+def tell(counts: Counter[str], said: list[str]) -> int:
+    """Prints what was wrong and the counts, and returns the status."""
+    for line in said:
+        print(line)
+    print(f"{counts['late']} came too late to be judged, {counts['signals']} were ended by a signal under a limit of memory, "
+          f"{counts['not begun']} could not begin under one")
+    print(f"{counts['runs']} runs, {counts['wrong']} wrong{TESTED.said}")
+    return 1 if counts["wrong"] else 0
+
+
+def main(words: list[str]) -> int:
+    """Runs the workers."""
+    if words[:1] == ["--help"]:
+        print(__doc__)
+        return 0
+    keep = os.path.abspath(os.environ.get("HOSTILE_FOLDER", os.path.join(TOP, "out", "hostile")))
+    os.makedirs(keep, exist_ok=True)
+    sys.setrecursionlimit(20_000)
+    if words[:1] == ["--again"] and len(words) == 2:
+        return tell(*again(words[1], keep))
+    if len(words) > 2 or not all(re.fullmatch(r"\d{1,9}", word) for word in words[:1]):
+        sys.exit("hostile: --help tells how it is called")
+    seconds, seed = int(words[0]) if words else 60, words[1] if len(words) == 2 else secrets.token_hex(4)
+    jobs = int(os.environ.get("HOSTILE_JOBS", os.cpu_count() or 1))
+    print(f"seed {seed}", flush=True)
+    counts: Counter[str] = Counter()
+    said: list[str] = []
+    with ProcessPoolExecutor(jobs) as pool:
+        for found, lines in pool.map(work, [f"{seed}.{k}" for k in range(jobs)], [seconds] * jobs, [keep] * jobs):
+            counts += found
+            said += lines
+    return tell(counts, said)
+
+
+if __name__ == "__main__":
+    sys.exit(main(sys.argv[1:]))

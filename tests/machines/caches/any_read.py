@@ -1,9 +1,0 @@
-"""Cache lines without the mend: any read may use an answer that is late."""
-from litmus import Outcome, Test
-
-from . import lines
-
-
-def outcomes(test: Test) -> set[Outcome]:
-    """All outcomes of a test."""
-    return lines.outcomes(test, lambda waiting: True)

@@ -1,9 +1,0 @@
-"""Cache lines with half of the mend: no read before it may be left when a read asks, and a fence may be."""
-from litmus import Outcome, Test
-
-from . import lines
-
-
-def outcomes(test: Test) -> set[Outcome]:
-    """All outcomes of a test."""
-    return lines.outcomes(test, lambda waiting: all(op.kind != "Read" for op in waiting))

@@ -1,8 +1,0 @@
-"""Partial store order: as total store order, but a buffer keeps the order of writes to one address alone."""
-import tso
-from litmus import Outcome, Test
-
-
-def outcomes(test: Test) -> set[Outcome]:
-    """All outcomes of a test."""
-    return tso.outcomes(test, by_address=True)

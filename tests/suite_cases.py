@@ -1,0 +1,161 @@
+"""What the families of the suite share: a call of it, and a judge of its table.
+
+In the words of calls, in variables of the environment and in what is wanted, WORK stands for the folder of the cases. Of what the
+suite writes N stands for the seconds, and NAMES for the memory models that are known.
+"""
+from __future__ import annotations
+
+import contextlib
+import io
+import os
+import re
+import signal
+import subprocess
+import threading
+from typing import Any, Callable, Sequence
+from unittest.mock import patch
+
+from tests.cases import TOP, Cases, Done, apart, call, environment, read, run, script_entry, write
+
+# what a suite imports where it is needed is there before it is forked
+from tools.lint import main as lint
+import tools.suite.axioms
+import tools.suite.main
+import tools.suite.sarif
+from tools.explain import files as explaining_files
+from tools.lint import linting
+from tools.second import queries
+from tools.suite.beside import LINTED, Lint
+from tools.suite.files import File
+
+SC = "examples/models/sc-inorder.uspec"
+TUTORIAL = "examples/models/tutorial.uspec"
+BUFFER = "examples/models/tso-buffer.uspec"
+EARLY = "examples/buggy/tutorial-early.uspec"
+MP = "examples/tests/MP.test"
+SB = "examples/tests/SB.test"
+CORR = "examples/tests/CoRR.test"
+TSO = "the machine of tso"
+# how the last line of many tables ends
+NO_FAULTS = "0 stricter, 0 time, 0 faults, in N s\n"
+# the table of message passing and store buffering on the in-order pipeline, which many calls are asked for
+GOOD = """\
+test  sc-inorder
+MP    ok
+SB    ok
+2 pairs: 2 ok, 0 BUG, 0 stricter, 0 time, 0 faults, in N s
+"""
+# how many seconds a process may take to come to where it is looked at
+PATIENCE = 240
+LINTING = threading.Lock()
+
+
+def lint_here(self: Lint, model: File) -> list[str]:
+    """What lint says of a model and the tests, by its entry in this process."""
+    with LINTING, contextlib.redirect_stdout(io.StringIO()) as out, contextlib.redirect_stderr(io.StringIO()):
+        status = lint.main(model.path, *self.paths)
+    if status not in LINTED:
+        raise AssertionError(f"lint ended with {status}")
+    return out.getvalue().split("\n")[:-1]
+
+
+def no_lint(_: Lint, __: File) -> list[str]:
+    """Nothing, where a case is about much that lint takes long for, and that others ask it of."""
+    return []
+
+
+def end(process: subprocess.Popen[bytes]) -> None:
+    """Ends a process, where it has not ended yet."""
+    if process.poll() is None:
+        process.kill()
+    process.communicate()
+
+
+def without_first_line(path: str) -> str:
+    """The text of a file behind its first line, which in a model names the memory model."""
+    return read(path).partition("\n")[2]
+
+
+def of_suite(done: Done, work: str) -> Done:
+    """What a suite wrote, with the names for what differs from call to call."""
+    out = re.sub(r"in [0-9]+ s(,.*)?$", r"in N s\1", done.out.replace(work, "WORK"), flags=re.MULTILINE)
+    out = re.sub("known are .* and [a-z]*, named", "known are NAMES, named", out)
+    return Done(done.status, out, done.err.replace(work, "WORK"))
+
+
+class SuiteCases(Cases):
+    """Cases of the suite, with the tests of WORK/tests, and certificates in WORK/kept."""
+
+    def setUp(self) -> None:
+        super().setUp()
+        # the folder of the suite that is called, in place of the one that stands apart, and how it is told what lint says
+        self.top = ""
+        self.lint_lines: Callable[[Lint, File], list[str]] = lint_here
+        os.mkdir(f"{self.work}/tests")
+
+    def put(self, name: str, text: str | bytes) -> str:
+        """Writes a file in WORK, in a folder that is made where it is not there. Returns its path."""
+        os.makedirs(os.path.dirname(f"{self.work}/{name}"), exist_ok=True)
+        return write(f"{self.work}/{name}", text)
+
+    def copy(self, folder: str, *paths: str) -> None:
+        """Copies files into a folder of WORK."""
+        for it in paths:
+            self.put(f"{folder}/{os.path.basename(it)}", read(it))
+
+    def script(self, name: str, text: str) -> str:
+        """Writes a script of the shell in WORK, which can be called. Returns its path."""
+        path = self.put(name, f"#!/bin/sh\n{text}\n")
+        os.chmod(path, 0o755)
+        return path
+
+    def at(self, text: str) -> str:
+        """A text with the folder that WORK stands for."""
+        return text.replace("WORK", self.work)
+
+    def variables(self, env: dict[str, str]) -> dict[str, str | None]:
+        """The environment of a suite; SUITE_TESTS and SUITE_FOLDER are in WORK where nothing else is said."""
+        said = {"SUITE_TESTS": "WORK/tests", "SUITE_FOLDER": "WORK/kept", **env}
+        return {**dict.fromkeys(("PIPECHECK", "SUITE_KEPT", "COLUMNS")), **{name: self.at(it) for name, it in said.items()}}
+
+    def called(self, *words: str, **env: str) -> Done:
+        """Calls the suite in a process that is forked from this one."""
+        path = f"{self.top or apart()}/examples/suite"
+
+        def entry() -> None:
+            # no call may wait for what never comes
+            signal.alarm(PATIENCE)
+            with patch.object(Lint, "lines", self.lint_lines):
+                script_entry(path)()
+
+        return call(entry, [path, *map(self.at, words)], env=self.variables(env))
+
+    def begun(
+        self, *words: str, env: dict[str, str] | None = None, before: Sequence[str] = (), **how: Any
+    ) -> subprocess.Popen[bytes]:
+        """Starts the suite as a process of its own; these words stand before it."""
+        options: dict[str, Any] = {"stdin": subprocess.DEVNULL, "stdout": subprocess.DEVNULL, "stderr": subprocess.DEVNULL, **how}
+        command = [*before, f"{self.top or apart()}/examples/suite", *map(self.at, words)]
+        process = subprocess.Popen(command, cwd=TOP, env=environment(self.variables(env or {})), **options)
+        self.addCleanup(end, process)
+        return process
+
+    def started(self, *words: str, env: dict[str, str] | None = None, before: Sequence[str] = (), **how: Any) -> Done:
+        """Runs the suite as a process of its own; these words stand before it."""
+        return run([*before, f"{apart()}/examples/suite", *map(self.at, words)], env=self.variables(env or {}), **how)
+
+    def writes(self, name: str, done: Done, status: int, text: str, said: str = "") -> None:
+        """The suite wrote this table with the folder of certificates above the last line, which counts."""
+        *lines, count = text.splitlines(keepends=True)
+        if self.is_wanted(name):
+            self.judge(name, of_suite(done, self.work), status, "".join([*lines, "certificates: WORK/kept\n", count]), said)
+
+    def table(self, name: str, status: int, text: str, *words: str, **env: str) -> None:
+        """The suite writes this table."""
+        if self.is_wanted(name):
+            self.writes(name, self.called(*words, **env), status, text)
+
+    def refuses(self, name: str, line: str, *words: str, **env: str) -> None:
+        """The suite says this line and prints no table."""
+        if self.is_wanted(name):
+            self.judge(name, of_suite(self.called(*words, **env), self.work), 2, "", f"suite: {line}\n")

@@ -1,0 +1,1112 @@
+"""The program that stands, proved or not, on real files, for what no proof sees: the system's files, standard output, the words and
+the exit status; and the script `pipecheck`, for what it says on standard error."""
+from __future__ import annotations
+
+import io
+import os
+import resource
+import shutil
+from typing import Sequence
+
+from tests.cases import TOP, Cases, command_forms, copy_checkout, pipecheck, program, read, run, unread, within, write
+
+PO, REVERSE = "examples/po.uspec", "examples/po-and-reverse.uspec"
+IN_ORDER, BUFFER = "examples/in-order.uspec", "examples/store-buffer.uspec"
+TWO, FORBIDDEN = "examples/two.test", "examples/two-forbidden.test"
+MP, SB = "examples/mp.test", "examples/sb.test"
+MP_CERTIFICATE, SB_CERTIFICATE = "examples/certificates/mp.txt", "examples/certificates/sb.txt"
+SPOILT = "examples/certificates/mp-spoilt.txt"
+LIFTED_TWO, LIFTED_MP = "examples/lifted/two.txt", "examples/lifted/mp.txt"
+MP_PATTERN = "examples/patterns/MP.pattern"
+
+USAGE = "pipecheck: bad command line\n"
+UNREAD = "pipecheck: a file could not be read\n"
+UNWRITTEN = "pipecheck: standard output could not be written: what it got is not the whole answer\n"
+LACKING = "pipecheck: a command is missing; those that there are stand above\n"
+OBSERVABLE, UNOBSERVABLE = "verified observable\n", "verified unobservable\n"
+PO_EDGE = "node 0.0@0:S\nnode 1.0@0:S\nedge 0.0@0:S 1.0@0:S\nend\n"
+ORDERED = f"observable\ntest permitted: ok\n{PO_EDGE}"
+CYCLIC = "unobservable\ntest forbidden: ok\ncycle 0.0@0:S 1.0@0:S\nend\n"
+FREE = "observable\ntest unstated\nend\n"
+FALSE = "unobservable\ntest unstated\nfalse\nend\n"
+BUFFERED = """node 0.0@0:Exec
+node 0.0@0:Mem
+node 2.0@1:Exec
+node 2.0@1:Mem
+node 1.0@0:Exec
+node 3.0@1:Exec
+edge 0.0@0:Exec 0.0@0:Mem
+edge 2.0@1:Exec 2.0@1:Mem
+edge 0.0@0:Exec 1.0@0:Exec
+edge 2.0@1:Exec 3.0@1:Exec
+edge 1.0@0:Exec 2.0@1:Mem
+edge 3.0@1:Exec 0.0@0:Mem
+end
+"""
+# 64 MiB are the limit of a certificate, 1 MiB that of another file
+MOST = 67_108_864
+MOST_OF_A_FILE = 1_048_576
+S = 'StageName 0 "S".\n'
+
+# a refutation with a choice: each side of the Or at position 1 is denied
+EITHER = """StageName 0 "S".
+StageName 1 "T".
+Axiom "either": forall microops "i", forall microops "j", ProgramOrder i j =>
+  AddEdge ((i, S), (j, S), "") \\/ AddEdge ((j, S), (i, S), "").
+Axiom "late": forall microops "i", forall microops "j", ProgramOrder i j =>
+  ~EdgeExists ((i, S), (j, S), "") /\\ AddEdge ((i, S), (i, T), "")
+  /\\ ~EdgeExists ((j, S), (i, T), "").
+"""
+HEADER = "unobservable\ntest forbidden: ok\n"
+AGAIN = "split 1\npath 0.0@0:S 1.0@0:S\n"
+LAST = "path 1.0@0:S 0.0@0:S 0.0@0:T\nend\n"
+ABSENT = f'{S}Axiom "far": forall microops "i", NodeExists (i, (5, S)) /\\ ~NodeExists (i, (5, S)).\n'
+NEVER = f'{S}Axiom "x": exists microop "i", False.\n'
+MANY = S + 'Axiom "a": forall microop "i", forall microop "j", ProgramOrder i j => AddEdge ((i, S), (j, S), "").\n' * 10_000
+
+
+def refused(line: int) -> str:
+    """What is said of a certificate that is refused at this line."""
+    return f"certificate refused at line {line}\n"
+
+
+def lines(*texts: str) -> str:
+    """These lines."""
+    return "".join(f"{it}\n" for it in texts)
+
+
+def op(number: int, kind: str, address: int, value: object, core: int = 0, within_it: int = 0) -> str:
+    """The line of a micro-op on the page of this tag."""
+    return f"Microop {number} {core} {core} {within_it} ({kind} (VA {address} 0) (PA {address} 0) (Data {value}))."
+
+
+def writes(count: int, value: int) -> str:
+    """A test of so many writes on one core, all of this value."""
+    return lines('Litmus "w".', *(op(number, "Write", 0, value) for number in range(count)))
+
+
+ONE = lines('Litmus "o".', op(0, "Write", 0, 1))
+
+
+LISTING = """X86 SB
+"PodWR Fre PodWR Fre"
+Com=Fr Fr
+{
+}
+ P0          | P1          ;
+ MOV [x],$1  | MOV [y],$1  ;
+ MOV EAX,[y] | MOV EAX,[x] ;
+exists
+(0:EAX=0 /\\ 1:EAX=0)
+"""
+
+
+def open_read(number: int, address: int) -> str:
+    """An open read of the page of this tag."""
+    return op(number, "Read", address, "Any")
+
+
+def stored(number: int, value: object) -> str:
+    """A write of page 0."""
+    return op(number, "Write", 0, value)
+
+
+def swept(*rows: str, unseen: Sequence[str] = ()) -> str:
+    """The text of a sweep that shows each of these rows but those that are unseen."""
+    told = [f"row{it} {'un' * (it in unseen)}observable" for it in rows]
+    return lines(f"sweep {len(rows)}", *told, f"observable {len(rows) - len(unseen)}", f"unobservable {len(unseen)}", "end")
+
+
+def macros(count: int, body: str, before: str = "") -> str:
+    """Macro m0 is True, each next one has this body with the name of the one before it in place of @, and an axiom expands the
+    last."""
+    defined = [f'DefineMacro "m{it}": {body.replace("@", f"m{it - 1}")}.' for it in range(1, count + 1)]
+    return lines(f'{before}DefineMacro "m0": True.', *defined, f'Axiom "x": ExpandMacro m{count}.')
+
+
+def second(*words: str) -> str:
+    """The answer of the second implementation, which is read where it is asked first."""
+    from tools.second.main import run as answer
+
+    out = io.StringIO()
+    answer(list(words), out)
+    return out.getvalue()
+
+
+class Answers(Cases):
+    """What cases of answers share."""
+
+    def file(self, name: str, text: str | bytes) -> str:
+        """Writes a file of this case. Returns its path."""
+        return write(f"{self.work}/{name}", text)
+
+    def judged(
+        self, name: str, status: int, out: str, model: str, test: str, text: str | bytes, word: str = "verify"
+    ) -> None:
+        """The program says this of a certificate of this text."""
+        self.shows(name, status, out, word, model, test, self.file("certificate", text))
+
+    def breaks_off(self, name: str, word: str, model: str, test: str, text: str) -> None:
+        """Each first part of the text, by its length, is refused at the line that it breaks off in."""
+        if self.is_wanted(name):
+            accepted = []
+            for length in range(len(text)):
+                done = run([program(), word, model, test, self.file("certificate", text[:length])])
+                if (done.status, done.out, done.err) != (6, refused(text[:length].count("\n") + 1), ""):
+                    accepted.append(length)
+            with self.case(name):
+                self.assertEqual(accepted, [])
+
+
+class Words(Answers):
+    """Words that are no command, the forms of those that are, files that cannot be read, and verdicts of small models."""
+
+    def test_words_that_are_no_command(self) -> None:
+        three, four = (REVERSE, FORBIDDEN), (REVERSE, FORBIDDEN, LIFTED_TWO, "x")
+        for name, words in (
+            ("no words", ()),
+            ("one word too few", ("check", PO)),
+            ("one word too many", ("check", PO, TWO, TWO)),
+            ("an empty word", ("",)),
+            ("a verify of too few words", ("verify", PO, TWO)),
+            ("check2 of too few words", ("check2", PO)),
+            ("check2 of too many words", ("check2", PO, TWO, TWO)),
+            ("check3 is no command", ("check3", PO, TWO)),
+            ("verify-lifted of too few words", ("verify-lifted", *three)),
+            ("verify-lifted of too many words", ("verify-lifted", *four)),
+            ("lift of too few words", ("lift", *three)),
+            ("lift of too many words", ("lift", *four)),
+            ("core of too few words", ("core", PO)),
+            ("core of too many words", ("core", PO, TWO, TWO)),
+            ("ask of too few words", ("ask", PO, TWO)),
+            ("ask of too many words", ("ask", PO, TWO, TWO, TWO)),
+            ("check86 of too few words", ("check86", PO)),
+            ("check86 of too many words", ("check86", PO, TWO, TWO)),
+            ("verify86 of too few words", ("verify86", PO, TWO)),
+            ("verify86 of too many words", ("verify86", PO, TWO, TWO, TWO)),
+            ("a sweep of too few words", ("sweep", PO)),
+            ("a sweep of too many words", ("sweep", PO, TWO, TWO)),
+            ("a ring of one core", ("gen", "1")),
+        ):
+            self.shows(name, 2, USAGE, *words)
+
+    def test_forms(self) -> None:
+        forms = command_forms()
+        self.says("no words: the forms of the commands", 2, USAGE, forms + LACKING)
+        self.says("--help: the forms of the commands on standard output", 0, forms, "", "--help")
+        self.says("help: the forms of the commands on standard output", 0, forms, "", "help")
+        self.says(
+            "help with a word that is no command: the forms of all", 2, USAGE,
+            f"{forms}pipecheck: there is no command chekc; those that there are stand above\n", "help", "chekc",
+        )
+        self.says(
+            "words that are no command: the forms of the one that was meant", 2, USAGE, """pipecheck check MODEL TEST
+    Says whether the outcome of a litmus test is observable on a model. MODEL
+    and TEST are files.
+pipecheck: these words are no command; how check is called stands above
+""", "check", PO,
+        )
+
+    def test_files_that_cannot_be_read(self) -> None:
+        none, folder = f"{self.work}/none", self.work
+        both = (REVERSE, FORBIDDEN)
+        for name, words in (
+            ("a missing model", ("check", none, TWO)),
+            ("a missing test", ("check", PO, none)),
+            ("a directory as model", ("check", folder, TWO)),
+            ("a directory as test", ("check", PO, folder)),
+            ("a missing certificate", ("verify", PO, TWO, none)),
+            ("a directory as certificate", ("verify", PO, TWO, folder)),
+            ("verify-lifted: a missing certificate", ("verify-lifted", *both, none)),
+            ("verify-lifted: a directory as certificate", ("verify-lifted", *both, folder)),
+            ("lift: a missing certificate", ("lift", *both, none)),
+            ("check86: a missing listing", ("check86", PO, none)),
+            ("check86: a directory as listing", ("check86", PO, folder)),
+            ("verify86: a missing certificate", ("verify86", PO, "examples/x86/SB.litmus", none)),
+            ("a sweep of a file that is missing", ("sweep", PO, none)),
+            # a name of 300 bytes is longer than the system allows
+            ("a name that the system refuses", ("check", "n" * 300, TWO)),
+        ):
+            self.shows(name, 4, "", *words)
+        missing = f"{UNREAD}pipecheck: {none} is not there\n"
+        for name, said, words in (
+            ("which file is missing", missing, ("check", PO, none)),
+            ("that both files are missing", f"{missing}pipecheck: two\\ words is not there\n", ("check", none, "two words")),
+            ("that the certificate is missing", missing, ("verify", PO, TWO, none)),
+            ("which file is a directory", f"{UNREAD}pipecheck: {folder} is a directory\n", ("check", folder, TWO)),
+            ("verify-lifted: which file is missing", missing, ("verify-lifted", *both, none)),
+            ("verify86: which file is missing", missing, ("verify86", PO, none, SB_CERTIFICATE)),
+        ):
+            self.says(name, 4, "", said, *words)
+
+    def test_a_refused_file_beside_a_missing_one(self) -> None:
+        none, no_item = f"{self.work}/none", self.file("no-item", ".\n")
+        for name, what, words in (
+            ("a refused model beside a missing certificate", "model", ("verify", no_item, TWO, none)),
+            ("verify-lifted: a refused model beside a missing certificate", "model", ("verify-lifted", LIFTED_TWO, TWO, none)),
+            ("verify-lifted: a refused test beside a missing certificate", "test", ("verify-lifted", PO, LIFTED_TWO, none)),
+            ("lift: a refused model beside a missing certificate", "model", ("lift", LIFTED_TWO, TWO, none)),
+            ("a model that no item begins", "model", ("check", no_item, TWO)),
+            ("a test that no item begins", "test", ("check", PO, no_item)),
+            ("a sweep on a model with a fault", "model", ("sweep", no_item, MP_PATTERN)),
+            ("check86 of a test", "test", ("check86", BUFFER, SB)),
+        ):
+            self.shows(name, 3, f"refused {what} syntax at 1:1\n", *words)
+
+    def test_a_word_that_is_not_utf_8(self) -> None:
+        self.gives("a word that is not UTF-8", [program(), "check", b"\xff", TWO], 8)
+        self.gives(
+            "that the arguments could not be had", [pipecheck(), "check", b"\xff", TWO], 8, "",
+            "pipecheck: the arguments could not be had, as where one of them is not UTF-8\n",
+        )
+
+    def test_verdicts(self) -> None:
+        self.shows("two writes in program order are seen", 0, ORDERED, "check", PO, TWO)
+        self.shows("two writes in both orders are not", 1, CYCLIC, "check", REVERSE, FORBIDDEN)
+        self.says("nothing beside a verdict", 1, CYCLIC, "", "check", REVERSE, FORBIDDEN)
+        self.shows(
+            "message passing in order is not seen", 1,
+            f"{HEADER}cycle 0.0@0:Mem 1.0@0:Mem 2.0@1:Mem 3.0@1:Mem\nend\n", "check", IN_ORDER, MP,
+        )
+        self.shows(
+            "message passing through store buffers in order is not seen", 1,
+            f"{HEADER}cycle 0.0@0:Mem 1.0@0:Mem 2.0@1:Exec 3.0@1:Exec\nend\n", "check", BUFFER, MP,
+        )
+        self.shows(
+            "store buffering in order is not seen", 1,
+            f"{HEADER}cycle 0.0@0:Mem 1.0@0:Mem 2.0@1:Mem 3.0@1:Mem\nend\n", "check", IN_ORDER, SB,
+        )
+        self.shows(
+            "store buffering through store buffers is seen", 0, f"observable\ntest forbidden: BUG\n{BUFFERED}", "check", BUFFER, SB
+        )
+        stricter = "unobservable\ntest permitted: stricter\n"
+        self.shows(
+            "a split, and a path that is denied on each side", 1, HEADER + AGAIN + LAST,
+            "check", self.file("either.uspec", EITHER), FORBIDDEN,
+        )
+        self.shows(
+            "a node that is denied and asserted", 1, f"{stricter}absent 0.0@5:S\nend\n",
+            "check", self.file("absent.uspec", ABSENT), TWO,
+        )
+        self.shows(
+            "a model that nothing satisfies", 1, f"{stricter}false\nend\n", "check", self.file("never.uspec", NEVER), TWO
+        )
+
+    def test_a_pipeline_that_keeps_program_order(self) -> None:
+        """It says nothing of values."""
+        two_by_two = (
+            "node 0.0@0:S\nnode 1.0@0:S\nnode 2.0@1:S\nnode 3.0@1:S\nedge 0.0@0:S 1.0@0:S\nedge 2.0@1:S 3.0@1:S\n"
+        )
+        for name, expectation, graph in (
+            ("mp", "forbidden: BUG", two_by_two),
+            ("sb", "forbidden: BUG", two_by_two),
+            ("lb", "permitted: ok", two_by_two),
+            (
+                "iriw", "unstated",
+                "node 2.0@2:S\nnode 3.0@2:S\nnode 4.0@3:S\nnode 5.0@3:S\nedge 2.0@2:S 3.0@2:S\nedge 4.0@3:S 5.0@3:S\n",
+            ),
+            ("corr", "forbidden: BUG", "node 1.0@1:S\nnode 2.0@1:S\nedge 1.0@1:S 2.0@1:S\n"),
+        ):
+            self.shows(
+                f"{name} on a pipeline that keeps program order", 0, f"observable\ntest {expectation}\n{graph}end\n",
+                "check", PO, f"examples/{name}.test",
+            )
+
+    def test_certificates(self) -> None:
+        self.shows("its refutation is verified", 1, UNOBSERVABLE, "verify", IN_ORDER, MP, MP_CERTIFICATE)
+        self.shows("a graph is verified", 0, OBSERVABLE, "verify", BUFFER, SB, SB_CERTIFICATE)
+        self.shows("a refutation of another model is refused", 6, refused(3), "verify", BUFFER, MP, MP_CERTIFICATE)
+        self.shows("a graph of another test is refused at its end", 6, refused(15), "verify", BUFFER, MP, SB_CERTIFICATE)
+        self.says("nothing beside a refused certificate", 6, refused(3), "", "verify", IN_ORDER, MP, SPOILT)
+
+    def test_texts_of_certificates(self) -> None:
+        """Of the two writes that either order is denied of."""
+        either, whole = self.file("either.uspec", EITHER), HEADER + AGAIN + LAST
+        for name, line, text in (
+            # after a million splits of one Or that nothing closes, `end` finds a branch open
+            ("a million splits and no leaf", 1_000_003, HEADER + "split 1\n" * 1_000_000 + "end\n"),
+            ("an empty certificate", 1, ""),
+            ("a certificate of NUL bytes", 1, "\0" * 1_000_000),
+            ("a last line without its LF", 3, f"{HEADER}end"),
+            ("lines that end with CR and LF", 1, HEADER.replace("\n", "\r\n")),
+        ):
+            self.judged(name, 6, refused(line), either, FORBIDDEN, text)
+        self.judged("a million lines, half of them leaves", 1, UNOBSERVABLE, either, FORBIDDEN, HEADER + AGAIN * 500_000 + LAST)
+        long = self.file("long", "a" * MOST)
+        for line, length in ((1, "a line of 64 MiB"), (0, "one byte past 64 MiB")):
+            for name, *words in (
+                (length, "verify", either), (f"verify-lifted: {length}", "verify-lifted", REVERSE),
+                (f"lift of {length}", "lift", REVERSE),
+            ):
+                self.shows(name, 6, refused(line), *words, FORBIDDEN, long)
+            with open(long, "a", encoding="ascii") as file:
+                file.write("\n")
+        self.breaks_off("each first part of a refutation is refused where it breaks off", "verify", either, FORBIDDEN, whole)
+        self.judged("the whole of it", 1, UNOBSERVABLE, either, FORBIDDEN, whole)
+
+    def test_version_2(self) -> None:
+        """The right side of a split keeps that the left one is false."""
+        stages = f'{S}StageName 1 "T".\nStageName 2 "U".\n'
+        sign = self.file("sign.uspec", f"""{stages}Axiom "s": forall microops "i",
+  ((NodeExists (i, S) /\\ NodeExists (i, T)) \\/ NodeExists (i, U))
+  /\\ ~NodeExists (i, U) /\\ ~NodeExists (i, T).
+""")
+        negative = self.file("neg.uspec", f"""{stages}Axiom "n": forall microops "i",
+  ((NodeExists (i, S) /\\ EdgeExists ((i, U), (i, S)))
+   \\/ (~NodeExists (i, T) /\\ EdgeExists ((i, U), (i, S))))
+  /\\ (~NodeExists (i, U) \\/ ~EdgeExists ((i, U), (i, S)))
+  /\\ (~NodeExists (i, U) \\/ EdgeExists ((i, T), (i, S))).
+""")
+        one = self.file("one.test", ONE)
+        signed = "unobservable\ntest unstated\nversion 2\nsplit 1\n"
+        self.shows(
+            "check2: a refutation of version 2", 1, f"{signed}absent 0.0@0:T\nabsent 0.0@0:U\nend\n", "check2", sign, one
+        )
+        self.shows("check2: a split with a sign", 1, f"""{signed}split 9
+absent 0.0@0:U
+path 0.0@0:U 0.0@0:S
+split ~2
+absent 0.0@0:S
+path 0.0@0:U 0.0@0:S
+end
+""", "check2", negative, one)
+        self.shows(
+            "check2: a split, and a path that is denied on each side", 1, f"{HEADER}version 2\n{AGAIN}{LAST}",
+            "check2", self.file("either.uspec", EITHER), FORBIDDEN,
+        )
+        self.shows(
+            "check2: a refutation without a split", 1, f"{HEADER}version 2\ncycle 0.0@0:S 1.0@0:S\nend\n", "check2", REVERSE,
+            FORBIDDEN
+        )
+        self.shows("check2: a graph has no version", 0, ORDERED, "check2", PO, TWO)
+        t, u = "absent 0.0@0:T", "absent 0.0@0:U"
+        for name, status, out, body in (
+            ("a split of a denied And", 1, UNOBSERVABLE, ("version 2", "split 1", t, "split ~2", u, u, "end")),
+            ("a sign in a text of version 1", 6, refused(5), ("split 1", t, "split ~2", u, u, "end")),
+            (
+                "a sign where the position is asserted without one", 6, refused(5),
+                ("version 2", "split 1", "split ~2", "split ~2", u, u, "end"),
+            ),
+        ):
+            self.judged(name, status, out, sign, one, lines("unobservable", "test unstated", *body))
+
+
+class Lifted(Answers):
+    """Lifted refutations, which speak of the axioms themselves, and what makes them of refutations of version 1."""
+
+    def test_examples(self) -> None:
+        for name, status, out, words in (
+            ("verify-lifted: a cycle of two edges", 1, UNOBSERVABLE, (REVERSE, FORBIDDEN, LIFTED_TWO)),
+            ("verify-lifted: message passing in order", 1, UNOBSERVABLE, (IN_ORDER, MP, LIFTED_MP)),
+            (
+                "verify-lifted: coherence of reads in order, by macros", 1, UNOBSERVABLE,
+                ("examples/models/sc-inorder.uspec", "examples/corr.test", "examples/lifted/corr.txt"),
+            ),
+            ("verify-lifted of a test that states something else", 6, refused(2), (REVERSE, TWO, LIFTED_TWO)),
+            ("verify-lifted of a graph", 6, refused(1), (BUFFER, SB, SB_CERTIFICATE)),
+            ("verify-lifted of a refutation of the ground tree", 6, refused(3), (IN_ORDER, MP, MP_CERTIFICATE)),
+        ):
+            self.shows(name, status, out, "verify-lifted", *words)
+        self.says("nothing beside a verified one", 1, UNOBSERVABLE, "", "verify-lifted", REVERSE, FORBIDDEN, LIFTED_TWO)
+        self.says("nothing beside a refused one", 6, refused(6), "", "verify-lifted", BUFFER, MP, LIFTED_MP)
+        self.shows("verify of a lifted refutation", 6, refused(3), "verify", IN_ORDER, MP, LIFTED_MP)
+
+    def two_writes(self, name: str, status: int, out: str, text: str | bytes) -> None:
+        """What is said of this text of the two writes in both orders."""
+        self.judged(f"verify-lifted: {name}", status, out, REVERSE, FORBIDDEN, text, "verify-lifted")
+
+    def test_changed_lines(self) -> None:
+        """Each text is refused at the first of these lines; of the second one, the old part becomes the new one."""
+        whole = read(LIFTED_TWO).splitlines()
+        for at, name, line, old, new in (
+            (3, "another third line", 3, "lifted", "version 2"),
+            (4, "a micro-op that the test has not", 4, "0.0", "2.0"),
+            (4, "a core for a micro-op", 4, "0.0", "0"),
+            (4, "a leading zero", 4, "0 0.0", "00 0.0"),
+            (4, "two spaces", 4, " ", "  "),
+            (4, "a number past 64 bits", 4, "0 0.0", "18446744073709551616 0.0"),
+            (5, "a fact that is not there yet", 5, "2", "3"),
+            (6, "a split of a forall", 6, "3", "2"),
+            (7, "an implication is not false by itself", 7, "4", "3"),
+            (7, "the end with two branches open", 7, "false 4", "end"),
+            (8, "a fact of the branch that was closed", 8, "member 4 0", "false 4"),
+            (8, "a member past the last", 8, "4 0", "4 1"),
+            (9, "a side of a single edge", 9, "inst 1 0.0", "left 5"),
+            (14, "an edge that does not end where the next begins", 14, "5 9", "5 5"),
+            (14, "a list for its edge", 14, "5 9", "5 8"),
+            (14, "a path without a denial", 14, "cycle", "path"),
+            (16, "a line after the end", 15, "end", "end\nend"),
+        ):
+            self.assertIn(old, whole[line - 1])
+            changed = [*whole[: line - 1], whole[line - 1].replace(old, new, 1), *whole[line:]]
+            self.two_writes(name, 6, refused(at), lines(*changed))
+        self.two_writes("without its third line", 6, refused(3), lines(*whole[:2], *whole[3:]))
+        self.two_writes("without its end", 6, refused(15), lines(*whole[:14]))
+
+    def test_denied_nodes(self) -> None:
+        """A model that asks for its first axiom, and denies it."""
+        nodes = self.file("nodes.uspec", f"""{S}Axiom "c": forall cores "c", exists microop "i", NodeExists (i, (c, S)).
+Axiom "d": ~(exists microop "i", NodesExist [(i, S)]) /\\ True.
+""")
+        asked = ("inst 0 0", "left 1", "not 3", "split 2", "member 5 0", "inst 4 0.0", "split 7")
+        rest = ("absent 8 6", "false 8", "split 5", "member 6 0", "inst 4 1.0", "split 8", "absent 9 7", "false 9", "false 6",
+            "end")
+        for name, status, out, body in (
+            ("nodes that are asked for and denied", 1, UNOBSERVABLE, (*asked, *rest)),
+            ("absent of a fact that is no denial", 6, refused(11), (*asked, "absent 6 8")),
+            ("a split after the end of a list", 6, refused(12), (*asked, "absent 8 6", "split 8")),
+            ("a core that is not in the range", 6, refused(4), ("inst 0 1",)),
+            ("false of an exists with members left", 6, refused(5), ("inst 0 0", "false 2")),
+        ):
+            text = lines("unobservable", "test permitted: stricter", "lifted", *body)
+            self.judged(f"verify-lifted: {name}", status, out, nodes, TWO, text, "verify-lifted")
+        self.judged(
+            "verify-lifted: an exists over nothing", 1, UNOBSERVABLE, self.file("never.uspec", NEVER),
+            self.file("empty.test", 'Litmus "e".\n'), lines("unobservable", "test unstated", "lifted", "false 0", "end"),
+            "verify-lifted",
+        )
+
+    def test_texts(self) -> None:
+        whole = read(LIFTED_TWO)
+        by_line = whole.splitlines(keepends=True)
+        # a fact may be split again and again: each time the left branch is closed at once
+        open_branch = "".join(f"split 3\nfalse {4 + k}\n" for k in range(50_000))
+        for name, at, text in (
+            ("an empty text", 1, ""),
+            ("NUL bytes", 1, "\0" * 1_000_000),
+            ("lines that end with CR and LF", 1, whole.replace("\n", "\r\n")),
+            ("a last line without its LF", 15, whole[:-1]),
+            ("a step of 60,000,000 spaces", 4, "".join(by_line[:3]) + " " * 60_000_000 + "\n"),
+            ("100,000 lines that leave a branch open", 100_006, "".join(by_line[:5]) + open_branch + "end\n"),
+        ):
+            self.two_writes(name, 6, refused(at), text)
+        facts = "inst 0 0.0\n" * 50_000
+        last = ("inst 1 0.0", "inst 50006 1.0", "split 50007", "false 50008", "member 50008 0", "cycle 50005 50009", "end")
+        self.two_writes(
+            "50,000 facts on one branch", 1, UNOBSERVABLE, "".join(by_line[:7]) + facts + lines("member 4 0", *last)
+        )
+        self.breaks_off(
+            "verify-lifted: each first part is refused where it breaks off", "verify-lifted", REVERSE, FORBIDDEN, whole
+        )
+
+    def test_what_is_lifted(self) -> None:
+        lifted = read(LIFTED_TWO)
+        cyclic = self.file("cyclic", CYCLIC)
+        self.shows("lift: a cycle of two edges", 0, lifted, "lift", REVERSE, FORBIDDEN, cyclic)
+        self.says("lift: nothing beside a lifted refutation", 0, lifted, "", "lift", REVERSE, FORBIDDEN, cyclic)
+        self.shows("lift of a graph", 0, OBSERVABLE, "lift", BUFFER, SB, SB_CERTIFICATE)
+        self.shows("lift of a graph of another test", 6, refused(15), "lift", BUFFER, MP, SB_CERTIFICATE)
+        self.shows("lift of a spoilt refutation", 6, refused(3), "lift", IN_ORDER, MP, SPOILT)
+        self.shows("lift of a lifted refutation", 6, refused(3), "lift", REVERSE, FORBIDDEN, LIFTED_TWO)
+        either = self.file("either.uspec", EITHER)
+        self.judged(
+            "lift of a refutation of version 2", 6, refused(3), either, FORBIDDEN, f"{HEADER}version 2\n{AGAIN}{LAST}", "lift"
+        )
+        for name, line, text in (
+            ("lift of an empty text", 1, ""),
+            ("lift of a text whose first line is none", 1, "test forbidden: ok\nversion 2\n"),
+        ):
+            self.judged(name, 6, refused(line), REVERSE, FORBIDDEN, text, "lift")
+
+    def lifts(self, name: str, model: str, test: str, text: str | None = None) -> None:
+        """This refutation, or that of `check`, is lifted, and `verify-lifted` accepts what comes of it."""
+        name = f"lift: {name}"
+        if not self.is_wanted(name):
+            return
+        text = run([program(), "check", model, test]).out if text is None else text
+        lifted = run([program(), "lift", model, test, self.file("certificate", text)])
+        found = run([program(), "verify-lifted", model, test, self.file("lifted", lifted.out)])
+        with self.case(name):
+            self.assertEqual((lifted.status, lifted.err, found.status, found.out, found.err), (0, "", 1, UNOBSERVABLE, ""))
+
+    def test_lifted_ones_are_accepted(self) -> None:
+        either = self.file("either.uspec", EITHER)
+        self.lifts("both sides of a split", either, FORBIDDEN)
+        self.lifts("a choice that is split again and again", either, FORBIDDEN, HEADER + AGAIN * 2 + LAST)
+        self.lifts("10,000 splits of one choice", either, FORBIDDEN, HEADER + AGAIN * 10_000 + LAST)
+        self.lifts("a node that is denied and asserted", self.file("absent.uspec", ABSENT), TWO)
+        self.lifts("an axiom that is false alone", self.file("never.uspec", NEVER), TWO)
+        no_core = f'{S}Axiom "x": forall core "c", True.\nAxiom "y": exists core "c", forall microop "i", True.\n'
+        self.lifts("quantifiers over no cores", self.file("no-core.uspec", no_core), self.file("empty.test", 'Litmus "e".\n'))
+        # each side that is false in the test stands on the left and on the right, below other connectives, and in a macro
+        self.lifts("sides that are false in the test", self.file("sides.uspec", lines(
+            'StageName 0 "S".',
+            'DefineMacro "m" "i" "j": SameMicroop i j \\/ (AddEdge ((i, S), (j, S)) \\/ IsAnyRead i).',
+            'Axiom "x": forall microop "i", forall microop "j",',
+            '  (IsAnyRead i \\/ ExpandMacro m i j) /\\ ~(IsAnyWrite i => IsAnyRead j).',
+            'Axiom "y": exists microop "i", exists microop "j", ~SameMicroop i j /\\ ~NodesExist [(i, S); (j, S)].',
+            'Axiom "z": ~(forall microop "i", ExpandMacro m i i => False) \\/ False.',
+        )), TWO)
+
+    def test_long_lists(self) -> None:
+        """Of 100,000 nodes, asserted and denied."""
+        one, nodes = self.file("one.test", ONE), "[(i, S)" + ";(i,S)" * 99_999 + "]"
+        asserted = f'{S}Axiom "all": forall microop "i", NodesExist {nodes}.\n'
+        asserted += 'Axiom "none": forall microop "i", ~NodeExists (i, S).\n'
+        self.lifts("a list of 100,000 nodes", self.file("long.uspec", asserted), one)
+        denied = f'{S}Axiom "all": forall microop "i", ~NodesExist {nodes}.\nAxiom "none": forall microop "i", NodeExists (i, S).\n'
+        splits = "".join(f"split {k}\nabsent 0.0@0:S\n" for k in range(1, 199_999, 2))
+        self.lifts(
+            "a denied list of 100,000 nodes", self.file("denied.uspec", denied), one,
+            f"unobservable\ntest unstated\n{splits}absent 0.0@0:S\nend\n",
+        )
+
+
+class Questions(Answers):
+    """Minimal sets of axioms, and formulas that are asked, on shipped files with the texts of the second implementation; and tests
+    with page-table entries."""
+
+    def test_core(self) -> None:
+        shown = "observable\ntest forbidden: BUG\n"
+        by_reverse = f"{shown}node 1.0@0:S\nnode 0.0@0:S\nedge 1.0@0:S 0.0@0:S\nend\n"
+        by_order = shown + PO_EDGE
+        self.shows(
+            "core: two axioms", 0,
+            f"core 2\naxiom 0\naxiom 1\nrefutation\n{CYCLIC}without 0\n{by_reverse}without 1\n{by_order}end\n", "core", REVERSE,
+            FORBIDDEN,
+        )
+        # the cut models, of the second axiom and of the first
+        rows = read(REVERSE).splitlines()
+        reverse = self.file("reverse.uspec", lines(*rows[:3], *rows[5:]))
+        self.judged("core: its first graph is of the second axiom", 0, OBSERVABLE, reverse, FORBIDDEN, by_reverse)
+        self.judged("core: its second graph is of the first axiom", 0, OBSERVABLE, PO, FORBIDDEN, by_order)
+        self.shows("core: none", 0, f"core none\n{ORDERED}end\n", "core", PO, TWO)
+        self.shows("core: an axiom that is False by itself", 0, """core 1
+axiom 0
+refutation
+unobservable
+test permitted: stricter
+false
+end
+without 0
+observable
+test permitted: ok
+end
+end
+""", "core", self.file("never.uspec", NEVER), TWO)
+        true = self.file("true.uspec", "True.\n")
+        self.says(
+            "core: a refusal is told", 3, "refused model syntax at 1:1\n",
+            f"{true}:1:1: syntax: no model can continue with this token\n    True.\n    ^\n"
+            "pipecheck: `StageName`, `Axiom` or `DefineMacro` is expected\n", "core", true, TWO,
+        )
+
+    def test_core_on_shipped_models(self) -> None:
+        for name in ("sc-inorder", "tso-ooo", "tutorial"):
+            for litmus in ("MP", "SB"):
+                files = (f"examples/models/{name}.uspec", f"examples/tests/{litmus}.test")
+                self.shows(f"core: {litmus} on {name}", 0, second("core", *files), "core", *files)
+
+    def test_a_lock_of_three_cores(self) -> None:
+        """A search of 127 splits, which follows what failed: three cores take a lock, to add 1 to a counter each, and the last
+        addition is lost."""
+        ops = ['Litmus "lock".']
+        for core, (got, put) in enumerate(((0, 1), (1, 2), (1, 100))):
+            first = 4 * core
+            ops += [
+                op(first, "Read Locked", 0, 0, core), op(first, "Write Locked", 0, 1, core, 1), op(first + 1, "Read", 1, got, core),
+                op(first + 2, "Write", 1, put, core), op(first + 3, "Write", 0, 0, core),
+            ]
+        files = ("examples/models/tso-buffer.uspec", self.file("lock.test", lines(*ops)))
+        for word in ("check", "check2"):
+            name = f"{word}: a lock of three cores"
+            if self.is_wanted(name):
+                self.shows(name, 1, second(word, *files), word, *files)
+
+    def test_ask(self) -> None:
+        both = 'exists microop "i", exists microop "j", ProgramOrder i j /\\ EdgeExists ((i, S), (j, S))'
+        self.shows(
+            "ask: always", 0,
+            f"ask always\nwith\n{ORDERED}against\nunobservable\ntest permitted: stricter\npath 0.0@0:S 1.0@0:S\nend\nend\n",
+            "ask", PO, TWO, self.file("both.query", f"{both}\n"),
+        )
+        # the certificate after `with` is one of the model with the formula as its last axiom
+        asked = self.file("asked.uspec", f'{read(PO)}Axiom "asked": {both}.\n')
+        self.judged("ask: its graph is of the model with the formula", 0, OBSERVABLE, asked, TWO, ORDERED)
+        stage = self.file("stage.query", 'exists microop "i", NodeExists (i, T)\n')
+        self.says(
+            "ask: a refusal is told", 3, "refused query stage-unknown at 1:36\n",
+            f"{stage}:1:36: stage-unknown: no stage has the name\n"
+            f'    exists microop "i", NodeExists (i, T)\n{" " * 39}^\n', "ask", PO, TWO, stage,
+        )
+
+    def test_shipped_questions(self) -> None:
+        for line in read("examples/queries/answers.tsv").splitlines()[1:]:
+            query, name, litmus, word = line.split("\t")
+            files = (f"examples/models/{name}.uspec", f"examples/tests/{litmus}.test", f"examples/queries/{query}.query")
+            text = second("ask", *files)
+            with self.case(f"ask: {query} of {litmus} on {name} is {word}"):
+                self.assertIn(f"ask {word}", text.splitlines())
+            self.shows(f"ask: {query} of {litmus} on {name}", 0, text, "ask", *files)
+
+    def walk(self, word: str, entry: str) -> str:
+        """A test of this format, with a read of an entry and a write to the page that it maps to."""
+        return self.file("walk.test", lines(
+            f'{word} "w".', f"Microop 0 0 0 0 (Read (VA 3 0) (Entry 3) ({entry})).",
+            "Microop 0 0 0 1 (Write (VA 3 0) (PA 7 0) (Data 1)).",
+        ))
+
+    def test_entries(self) -> None:
+        model = self.file("walk.uspec", lines(
+            'StageName 0 "S".', 'Axiom "walk": forall microops "i", forall microops "j",',
+            '  EntryOf i j /\\ MapsTagOf i j => AddEdge ((i, S), (j, S), "walk").',
+        ))
+        walked = "observable\ntest unstated\nnode 0.0@0:S\nnode 0.1@0:S\nedge 0.0@0:S 0.1@0:S\nend\n"
+        test = self.walk("Litmus2", "Maps 7 1 0")
+        self.shows("a walk", 0, walked, "check", model, test)
+        self.shows("check2: a walk", 0, walked, "check2", model, test)
+        self.judged("its graph is verified", 0, OBSERVABLE, model, test, walked)
+        self.shows("an entry of another page", 0, FREE, "check", model, self.walk("Litmus2", "Maps 8 1 0"))
+        test = self.walk("Litmus", "Maps 7 1 0")
+        self.says("an entry in a test of format 1", 3, "refused test syntax at 2:33\n", f"""\
+{test}:2:33: syntax: no test can continue with this token
+    Microop 0 0 0 0 (Read (VA 3 0) (Entry 3) (Maps 7 1 0)).
+{' ' * 36}^
+pipecheck: `PA` is expected
+""", "check", model, test)
+        test = self.walk("Litmus2", "Maps 7 2 0")
+        for name, word in (("a mark of 2", "check"), ("a mark of 2: check2 says it too", "check2")):
+            self.says(name, 3, "refused test mark-value at 2:50\n", f"""\
+{test}:2:50: mark-value: a mark of a page-table entry over 1
+    Microop 0 0 0 0 (Read (VA 3 0) (Entry 3) (Maps 7 2 0)).
+{' ' * 53}^
+""", word, model, test)
+        for name, fault, entry in (
+            ("both marks over 1", "mark-value at 2:50", "Maps 7 2 3"), ("a dirty mark over 1", "mark-value at 2:52", "Maps 7 1 3")
+        ):
+            self.shows(name, 3, f"refused test {fault}\n", "check", model, self.walk("Litmus2", entry))
+        again = self.file("again.test", 'Litmus2 "d".\nInit (Entry 3) 7.\nInit (Entry 3) (Maps 7 2 0).\n')
+        self.shows("a mark of 2 where an address comes again", 3, "refused test again-initial at 3:1\n", "check", model, again)
+        default = self.file("default.test", lines(
+            'Litmus2 "d".', "Microop 0 0 0 0 (Read (VA 5 0) (Entry 5) (Maps 5 0 0)).",
+            "Microop 1 0 0 0 (Read (VA 5 0) (PA 5 0) (Data 0)).",
+        ))
+        initial = self.file("default.uspec",
+            f'{S}Axiom "a": forall microops "i", DataFromInitialStateAtPA i => NodeExists (i, S).\n')
+        self.shows(
+            "what an entry and a page hold where no line says it", 0,
+            "observable\ntest unstated\nnode 0.0@0:S\nnode 1.0@0:S\nend\n",
+            "check", initial, default,
+        )
+
+
+class Listings(Answers):
+    """Listings of herd's for X86; what the open reads of a pattern may get; and rings of cores."""
+
+    def listing(self, text: str = LISTING) -> str:
+        """A listing of this text."""
+        return self.file("sb.litmus", text)
+
+    def test_verdicts(self) -> None:
+        seen = f"observable\ntest unstated\n{BUFFERED}"
+        self.shows("check86: exists states nothing", 0, seen, "check86", BUFFER, self.listing())
+        unseen = "unobservable\ntest unstated\ncycle 0.0@0:Mem 1.0@0:Mem 2.0@1:Mem 3.0@1:Mem\nend\n"
+        self.shows("check86: in order it is not seen", 1, unseen, "check86", IN_ORDER, self.listing())
+        for name, status, out, model, text in (
+            ("verify86: its graph is verified", 0, OBSERVABLE, BUFFER, seen),
+            ("verify86: a graph of a test that states something", 6, refused(2), BUFFER, read(SB_CERTIFICATE)),
+            ("verify86: a graph on another model", 6, refused(3), PO, seen),
+            ("verify86: its refutation is verified", 1, UNOBSERVABLE, IN_ORDER, unseen),
+        ):
+            self.judged(name, status, out, model, self.listing(), text, "verify86")
+        denied, forbidden = LISTING.replace("exists", "~exists"), f"observable\ntest forbidden: BUG\n{BUFFERED}"
+        self.says("check86: ~exists is forbidden", 0, forbidden, "", "check86", BUFFER, self.listing(denied))
+        self.shows(
+            "verify86: a graph of a test is one of the listing", 0, OBSERVABLE, "verify86", BUFFER, self.listing(denied),
+            SB_CERTIFICATE
+        )
+        other = denied.replace("EAX", "exists").replace("[x]", "[MFENCE]").replace("[y]", "[ (* of y *) MOV\n]")
+        for name, text in (
+            ("lines that end with CR and LF", denied.replace("\n", "\r\n")),
+            ("other names, blanks and comments", other.replace("\n{", "\n \t{ (* x=2 *)")),
+        ):
+            self.shows(f"check86: {name}", 0, forbidden, "check86", BUFFER, self.listing(text))
+        filled = LISTING.replace(" MOV EAX,[y]", " MFENCE|;\n" * 60 + " MOV EAX,[y]")
+        self.shows("check86: 64 instructions", 0, FREE, "check86", self.file("empty.uspec", ""), self.listing(filled))
+
+    def test_faults_beside_others(self) -> None:
+        self.shows("check of a listing", 3, "refused test lexical at 3:4\n", "check", BUFFER, self.listing())
+        large = self.file("too-large.litmus", LISTING + " " * (MOST_OF_A_FILE + 1))
+        self.shows("check86: a listing past 1 MiB", 3, "refused test too-large at 1:1\n", "check86", PO, large)
+        open_one = self.listing(LISTING.replace(" /\\ 1:EAX=0", ""))
+        self.shows(
+            "check86: a refused model beside a refused listing", 3, "refused model syntax at 7:1\n", "check86", SB, open_one
+        )
+        at = "refused test x86-open at 8:20\n"
+        self.shows(
+            "verify86: a refused listing beside a missing certificate", 3, at, "verify86", BUFFER, open_one, f"{self.work}/none"
+        )
+        self.says("check86: where a listing has its fault", 3, at, f"""\
+{open_one}:8:20: x86-open: the condition gives this register no value
+     MOV EAX,[y] | MOV EAX,[x] ;
+{' ' * 23}^
+""", "check86", BUFFER, open_one)
+
+    def test_faults(self) -> None:
+        """Of this line the old part becomes the new one; an empty old part stands at its end."""
+        whole = LISTING.splitlines()
+        for fault, name, line, old, new in (
+            ("syntax at 1:1", "another architecture", 1, "X86", "PPC"),
+            ("syntax at 1:1", "X86_64", 1, "X86", "X86_64"),
+            ("syntax at 1:1", "a tab after X86", 1, " ", "\t"),
+            ("syntax at 1:1", "a name of two words", 1, "", " 2"),
+            ("syntax at 2:2", "a line of the header that begins with a blank", 2, '"Pod', ' "Pod'),
+            ("syntax at 3:1", "a line of the header without =", 3, "=", " "),
+            ("lexical at 9:1", "a comment that is none of a listing", 9, "exists", "% exists"),
+            ("lexical at 9:1", "a comment that is open at the end", 9, "exists", "(* exists"),
+            ("lexical at 10:10", "a disjunction", 10, "/\\", "\\/"),
+            ("lexical at 10:8", "a negative number", 10, "=0", "=-1"),
+            ("syntax at 10:9", "a number that begins with 0x", 10, "=0", "=0x1"),
+            ("syntax at 10:2", "a bracket in a condition", 10, "0:", "(0:"),
+            ("syntax at 10:5", "a condition that is denied inside", 10, "(", "not ("),
+            ("syntax at 4:3", "a location without a value in the first block", 4, "", "x; "),
+            ("syntax at 4:7", "a type in the first block", 4, "", " int x=0;"),
+            ("syntax at 4:3", "a register in the first block", 4, "", " 0:EAX=0;"),
+            ("syntax at 8:2", "another instruction", 8, "MOV", "ADD"),
+            ("syntax at 7:10", "a store of a register", 7, "$1", "EBX"),
+            ("syntax at 9:1", "locations", 9, "exists", "locations [x;]\nexists"),
+            ("syntax at 9:1", "forall", 9, "exists", "forall"),
+            ("syntax at 11:1", "a bracket that is open at the end", 10, ")", ""),
+            ("again-initial at 4:8", "a second value at the start", 4, "", " x=1; x=1;"),
+            ("core-number at 6:332", "65 columns", 6, ";", "".join(f"| P{it}" for it in range(2, 65)) + ";"),
+            ("x86-column at 6:16", "the name of a column", 6, "P1", "P2"),
+            ("x86-column at 8:14", "a cell too few", 8, "| MOV EAX,[x] ;", ";"),
+            ("x86-column at 8:29", "a cell too many", 8, ";", "|;"),
+            ("too-many-ops at 69:16", "65 instructions", 8, " MOV EAX,[y]", " MFENCE|;\n" * 61 + " MOV EAX,[y]"),
+            ("x86-reload at 9:6", "a register that is loaded again", 8, "", "\n MOV EAX,[x]|;"),
+            ("x86-unloaded at 10:2", "a register that is not loaded", 10, "EAX", "EBX"),
+            ("x86-unloaded at 10:2", "a thread that there is not", 10, "0:", "2:"),
+            ("x86-again at 10:13", "a second value of a register", 10, "1:", "0:"),
+            ("again-final at 10:21", "a second value at the end", 10, "1:EAX=0)", "x=1 /\\ [x]=1)"),
+            ("x86-open at 8:6", "registers without a value", 10, "(0:EAX=0 /\\ 1:EAX=0)", "x=1"),
+        ):
+            row = whole[line - 1]
+            self.assertIn(old, row)
+            changed = row.replace(old, new, 1) if old else row + new
+            self.refuses(name, fault, lines(*whole[: line - 1], changed, *whole[line:]))
+        self.refuses("a header and nothing after it", "syntax at 4:1", lines(*whole[:3]))
+
+    def refuses(self, name: str, fault: str, text: str) -> None:
+        """A listing of this text has this first fault."""
+        self.shows(f"check86: {name}", 3, f"refused test {fault}\n", "check86", BUFFER, self.listing(text))
+
+    def test_examples(self) -> None:
+        pairs = (" 0 0", " 0 1", " 1 0", " 1 1")
+        maps = (" Maps:6:1:0 Maps:5:1:0 0", " Maps:6:1:0 Maps:7:1:0 0", " Maps:8:1:0 Maps:5:1:0 0", " Maps:8:1:0 Maps:7:1:0 0")
+        for name, out, words in (
+            ("a sweep of message passing", swept(*pairs, unseen=(" 1 0",)), (IN_ORDER, MP_PATTERN)),
+            ("a sweep of store buffering through store buffers", swept(*pairs), (BUFFER, "examples/patterns/SB.pattern")),
+            ("a sweep of a test without an open read", swept(""), (PO, TWO)),
+            ("... that is not observable", swept("", unseen=("",)), (REVERSE, FORBIDDEN)),
+            (
+                "a sweep with page-table entries", swept(*maps, unseen=maps[1::2]),
+                ("examples/translation/tlb.uspec", "examples/patterns/MP+read+walk.pattern"),
+            ),
+        ):
+            self.shows(name, 0, out, "sweep", *words)
+
+    def opens(self, *ops: str, word: str = "Litmus") -> tuple[str, str, str]:
+        """The words of a sweep of a pattern of these lines on an empty model."""
+        return "sweep", self.file("empty.uspec", ""), self.file("open.pattern", lines(f'{word} "p".', *ops))
+
+    def test_values(self) -> None:
+        self.shows(
+            "values that are written twice, and the initial one written again", 0, swept(" 0", " 5", " 3"),
+            *self.opens(stored(0, 5), stored(1, 0), open_read(2, 0), stored(3, 5), stored(4, 3)),
+        )
+        self.shows(
+            "reads that nothing writes", 0, swept(" 0 18446744073709551615"),
+            *self.opens(open_read(0, 0), open_read(1, 1), "Init (PA 1 0) 18446744073709551615."),
+        )
+        self.shows("a number at an entry", 0, swept(" Maps:3:0:0", " 3"), *self.opens(
+            "Microop 0 0 0 0 (Read (VA 3 0) (Entry 3) (Data Any)).", "Microop 0 0 0 1 (Write (VA 3 0) (Entry 3) (Data 3)).",
+            word="Litmus2",
+        ))
+
+    def test_rows(self) -> None:
+        reads = [open_read(number, 0) for number in range(1, 14)]
+        done = run([program(), *self.opens(stored(0, 1), *reads[:12])])
+        text = done.out.splitlines()
+        rows = [it for it in text if it.startswith("row ")]
+        with self.case("4,096 rows"):
+            self.assertEqual((done.status, done.err, len(text)), (0, "", 4100))
+            self.assertEqual(
+                [text[0], text[1], text[4096], *text[-3:]],
+                [
+                    "sweep 4096", "row 0 0 0 0 0 0 0 0 0 0 0 0 observable", "row 1 1 1 1 1 1 1 1 1 1 1 1 observable",
+                    "observable 4096", "unobservable 0", "end",
+                ],
+            )
+        with self.case("... each once"):
+            self.assertEqual(len(set(rows)), 4096)
+        with self.case("... and in order"):
+            self.assertEqual(rows, sorted(rows))
+        words = self.opens(stored(0, 1), *reads)
+        self.says("one open read too many", 3, "refused test too-many-rows at 15:48\n", f"""\
+{words[2]}:15:48: too-many-rows: of a pattern: with this open read there are more than 4,096 rows
+    Microop 13 0 0 0 (Read (VA 0 0) (PA 0 0) (Data Any)).
+{' ' * 51}^
+""", *words)
+        self.shows(
+            "too many rows come after all other faults", 3, "refused test core-number at 16:12\n",
+            *self.opens(stored(0, 1), *reads, "Microop 14 64 0 0 (Fence)."),
+        )
+
+    def test_what_may_not_be_open(self) -> None:
+        words = self.opens(open_read(0, 0), stored(1, "Any"))
+        self.says("a write that is open", 3, "refused test syntax at 3:48\n", f"""\
+{words[2]}:3:48: syntax: no test can continue with this token
+    Microop 1 0 0 0 (Write (VA 0 0) (PA 0 0) (Data Any)).
+{' ' * 51}^
+pipecheck: a number is expected
+""", *words)
+        self.shows(
+            "an initial value that is open", 3, "refused test syntax at 2:15\n", *self.opens("Init (PA 0 0) Any.")
+        )
+        pattern = self.file("mp.pattern", lines(*(it for it in read(MP_PATTERN).splitlines() if not it.startswith("%"))))
+        for word in ("check", "check2"):
+            self.shows(f"{word} takes no pattern", 3, "refused test syntax at 4:47\n", word, IN_ORDER, pattern)
+
+    def test_rings(self) -> None:
+        self.shows("a ring of 16 cores", 0, "gen 16\nunobservable\nnodes 32\nsplits 226\nleaves 227\nend\n", "gen", "16")
+        self.says("nothing beside a ring", 0, "gen 2\nunobservable\nnodes 4\nsplits 2\nleaves 3\nend\n", "", "gen", "2")
+
+
+class Faults(Answers):
+    """Models and tests with a fault, those at a limit, and what the system refuses."""
+
+    def test_where_a_fault_is(self) -> None:
+        no_item = self.file("no-item", ".\n")
+        self.says("where a refused test has its fault", 3, "refused test syntax at 1:1\n", f"""\
+{no_item}:1:1: syntax: no test can continue with this token
+    .
+    ^
+pipecheck: `Litmus` or `Litmus2` is expected
+""", "check", PO, no_item)
+        arity = self.file("arity.uspec", f'{S}Axiom "x": forall microops "i",\n\tIsAnyRead i 7.\n')
+        for name, words in (
+            ("where a refused model has its fault", ("check", arity, no_item)),
+            ("where a refused model has its fault, beside a certificate", ("verify", arity, TWO, MP_CERTIFICATE)),
+        ):
+            self.says(name, 3, "refused model arity at 3:2\n", f"""\
+{arity}:3:2: arity: the predicate takes another number of arguments
+     IsAnyRead i 7.
+     ^
+""", *words)
+        long = self.file("long.uspec", 'Axiom "x": ' + "True /\\ " * 40 + "?\1\n")
+        self.says(
+            "a part of a long line, without bytes that no screen shows", 3, "refused model lexical at 1:332\n", f"""\
+{long}:1:332: lexical: neither a token nor a blank nor a comment begins here
+     /\\ True /\\ True /\\ True /\\ True /\\ True /\\ True /\\ True /\\ ??
+{' ' * 64}^
+""", "check", long, TWO)
+        old = self.file("old-ends.uspec", 'StageName 0 "S".\rAxiom "a": True.\rAxiom "b": Bad.\r\n')
+        self.says("a line with carriage returns inside", 3, "refused model predicate-unknown at 1:46\n", f"""\
+{old}:1:46: predicate-unknown: no predicate has the name
+    StageName 0 "S".?Axiom "a": True.?Axiom "b": Bad.
+{' ' * 49}^
+""", "check", old, TWO)
+
+    def test_bytes(self) -> None:
+        """Hostile ones: each byte there is, from 0xFF down to 0."""
+        hostile = self.file("hostile", bytes(range(255, -1, -1)))
+        large = self.file("too-large.test", " " * (MOST_OF_A_FILE + 1))
+        quotes = [self.file(f"quote.{it}", f'{it} "'.ljust(MOST_OF_A_FILE, "a")) for it in ("Axiom", "Litmus")]
+        for name, fault, files in (
+            ("a model of bytes that mean nothing", "model lexical at 1:1", (hostile, TWO)),
+            ("a test of bytes that mean nothing", "test lexical at 1:1", (PO, hostile)),
+            ("a model and a test of bytes that mean nothing", "model lexical at 1:1", (hostile, hostile)),
+            ("a test past 1 MiB beside a model that means nothing", "test too-large at 1:1", (hostile, large)),
+            ("a quote that is still open at the end of 1 MiB of a model", "model lexical at 1:7", (quotes[0], TWO)),
+            ("a quote that is still open at the end of 1 MiB of a test", "test lexical at 1:8", (PO, quotes[1])),
+        ):
+            self.shows(name, 3, f"refused {fault}\n", "check", *files)
+
+    def test_models(self) -> None:
+        empty = self.file("empty.test", 'Litmus "e".\n')
+        for fault, name, *rows in (
+            ("macro-unknown at 1:30", "a macro that expands itself", 'DefineMacro "m": ExpandMacro m.'),
+            ("parameter-again at 1:21", "a parameter twice", 'DefineMacro "m" "a" "a": True.'),
+            (
+                "macro-arguments at 2:24", "a macro without its argument",
+                'DefineMacro "m" "a": IsAnyRead a.', 'Axiom "x": ExpandMacro m.',
+            ),
+            ("wrong-sort at 1:40", "a core where a micro-op is asked for", 'Axiom "x": forall cores "c", IsAnyRead c.'),
+            ("core-number at 1:19", "core 64 in a model", 'Axiom "x": OnCore 64 i.'),
+            ("predicate-unknown at 1:12", "a predicate that there is not", 'Axiom "x": Shared i.'),
+            ("arity at 1:12", "a predicate without its argument", 'Axiom "x": IsAnyRead.'),
+            ("stage-number at 1:11", "stage 64", 'StageName 64 "S".'),
+            ("stage-again at 2:11", "a stage number twice", 'StageName 0 "S".', 'StageName 0 "T".'),
+            ("depth at 1:140", "129 openers", 'Axiom "x": ' + "(" * 129 + "True."),
+            ("unbound at 1:22", "a name that nothing binds", 'Axiom "x": IsAnyRead i.'),
+            ("stage-unknown at 1:47", "a stage that there is not", 'Axiom "x": forall microop "i", NodeExists (i, S).'),
+        ):
+            self.shows(name, 3, f"refused model {fault}\n", "check", self.file("refused.uspec", lines(*rows)), empty)
+
+    def test_tests(self) -> None:
+        """After their title, on an empty model."""
+        empty, first = self.file("empty.uspec", ""), "Microop 0 0 0 0 (Fence)."
+        for fault, name, *rows in (
+            ("core-number at 2:11", "core 64", "Microop 0 64 0 0 (Fence)."),
+            ("split-instruction at 3:11", "one instruction on two cores", first, "Microop 0 1 0 1 (Fence)."),
+            ("split-instruction at 3:13", "one instruction of two threads", first, "Microop 0 0 1 1 (Fence)."),
+            (
+                "split-instruction at 3:11", "one instruction on two cores, and the same number in it", first,
+                "Microop 0 1 0 0 (Fence).",
+            ),
+            ("duplicate-op at 3:9", "a micro-op twice", first, first),
+            ("op-unknown at 2:19", "a relationship without micro-ops", "Relationship addr 0 0 -> 1 0."),
+            (
+                "op-unknown at 3:26", "a relationship to a later micro-op", first, "Relationship addr 0 0 -> 1 0.",
+                "Microop 1 0 0 0 (Fence).",
+            ),
+            ("again-initial at 3:1", "an initial value twice", "Init (PA 0 0) 1.", "Init (PA 0 0) 1."),
+            ("again-final at 3:1", "two final values at one address", "Final (PA 0 0) 1.", "Final (PA 0 0) 2."),
+            ("again-expectation at 3:1", "permitted and forbidden", "Permitted.", "Forbidden."),
+            ("syntax at 2:24", "a fence with an address", "Microop 0 0 0 0 (Fence (VA 0 0))."),
+            (
+                "syntax at 5:1", "permitted and forbidden in a text that breaks off", "Permitted.", "Forbidden.", "Permitted",
+            ),
+            (
+                "lexical at 3:11", "a byte that begins nothing, after a fault of syntax", "Permitted Permitted.", "Forbidden !",
+            ),
+            (
+                "core-number at 3:11", "the first of two items with a fault", first, "Microop 1 64 0 0 (Fence).",
+                "Microop 0 1 0 1 (Fence).",
+            ),
+        ):
+            test = self.file("refused.test", lines('Litmus "d".', *rows))
+            self.shows(name, 3, f"refused test {fault}\n", "check", empty, test)
+
+    def on(self, name: str, status: int, out: str, model: str, test: str = 'Litmus "e".\n') -> None:
+        """The answer of check, of a model and a test of these texts."""
+        self.shows(name, status, out, "check", self.file("model.uspec", model), self.file("its.test", test))
+
+    def test_numbers(self) -> None:
+        for name, status, out, test in (
+            ("64 micro-ops", 0, FREE, writes(64, 1)),
+            ("65 micro-ops", 3, "refused test too-many-ops at 66:1\n", writes(65, 1)),
+            ("the greatest number", 0, FREE, writes(1, 18446744073709551615)),
+            ("one past the greatest number", 3, "refused test lexical at 2:48\n", writes(1, 18446744073709551616)),
+        ):
+            self.on(name, status, out, "", test)
+
+    def test_macros(self) -> None:
+        denial, doubled = "~ExpandMacro @", "ExpandMacro @ /\\ ExpandMacro @"
+        # the truth of 255 denials of True is False
+        self.on("macros of height 509", 0, FREE, macros(254, denial))
+        self.on("macros of height 511", 1, FALSE, macros(255, denial))
+        self.on("macros of height 513", 3, "refused model too-deep at 258:1\n", macros(256, denial))
+        self.on("macros of size 524,286", 0, FREE, macros(17, doubled))
+        self.on("macros of size 1,048,574", 3, "refused model too-big at 20:1\n", macros(18, doubled))
+        # A macro with a name of 33 bytes, so that each name of the model gets a number, and an axiom that it is False. With 198
+        # macros after it and m0, each the denial of the one before it, the last of 200 names stands for True; of 201 for False.
+        long = "a_macro_with_a_name_of_33_letters"
+        before = f'DefineMacro "{long}": False. Axiom "y": ~ExpandMacro {long}.\n'
+        self.on("the last of 200 names beside a long one", 0, FREE, macros(198, denial, before))
+        self.on("the last of 201 names beside a long one", 1, FALSE, macros(199, denial, before))
+
+    def test_sizes(self) -> None:
+        edges = '((i, S), (i, T), "");' * 40_000
+        self.on(
+            "a list of 40,000 edges", 0, "observable\ntest unstated\nnode 0.0@0:S\nnode 0.0@0:T\nedge 0.0@0:S 0.0@0:T\nend\n",
+            f'{S}StageName 1 "T".\nAxiom "x": forall microops "i", AddEdges [{edges}].\n', ONE,
+        )
+        # each axiom has the size 1,000, and there are as many as the limit allows; so the tree has 997,000 literals
+        million = f'{S}DefineMacro "k" "i": NodesExist [(i, S){"; (i, S)" * 996}].\n'
+        million += 'Axiom "a": forall microops "i", ExpandMacro k i.\n' * 1000
+        self.on("997,000 literals", 0, "observable\ntest unstated\nnode 0.0@0:S\nend\n", million, ONE)
+        self.on(
+            "one axiom past the limit of sizes", 3, "refused model too-big at 1003:1\n", f'{million}Axiom "b": True.\n', ONE
+        )
+
+    def test_depths(self) -> None:
+        """Each construct that may nest, at its limit, in an eighth of the usual stack; docs/faults.md names this stack."""
+        quantifiers = "".join(f'forall microop "i{it}", ' for it in range(1, 33))
+        rows = [("512 expansions in each other", macros(511, "ExpandMacro @"))]
+        for opener in ("(", "~", "True => ", "True /\\ ", "True \\/ "):
+            rows += [(f"128 of {opener}", f'Axiom "x": {opener * 128}True{")" * 128 * (opener == "(")}.\n')]
+        rows += [("32 quantifiers in each other", f'Axiom "x": {quantifiers}True.\n')]
+        empty = self.file("empty.test", 'Litmus "e".\n')
+        for name, model in rows:
+            self.gives(
+                f"{name} in 1024 KiB of stack", [program(), "check", self.file("deep.uspec", model), empty], 0, FREE,
+                preexec_fn=within(resource.RLIMIT_STACK, 1024 * 1024),
+            )
+
+    def test_300_nodes(self) -> None:
+        """A chain of those of one micro-op at 64 stages of each core, as far as they go: a program that gives up from some size on
+        fails here. From each node an edge leads to the next one; and from the last one to the first or to the second."""
+        one = self.file("one.test", ONE)
+        terms = [f"(i, ({k // 64}, S{k % 64}))" for k in range(300)]
+        nodes = [f"0.0@{k // 64}:S{k % 64}" for k in range(300)]
+        stages = lines(*(f'StageName {k} "S{k}".' for k in range(64)))
+        chain = stages + lines(
+            'Axiom "chain": forall microops "i", AddEdges [', *(f"({start}, {end});" for start, end in zip(terms, terms[1:])), "]."
+        )
+        back = f'Axiom "back": forall microops "i", AddEdge ({terms[299]}, {terms[0]}) \\/ AddEdge ({terms[299]}, {terms[1]}).\n'
+        edges = [f"edge {start} {end}" for start, end in zip(nodes, nodes[1:])]
+        graph = lines("observable", "test unstated", *(f"node {it}" for it in nodes), *edges, "end")
+        # The ground tree's root is an And. Its left side has 299 edges and the 298 Ands between them, from position 1 on, and so
+        # its right side, which is the Or, stands at 598.
+        cycles = lines("split 598", f"cycle {' '.join(nodes)}", f"cycle {' '.join(nodes[1:])}", "end")
+        unseen = "unobservable\ntest unstated\n"
+        whole, cyclic = self.file("chain.uspec", chain), self.file("back.uspec", chain + back)
+        for name, status, text, verified, word, model in (
+            ("a graph of 300 nodes", 0, graph, OBSERVABLE, "check", whole),
+            ("a graph of 300 nodes in version 2", 0, graph, OBSERVABLE, "check2", whole),
+            ("cycles of 300 and 299 nodes", 1, unseen + cycles, UNOBSERVABLE, "check", cyclic),
+            ("cycles of 300 and 299 nodes in version 2", 1, f"{unseen}version 2\n{cycles}", UNOBSERVABLE, "check2", cyclic),
+        ):
+            self.shows(name, status, text, word, model, one)
+            self.judged(f"{name}, verified", status, verified, model, one, text)
+
+    def test_a_checkout_with_new_times(self) -> None:
+        program()
+        copy, out = copy_checkout(f"{self.work}/copy", crates=("pipecheck_cli", "model_bench")), "crates/pipecheck_cli/out"
+        os.mkdir(f"{copy}/{out}")
+        for name in os.listdir(f"{TOP}/{out}"):
+            if name.endswith(("_cli", "_built")):
+                shutil.copy2(f"{TOP}/{out}/{name}", f"{copy}/{out}/{name}")
+        for name in ("pipecheck_cli", "model_bench"):
+            os.utime(f"{copy}/crates/{name}/src/main.rt")
+        check = [f"{copy}/pipecheck", "check", f"{TOP}/{PO}", f"{TOP}/{TWO}"]
+        self.gives("a source with a new time builds nothing", check, 0, ORDERED)
+
+    def test_memory(self) -> None:
+        """10,000 axioms take more memory than the 16 MiB that the shell and the program may have."""
+        self.gives(
+            "that memory was refused", ["./pipecheck", "check", self.file("many.uspec", MANY), TWO], 7, "",
+            "pipecheck: memory was refused, so there is no answer\n", preexec_fn=within(resource.RLIMIT_AS, 16384 * 1024),
+        )
+
+    def test_standard_output(self) -> None:
+        """Where it fails, whatever the words, nothing is seen of what was written."""
+        check, itself, script = ["check", PO, TWO], [program()], [pipecheck()]
+        with open("/dev/full", "wb") as full, open(TWO, "rb") as read_only, open(f"{self.work}/answer", "w+b") as kept:
+            self.gives("a file as standard output", [*itself, *check], stdout=kept)
+            kept.seek(0)
+            self.assertEqual(kept.read().decode(), ORDERED)
+            for name, words, said in (
+                ("a full device as standard output", [*itself, *check], ""),
+                ("a full device, with no words", itself, ""),
+                ("a sweep on a full device", [*itself, "sweep", IN_ORDER, MP_PATTERN], ""),
+                ("that a full device could not be written", ["./pipecheck", *check], UNWRITTEN),
+                (
+                    "the forms of the commands, and that a full device could not be written", script,
+                    command_forms() + LACKING + UNWRITTEN,
+                ),
+                ("a full device where the forms are asked for", [*script, "help"], ""),
+                ("a full device where the version is asked for", ["./pipecheck", "--version"], ""),
+            ):
+                self.gives(name, words, 5, "", said, stdout=full)
+            self.gives("a standard output that cannot be written", [*itself, *check], 5, stdout=read_only)
+            for name, words, said in (
+                ("a closed standard output", itself, ""), ("that a closed standard output could not be written", script, UNWRITTEN)
+            ):
+                self.gives(name, [*words, *check], 5, "", said, stdout=full, preexec_fn=lambda: os.close(1))
+
+    def test_a_pipe_that_nobody_reads(self) -> None:
+        with unread() as pipe:
+            self.gives("a pipe that nobody reads", [program(), "check", PO, TWO], 5, stdout=pipe)
+            self.gives("a standard error that nobody reads", [pipecheck(), "check", PO, TWO], stdout=pipe, stderr=pipe)

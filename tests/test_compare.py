@@ -1,0 +1,571 @@
+"""`pipecheck compare` compares the states in a log with those that a model shows.
+
+Logs of machines, as litmus7 writes them, and of herd7 are written by hand from the formats: whole, cut, empty, doubled and spoilt
+ones. Then come listings that a log has no form of, logs that a machine of tools/agree makes of all shipped listings, with all
+registers and locations in their states, and what the script does.
+"""
+from __future__ import annotations
+
+import io
+import os
+import re
+import signal
+import subprocess
+import sys
+import time
+from contextlib import ExitStack, redirect_stderr
+from dataclasses import dataclass
+from functools import cache
+from glob import glob
+from unittest.mock import patch
+
+from tests.cases import TOP, Cases, call, pipecheck, program, read, run, tool, tool_entry, write
+
+from tools.agree.machines import tso
+from tools.listings import answering
+from tools.agree.listing import BODY, LOAD, read_listing
+from tools.second.scopes import read_model
+
+BUFFERS = f"{TOP}/examples/models/tso-buffer.uspec"
+IN_ORDER = f"{TOP}/examples/models/sc-inorder.uspec"
+COMPARE = tool("compare")
+READ = cache(read_model)
+
+# The listings that logs are of, by their names.
+LISTINGS = {
+    "SB": "X86 SB\n{ }\n P0 | P1 ;\n MOV [x],$1 | MOV [y],$1 ;\n MOV EAX,[y] | MOV EAX,[x] ;\n"
+    "exists (0:EAX=0 /\\ 1:EAX=0)\n",
+    # a write of 1, and one of 2 before a read of another location
+    "R": "X86 R\n{ }\n P0 | P1 ;\n MOV [x],$1 | MOV [y],$2 ;\n MOV [y],$1 | MOV EAX,[x] ;\nexists (y=2 /\\ 1:EAX=0)\n",
+    "none": "X86 none\n{ }\n P0 | P1 ;\n MOV [x],$1 | MOV EAX,[x] ;\n~exists (1:EAX=2)\n",
+    "all": "X86 all\n{ int x; }\n P0 | P1 ;\n MOV [x],$1 | MOV EAX,[x] ;\nforall (1:EAX=0 \\/ 1:EAX=1)\n",
+    "all-new": "X86 all-new\n{ int x; }\n P0 | P1 ;\n MOV [x],$1 | MOV EAX,[x] ;\nforall (1:EAX=1 \\/ 1:EAX=2)\n",
+    "wide": "X86_64 wide\n{ }\n P0 | P1 ;\n movl $1,(x) | movl $1,(y) ;\n movl (y),%eax | movl (x),%eax ;\n"
+    "exists (0:rax=0 /\\ 1:rax=0)\n",
+    "locked": "X86 locked\n{ 0:EAX=1; 1:EAX=1; }\n P0 | P1 ;\n XCHG [x],EAX | LOCK XCHG [y],EAX ;\n"
+    " MOV EBX,[y] | MOV EBX,[x] ;\nexists (0:EBX=0 /\\ 1:EBX=0)\n",
+    # what the first load gets is not to be seen at the end
+    "again": "X86 again\n{ }\n P0 | P1 ;\n MOV [x],$1 | MOV EAX,[x] ;\n | MOV EAX,[x] ;\nexists (1:EAX=0)\n",
+}
+
+SB_MACHINE = """Test SB Allowed
+Histogram (4 states)
+34    *>0:EAX=0; 1:EAX=0;
+52    :>0:EAX=0; 1:EAX=1;
+49    :>0:EAX=1; 1:EAX=0;
+5     :>0:EAX=1; 1:EAX=1;
+Ok
+
+Witnesses
+Positive: 34, Negative: 106
+Condition exists (0:EAX=0 /\\ 1:EAX=0) is validated
+Hash=7dbd6b8e6dd4abc2ef3d48b0376fb2e3
+Com=Fr Fr
+Orig=PodWR Fre PodWR Fre
+Observation SB Sometimes 34 106
+Time SB 0.44
+
+"""
+SB_BOTH = """SB: 0:EAX=0; 1:EAX=0;  shown by both, 34 times
+SB: 0:EAX=0; 1:EAX=1;  shown by both, 52 times
+SB: 0:EAX=1; 1:EAX=0;  shown by both, 49 times
+SB: 0:EAX=1; 1:EAX=1;  shown by both, 5 times
+SB: exists: Ok in the model, Ok in the log
+"""
+R_MACHINE = """Test R Allowed
+Histogram (3 states)
+1     :>1:EAX=0; [y]=1;
+8     *>1:EAX=0; [y]=2;
+3     :>1:EAX=1; [y]=1;
+Ok
+Witnesses
+Positive: 8, Negative: 4
+Condition exists ([y]=2 /\\ 1:EAX=0) is validated
+Hash=8a9c0f9f3b1d6c4b6f6a6d3c0e6f7a11
+Observation R Sometimes 8 4
+Time R 0.10
+"""
+R_BOTH = """R: 1:EAX=0; [y]=1;  shown by both, 1 time
+R: 1:EAX=0; [y]=2;  shown by both, 8 times
+R: 1:EAX=1; [y]=1;  shown by both, 3 times
+R: 1:EAX=1; [y]=2;  shown by the model and not seen
+R: exists: Ok in the model, Ok in the log
+"""
+FRAME = """%%%%%%%%%%%%%%%%%%%%%%%%%
+% Results for SB.litmus %
+%%%%%%%%%%%%%%%%%%%%%%%%%
+X86 SB
+"PodWR Fre PodWR Fre"
+
+{}
+
+ P0          | P1          ;
+ MOV [x],$1  | MOV [y],$1  ;
+ MOV EAX,[y] | MOV EAX,[x] ;
+
+exists (0:EAX=0 /\\ 1:EAX=0)
+Generated assembler
+#START _litmus_P1
+	movl $1,(%r10)
+	movl (%r9),%eax
+"""
+TRAILER = """Revision exported, version 7.56
+Command line: litmus7 SB.litmus
+Parameters
+#define SIZE_OF_TEST 100000
+/* gcc options: -Wall -std=gnu99 -O2 -pthread */
+Mon Nov 30 21:51:50 UTC 2026
+"""
+SB_HERD = """Test SB Allowed
+States 4
+0:EAX=0; 1:EAX=0;
+0:EAX=0; 1:EAX=1;
+0:EAX=1; 1:EAX=0;
+0:EAX=1; 1:EAX=1;
+Ok
+Witnesses
+Positive: 1 Negative: 3
+Condition exists (0:EAX=0 /\\ 1:EAX=0)
+Observation SB Sometimes 1 3
+Time SB 0.00
+Hash=7dbd6b8e6dd4abc2ef3d48b0376fb2e3
+
+"""
+SB_LISTED = """SB: 0:EAX=0; 1:EAX=0;  shown by both
+SB: 0:EAX=0; 1:EAX=1;  shown by both
+SB: 0:EAX=1; 1:EAX=0;  shown by both
+SB: 0:EAX=1; 1:EAX=1;  shown by both
+SB: exists: Ok in the model, Ok in the log
+"""
+R_HERD = """Test R Allowed
+States 3
+1:EAX=0; y=1;
+1:EAX=0; y=2;
+1:EAX=1; y=1;
+Ok
+Witnesses
+Positive: 1 Negative: 2
+Condition exists (y=2 /\\ 1:EAX=0)
+Observation R Sometimes 1 2
+Time R 0.01
+Hash=8a9c0f9f3b1d6c4b6f6a6d3c0e6f7a11
+
+"""
+R_LISTED = """R: 1:EAX=0; y=1;  shown by both
+R: 1:EAX=0; y=2;  shown by both
+R: 1:EAX=1; y=1;  shown by both
+R: 1:EAX=1; y=2;  the model shows what herd forbids
+R: exists: Ok in the model, Ok in the log
+"""
+
+
+@dataclass(frozen=True)
+class Case:
+    """A log, the tests that have listings, and what is said of it beside a model."""
+
+    name: str
+    log: str
+    status: int
+    lines: str
+    told: str = ""
+    tests: tuple[str, ...] = ("SB",)
+    model: str = BUFFERS
+
+
+# what is said of a state, by a word
+WORDS = {
+    "both": "shown by both",
+    "unseen": "shown by the model and not seen",
+    "BUG": "BUG: the machine does what the model forbids",
+    "model": "the model shows what herd forbids",
+    "herd": "herd allows what the model forbids",
+}
+
+
+def lines(names: str, states: str, condition: str) -> str:
+    """What is said of a test with these variables: its states, by their values, with how often each came, and its condition in
+    the model and in the log."""
+    title, _, variables = names.partition(": ")
+    found = ""
+    for state in states.split(", "):
+        values, word, times = re.fullmatch(r"([\d ]+) (\w+)(?: (\d+))?", state).groups()  # type: ignore[union-attr]
+        count = f", {times} time{'' if times == '1' else 's'}" if times else ""
+        shown = " ".join(f"{it}={value};" for it, value in zip(variables.split(), values.split(), strict=True))
+        found += f"{title}: {shown}  {WORDS[word]}{count}\n"
+    form, model, log = condition.split()
+    return f"{found}{title}: {form}: {model} in the model, {log} in the log\n"
+
+
+def counted(both: int, log_alone: int = 0, model_alone: int = 0, tests: int = 1, of: int = 1) -> str:
+    """The last line."""
+    states = f"{both} states shown by both, {log_alone} in the log alone, {model_alone} in the model alone"
+    return f"{tests} of {of} tests compared: {states}\n"
+
+
+def cut(there: str) -> str:
+    """What is said of SB where so many states are there."""
+    return f"log:1: the log is cut off: of SB 4 states are announced, and {there} there\n"
+
+
+NOTHING = counted(0, tests=0, of=0)
+UNUSED = "compare: 1 listing is of no test of the log, the first SB.litmus\n"
+NO_TEST = "log:1: the log has no test\n"
+NO_STATES = "log:1: the log is cut off: SB has no states\n"
+NO_OBSERVATION = "log:1: the log is cut off: SB has no line Observation\n"
+
+
+def up_to(text: str, mark: str) -> str:
+    """The text before a mark."""
+    assert mark in text
+    return text.partition(mark)[0]
+
+
+def changed(text: str, old: str, new: str) -> str:
+    """The text with a part that is spoilt."""
+    assert old in text
+    return text.replace(old, new)
+
+
+def machine(head: str, states: str, said: str, observed: str) -> str:
+    """A log of one test, as short as litmus7 writes it."""
+    return f"Test {head}\nHistogram ({states.count('>')} states)\n{states}{said}\n\nWitnesses\nObservation {observed}\n"
+
+
+def herd(head: str, states: str, said: str, observed: str) -> str:
+    """A log of one test, as short as herd7 writes it."""
+    return f"Test {head}\nStates {len(states.splitlines())}\n{states}{said}\nWitnesses\nObservation {observed}\n\n"
+
+
+MACHINES = [
+    Case("a machine with store buffers", SB_MACHINE, 0, SB_BOTH + counted(4)),
+    Case("a machine that does what the model forbids", SB_MACHINE, 1,
+         lines("SB: 0:EAX 1:EAX", "0 0 BUG 34, 0 1 both 52, 1 0 both 49, 1 1 both 5", "exists No Ok") + counted(3, 1),
+         model=IN_ORDER),
+    Case("a state that did not come",
+         machine("SB Allowed", "9 :>0:EAX=1; 1:EAX=0;\n1 :>0:EAX=0; 1:EAX=1;\n", "No", "SB Never 0 10"), 0,
+         lines("SB: 0:EAX 1:EAX", "1 0 both 9, 0 1 both 1, 0 0 unseen, 1 1 unseen", "exists Ok No") + counted(2, 0, 2)),
+    Case("the listing, its assembler and what ran it", FRAME + SB_MACHINE + TRAILER, 0, SB_BOTH + counted(4)),
+    Case("values of locations", R_MACHINE, 0, R_BOTH + counted(3, 0, 1), tests=("R",)),
+    Case("values of locations that the model forbids", R_MACHINE, 1,
+         lines("R: 1:EAX [y]", "0 1 both 1, 0 2 BUG 8, 1 1 both 3, 1 2 unseen", "exists No Ok") + counted(2, 1, 1),
+         tests=("R",), model=IN_ORDER),
+    Case("two tests", SB_MACHINE + R_MACHINE, 0, SB_BOTH + R_BOTH + counted(7, 0, 1, 2, 2), tests=("SB", "R")),
+    Case("lines that end with CR and LF", SB_MACHINE.replace("\n", "\r\n"), 0, SB_BOTH + counted(4)),
+    Case("numbers with 0x",
+         machine("SB Allowed", "2 *>0:EAX=0x0; 1:EAX=0x0;\n3 :>0:EAX=0x1; 1:EAX=0x1;\n", "Ok", "SB Sometimes 2 3"), 0,
+         lines("SB: 0:EAX 1:EAX", "0 0 both 2, 1 1 both 3, 0 1 unseen, 1 0 unseen", "exists Ok Ok") + counted(2, 0, 2)),
+    Case("a value that nothing writes", machine("SB Allowed", "1 :>0:EAX=7; 1:EAX=1;\n", "No", "SB Never 0 1"), 1,
+         lines("SB: 0:EAX 1:EAX", "7 1 BUG 1, 0 0 unseen, 0 1 unseen, 1 0 unseen, 1 1 unseen", "exists Ok No") + counted(0, 1, 4)),
+    Case("~exists", machine("none Forbidden", "6 :>1:EAX=0;\n4 :>1:EAX=1;\n", "Ok", "none Never 0 10"), 0,
+         lines("none: 1:EAX", "0 both 6, 1 both 4", "~exists Ok Ok") + counted(2), tests=("none",)),
+    Case("forall, and sides of a condition", machine("all Required", "6 *>1:EAX=0;\n4 *>1:EAX=1;\n", "Ok", "all Always 10 0"), 0,
+         lines("all: 1:EAX", "0 both 6, 1 both 4", "forall Ok Ok") + counted(2), tests=("all",)),
+    Case("registers of X86_64",
+         machine("wide Allowed", "2 *>0:rax=0; 1:rax=0;\n3 :>0:rax=0; 1:rax=1;\n", "Ok", "wide Sometimes 2 3"), 0,
+         lines("wide: 0:rax 1:rax", "0 0 both 2, 0 1 both 3, 1 0 unseen, 1 1 unseen", "exists Ok Ok") + counted(2, 0, 2),
+         tests=("wide",)),
+    Case("locked instructions, whose registers are not all in the states",
+         machine("locked Allowed", "2 *>0:EBX=0; 1:EBX=0;\n", "Ok", "locked Always 2 0"), 1,
+         lines("locked: 0:EBX 1:EBX", "0 0 BUG 2, 0 1 unseen, 1 0 unseen, 1 1 unseen", "exists No Ok") + counted(0, 1, 3),
+         tests=("locked",)),
+    Case("locked instructions on a model that asks for none",
+         machine("locked Allowed", "2 *>0:EBX=0; 1:EBX=0;\n", "Ok", "locked Always 2 0"), 3, counted(0, tests=0),
+         "log:1: not compared: locked has locked instructions, and the model asks for no type Locked\n", tests=("locked",),
+         model=IN_ORDER),
+    Case("a test that comes twice", SB_MACHINE + SB_MACHINE, 0,
+         lines("SB: 0:EAX 1:EAX", "0 0 both 68, 0 1 both 104, 1 0 both 98, 1 1 both 10", "exists Ok Ok") + counted(4),
+         "log:18: SB comes again: its states are taken together with those of line 1\n"),
+    Case("a test that comes twice, with other variables", SB_MACHINE + SB_MACHINE.replace("0:EAX=", "[x]="), 3,
+         SB_BOTH + counted(4), "log:18: SB has other variables than at line 1, and is left out here\n"),
+    Case("a state that stands twice",
+         machine("SB Allowed", "2 *>0:EAX=0; 1:EAX=0;\n1 *>0:EAX=0; 1:EAX=0;\n", "Ok", "SB Always 3 0"), 3,
+         lines("SB: 0:EAX 1:EAX", "0 0 both 3, 0 1 unseen, 1 0 unseen, 1 1 unseen", "exists Ok Ok") + counted(1, 0, 3),
+         "log:4: the state stands here a second time\n"),
+    Case("an empty log", "", 3, NOTHING, NO_TEST + UNUSED),
+    Case("blank lines", "\n \n\n", 3, NOTHING, NO_TEST + UNUSED),
+    Case("a frame without a test", FRAME, 3, NOTHING, NO_TEST + UNUSED),
+    Case("cut off behind the first line", "Test SB Allowed\n", 3, NOTHING, NO_STATES + UNUSED),
+    Case("cut off between states", up_to(SB_MACHINE, "49 "), 3,
+         lines("SB: 0:EAX 1:EAX", "0 0 both 34, 0 1 both 52, 1 0 unseen, 1 1 unseen", "exists Ok Ok") + counted(2, 0, 2),
+         cut("2 are")),
+    Case("cut off in a state", up_to(SB_MACHINE, "; 1:EAX=1;\n49"), 3,
+         lines("SB: 0:EAX 1:EAX", "0 0 both 34, 0 1 unseen, 1 0 unseen, 1 1 unseen", "exists Ok Ok") + counted(1, 0, 3),
+         "log:4: no line of a log: 52    :>0:EAX=0\n" + cut("1 is")),
+    Case("cut off behind the states", up_to(SB_MACHINE, "Witnesses"), 3, SB_BOTH + counted(4), NO_OBSERVATION),
+    Case("cut off in the counts", up_to(SB_MACHINE, "06\nTime"), 3, SB_BOTH + counted(4),
+         "log:15: 35 runs are counted here, and 140 in the states\n"),
+    Case("cut off, and the model forbids what is left", up_to(SB_MACHINE, "52 "), 1,
+         lines("SB: 0:EAX 1:EAX", "0 0 BUG 34, 0 1 unseen, 1 0 unseen, 1 1 unseen", "exists No Ok") + counted(0, 1, 3),
+         cut("1 is"), model=IN_ORDER),
+    Case("cut off between two tests", up_to(SB_MACHINE, "Ok") + R_MACHINE, 3, SB_BOTH + R_BOTH + counted(7, 0, 1, 2, 2),
+         NO_OBSERVATION, tests=("SB", "R")),
+    Case("one state more than is announced", changed(SB_MACHINE, "(4 states)", "(3 states)"), 3, SB_BOTH + counted(4),
+         "log:6: 3 states are announced, and here is one more\n"),
+    Case("a line that no log has", changed(SB_MACHINE, "Ok\n", "Segmentation fault\nOk\n"), 3, SB_BOTH + counted(4),
+         "log:7: no line of a log: Segmentation fault\n"),
+    Case("a line that no log has, behind a test", SB_MACHINE + "make: *** [run] Error 1\n", 3, SB_BOTH + counted(4),
+         "log:18: no line of a log: make: *** [run] Error 1\n"),
+    Case("a value that is longer than any of a log", changed(SB_MACHINE, "5     :>0:EAX=1;", f"5     :>0:EAX={'9' * 5000};"), 3,
+         lines("SB: 0:EAX 1:EAX", "0 0 both 34, 0 1 both 52, 1 0 both 49, 1 1 unseen", "exists Ok Ok") + counted(3, 0, 1),
+         f"log:6: no line of a log: 5     :>0:EAX={'9' * 46}\n" + cut("3 are")),
+    Case("a count that is longer than any of a log", changed(SB_MACHINE, "Sometimes 34 106", f"Sometimes 34 {'9' * 5000}"), 3,
+         SB_BOTH + counted(4), f"log:15: no line of a log: Observation SB Sometimes 34 {'9' * 32}\n{NO_OBSERVATION}"),
+    Case("a count that is lost", changed(SB_MACHINE, "5     :>", ""), 3,
+         lines("SB: 0:EAX 1:EAX", "0 0 both 34, 0 1 both 52, 1 0 both 49, 1 1 unseen", "exists Ok Ok") + counted(3, 0, 1),
+         "log:6: no line of a log: 0:EAX=1; 1:EAX=1;\n" + cut("3 are")),
+    Case("the first line of a test is lost", FRAME + changed(SB_MACHINE, "Test SB Allowed\n", ""), 3, NOTHING,
+         """log:18: no line of a log: Histogram (4 states)
+log:19: no line of a log: 34    *>0:EAX=0; 1:EAX=0;
+log:20: no line of a log: 52    :>0:EAX=0; 1:EAX=1;
+log:21: no line of a log: 49    :>0:EAX=1; 1:EAX=0;
+log:22: no line of a log: 5     :>0:EAX=1; 1:EAX=1;
+log:31: no line of a log: Observation SB Sometimes 34 106
+""" + UNUSED),
+    Case("another test is observed", changed(SB_MACHINE, "Observation SB", "Observation MP"), 3, SB_BOTH + counted(4),
+         "log:15: this is of MP, and the test is SB\n"),
+    Case("a test without a listing", SB_MACHINE + R_MACHINE, 3, SB_BOTH + counted(4, of=2),
+         "log:18: not compared: no listing that is read has the name R\n"),
+    Case("a location that the listing has not",
+         SB_MACHINE.replace("1:EAX=0;", "1:EAX=0; z=0;").replace("1:EAX=1;", "1:EAX=1; z=0;"), 3, counted(0, tests=0),
+         "compare: not compared: SB: the listing has no location z\n"),
+    Case("no run", "Test SB Allowed\nHistogram (0 states)\nNo\nWitnesses\nObservation SB Never 0 0\n", 0,
+         lines("SB: 0:EAX 1:EAX", "0 0 unseen, 0 1 unseen, 1 0 unseen, 1 1 unseen", "exists Ok No") + counted(0, 0, 4)),
+    Case("a listing of another condition", changed(SB_MACHINE, "Ok\n", "No\n"), 3, counted(0, tests=0),
+         "log:1: not compared: the condition of the listing SB is not met as the log says: is it another listing?\n"),
+    Case("what is no log", "".join(f"line {number}\n" for number in range(100)), 3, NOTHING,
+         "".join(f"log:{number + 1}: no line of a log: line {number}\n" for number in range(20)) + UNUSED
+         + "compare: faults of the log: 80 more\n"),
+]
+
+HERD = [
+    Case("a model with store buffers", SB_HERD, 0, SB_LISTED + counted(4)),
+    Case("a state that the model forbids", SB_HERD, 1,
+         lines("SB: 0:EAX 1:EAX", "0 0 herd, 0 1 both, 1 0 both, 1 1 both", "exists No Ok") + counted(3, 1), model=IN_ORDER),
+    Case("a state that herd forbids",
+         herd("SB Allowed", "0:EAX=0; 1:EAX=1;\n0:EAX=1; 1:EAX=0;\n0:EAX=1; 1:EAX=1;\n", "No", "SB Never 0 3"), 0,
+         lines("SB: 0:EAX 1:EAX", "0 1 both, 1 0 both, 1 1 both, 0 0 model", "exists Ok No") + counted(3, 0, 1)),
+    Case("values of locations", R_HERD, 0, R_LISTED + counted(3, 0, 1), tests=("R",)),
+    Case("locations alone", "Test R Allowed\nStates 2\n[x]=1; y=1;\n[x]=1; y=2;\nOk\nWitnesses\nObservation R Sometimes 1 3\n", 3,
+         counted(0, tests=0),
+         "log:1: not compared: the condition of the listing R is not met as the log says: is it another listing?\n", tests=("R",)),
+    Case("a location that the condition does not name",
+         herd("R Allowed", "1:EAX=0; x=1; y=2;\n1:EAX=1; x=1; y=1;\n1:EAX=1; x=0; y=2;\n", "Ok", "R Sometimes 1 2"), 1,
+         lines("R: 1:EAX x y", "0 1 2 both, 1 1 1 both, 1 0 2 herd, 0 1 1 model, 1 1 2 model", "exists Ok Ok") + counted(2, 1, 2),
+         tests=("R",)),
+    Case("two tests", SB_HERD + R_HERD, 0, SB_LISTED + R_LISTED + counted(7, 0, 1, 2, 2), tests=("SB", "R")),
+    Case("lines that end with CR and LF", SB_HERD.replace("\n", "\r\n"), 0, SB_LISTED + counted(4)),
+    Case("~exists", herd("none Forbidden", "1:EAX=0;\n1:EAX=1;\n", "Ok", "none Never 0 2"), 0,
+         lines("none: 1:EAX", "0 both, 1 both", "~exists Ok Ok") + counted(2), tests=("none",)),
+    Case("forall, which the model does not meet", herd("all-new Required", "1:EAX=1;\n", "Ok", "all-new Always 1 0"), 0,
+         lines("all-new: 1:EAX", "1 both, 0 model", "forall No Ok") + counted(1, 0, 1), tests=("all-new",)),
+    Case("registers of X86_64",
+         SB_HERD.replace("Test SB", "Test wide").replace("Observation SB", "Observation wide").replace("EAX", "rax"), 0,
+         lines("wide: 0:rax 1:rax", "0 0 both, 0 1 both, 1 0 both, 1 1 both", "exists Ok Ok") + counted(4), tests=("wide",)),
+    Case("locked instructions",
+         herd("locked Allowed", "0:EBX=0; 1:EBX=1;\n0:EBX=1; 1:EBX=0;\n0:EBX=1; 1:EBX=1;\n", "No", "locked Never 0 3"), 0,
+         lines("locked: 0:EBX 1:EBX", "0 1 both, 1 0 both, 1 1 both", "exists No No") + counted(3), tests=("locked",)),
+    Case("what the exchanges get",
+         herd("locked Allowed", "0:EAX=0; 0:EBX=0; 1:EAX=0; 1:EBX=1;\n0:EAX=1; 0:EBX=1; 1:EAX=0; 1:EBX=1;\n", "No",
+              "locked Never 0 2"), 1,
+         lines("locked: 0:EAX 0:EBX 1:EAX 1:EBX", "0 0 0 1 both, 1 1 0 1 herd, 0 1 0 0 model, 0 1 0 1 model", "exists No No")
+         + counted(1, 1, 2), tests=("locked",)),
+    Case("a register that is loaded twice", herd("again Allowed", "1:EAX=0;\n1:EAX=1;\n", "Ok", "again Sometimes 1 2"), 0,
+         lines("again: 1:EAX", "0 both, 1 both", "exists Ok Ok") + counted(2), tests=("again",)),
+    Case("a register that nothing loads",
+         herd("none Forbidden", "0:EBX=0; 1:EAX=0;\n0:EBX=1; 1:EAX=1;\n", "Ok", "none Never 0 2"), 1,
+         lines("none: 0:EBX 1:EAX", "0 0 both, 1 1 herd, 0 1 model", "~exists Ok Ok") + counted(1, 1, 1), tests=("none",)),
+    Case("a test that comes twice", SB_HERD + SB_HERD, 0, SB_LISTED + counted(4),
+         "log:15: SB comes again: its states are taken together with those of line 1\n"),
+    Case("a test of both forms", SB_MACHINE + SB_HERD, 0, SB_BOTH + SB_LISTED + counted(8, tests=2, of=2)),
+    Case("a state that stands twice", changed(SB_HERD, "0:EAX=0; 1:EAX=1;\n", "0:EAX=0; 1:EAX=0;\n"), 3,
+         lines("SB: 0:EAX 1:EAX", "0 0 both, 1 0 both, 1 1 both, 0 1 model", "exists Ok Ok") + counted(3, 0, 1),
+         "log:4: the state stands here a second time\n"),
+    Case("a name with a control character", "Test SB\x1b Allowed\n", 3, NOTHING,
+         "log:1: no line of a log: $'Test SB\\u001b Allowed'\n" + UNUSED),
+    Case("NUL bytes", "a" + "\0" * 10, 3, NOTHING, "log:1: no line of a log: $'a" + "\\u0000" * 10 + "'\n" + UNUSED),
+    Case("cut off behind the first line", "Test SB Allowed", 3, NOTHING, NO_STATES + UNUSED),
+    Case("cut off behind the number of states", up_to(SB_HERD, "0:EAX"), 3,
+         lines("SB: 0:EAX 1:EAX", "0 0 model, 0 1 model, 1 0 model, 1 1 model", "exists Ok No") + counted(0, 0, 4),
+         cut("0 are")),
+    Case("cut off in a state", up_to(SB_HERD, "1:EAX=1;\n0:EAX=1"), 3,
+         lines("SB: 0:EAX 1:EAX", "0 0 both, 0 1 model, 1 0 model, 1 1 model", "exists Ok Ok") + counted(1, 0, 3),
+         "log:4: the state has other variables than the first one\n" + cut("2 are")),
+    Case("cut off behind the states", up_to(SB_HERD, "Condition"), 3, SB_LISTED + counted(4), NO_OBSERVATION),
+    Case("cut off in the last line that counts", up_to(SB_HERD, "times 1"), 3, SB_LISTED + counted(4),
+         "log:11: no line of a log: Observation SB Some\n" + NO_OBSERVATION),
+    Case("cut off behind what counts", up_to(SB_HERD, "Hash"), 0, SB_LISTED + counted(4)),
+    Case("cut off between two tests", up_to(SB_HERD, "0:EAX=1; 1:EAX=0;") + R_HERD, 3,
+         lines("SB: 0:EAX 1:EAX", "0 0 both, 0 1 both, 1 0 model, 1 1 model", "exists Ok Ok") + R_LISTED + counted(5, 0, 3, 2, 2),
+         cut("2 are"), tests=("SB", "R")),
+    Case("one state more than is announced", changed(SB_HERD, "States 4", "States 3"), 3, SB_LISTED + counted(4),
+         "log:6: 3 states are announced, and here is one more\n"),
+    Case("a line that no log has", changed(SB_HERD, "0:EAX=1; 1:EAX=0;\n", "0:EAX=1; 1:EAX\n"), 3,
+         lines("SB: 0:EAX 1:EAX", "0 0 both, 0 1 both, 1 1 both, 1 0 model", "exists Ok Ok") + counted(3, 0, 1),
+         "log:5: no line of a log: 0:EAX=1; 1:EAX\n" + cut("3 are")),
+    Case("a count in a list", changed(SB_HERD, "0:EAX=1; 1:EAX=1;", "3 :>0:EAX=1; 1:EAX=1;"), 3,
+         lines("SB: 0:EAX 1:EAX", "0 0 both, 0 1 both, 1 0 both, 1 1 model", "exists Ok Ok") + counted(3, 0, 1),
+         "log:6: no line of a log: 3 :>0:EAX=1; 1:EAX=1;\n" + cut("3 are")),
+    Case("two numbers of states", changed(SB_HERD, "States 4\n", "States 4\nStates 4\n"), 3, SB_LISTED + counted(4),
+         "log:3: no line of a log: States 4\n"),
+    Case("a variable that stands twice", herd("none Forbidden", "1:EAX=0; 1:EAX=0;\n", "Ok", "none Never 0 1"), 3,
+         lines("none: 1:EAX", "0 model, 1 model", "~exists Ok Ok") + counted(0, 0, 2), "log:3: a state has a variable twice\n",
+         tests=("none",)),
+    Case("another test is observed", changed(SB_HERD, "Observation SB", "Observation R"), 3, SB_LISTED + counted(4),
+         "log:11: this is of R, and the test is SB\n"),
+    Case("a thread that the listing has not", herd("SB Allowed", "0:EAX=0; 1:EAX=0; 2:EAX=0;\n", "Ok", "SB Always 1 0"), 3,
+         counted(0, tests=0), "compare: not compared: SB: the listing has no thread 2\n"),
+    Case("a test without a listing", SB_HERD, 3, counted(0, tests=0),
+         "log:1: not compared: no listing that is read has the name SB\n" + UNUSED.replace("SB", "R"),
+         tests=("R",)),
+]
+
+
+def log_of_tso(path: str) -> str:
+    """What herd would write of a shipped listing, whose states have all registers and locations, as the machine of x86-TSO
+    finds them."""
+    found = BODY.search(read(path))
+    assert found is not None
+    _, *rows = ([cell.strip() for cell in row.split("|")] for row in found["rows"].split(";"))
+    columns = enumerate(zip(*rows))
+    loads = [f"{core}:{load[1]}" for core, column in columns for cell in column if (load := LOAD.match(cell))]
+    test = read_listing(path)
+    # read_listing counts the locations as they come column by column, and then those of the condition
+    cells = [cell for column in zip(*rows) for cell in column]
+    names = list(dict.fromkeys(name for cell in cells for name in re.findall(r"\[(\w+)\]", cell)))
+    states = set()
+    for reads, memory in tso.outcomes(test):
+        values = {address[0]: value for address, value in memory}
+        parts = [f"{load}={value};" for load, value in zip(loads, reads)]
+        states.add(" ".join([*parts, *(f"[{name}]={values[number]};" for number, name in enumerate(names))]))
+    title = os.path.basename(path).removesuffix(".litmus")
+    lines = "".join(f"{state}\n" for state in sorted(states))
+    return f"Test {title} Allowed\nStates {len(states)}\n{lines}Witnesses\nObservation {title} Sometimes 1 1\n\n"
+
+
+class Compared(Cases):
+    """In a folder with the listings, whose logs are named as in it."""
+
+    def setUp(self) -> None:
+        super().setUp()
+        self.addCleanup(os.chdir, os.getcwd())
+        os.chdir(self.work)
+        # of a program that this names nothing is said; each model is read once
+        with ExitStack() as stack:
+            stack.enter_context(patch.dict(os.environ, {"PIPECHECK": program()}))
+            stack.enter_context(patch.object(answering, "read_model", READ))
+            self.addCleanup(stack.pop_all().close)
+        for name, text in LISTINGS.items():
+            write(f"{name}.litmus", text)
+
+
+class Logs(Compared):
+    """What is said of a log."""
+
+    def test_tables(self) -> None:
+        for kind, table in (("machines", MACHINES), ("herd", HERD)):
+            for it in table:
+                name = f"compare: logs of {kind}: {it.name}"
+                if not self.is_wanted(name):
+                    continue
+                write("log", it.log)
+                with self.case(name), redirect_stderr(io.StringIO()) as told:
+                    found, status = answering.compare(it.model, [f"{test}.litmus" for test in it.tests], "log", TOP)
+                    said = "".join(f"{line}\n" for line in found), told.getvalue(), status
+                    self.assertEqual(said, (it.lines, it.told, it.status))
+
+    def test_machine(self) -> None:
+        paths = sorted(glob(f"{TOP}/examples/x86/*.litmus"))
+        write("log", "".join(map(log_of_tso, paths)))
+        for model in ("tso-buffer", "tso-ooo"):
+            with self.case(f"compare: the states of {len(paths)} shipped listings are those of {model}.uspec"):
+                found, status = answering.compare(f"{TOP}/examples/models/{model}.uspec", paths, "log", TOP)
+                self.assertEqual(status, 0)
+                self.assertRegex(found[-1], f"^{len(paths)} of {len(paths)} .* 0 in the log alone, 0 in the model alone$")
+
+
+class Words(Compared):
+    """What the script does with words, files and programs."""
+
+    def setUp(self) -> None:
+        super().setUp()
+        write("log", SB_HERD)
+
+    def stub(self, name: str, does: str) -> str:
+        """A program that answers a call without words as pipecheck does, and a sweep so."""
+        path = write(f"{self.work}/{name}", f"#!/bin/sh\n[ $# -gt 0 ] || exit 2\n{does}\n")
+        os.chmod(path, 0o755)
+        return path
+
+    def by_script(self, name: str, words: list[str], status: int, out: str, err: str) -> None:
+        """The word of the script ends so."""
+        self.gives(f"compare: {name}", [pipecheck(), "compare", *words], status, out, err, cwd=self.work)
+
+    def by_python(self, name: str, words: list[str], status: int, out: str, err: str, checker: str | None = None) -> None:
+        """What the script calls ends so, by this program."""
+        env = {"PIPECHECK": checker} if checker else {}
+        done = call(tool_entry("listings.compare"), ["compare", *words], cwd=self.work, env=env)
+        self.judge(f"compare: {name}", done, status, out, err)
+
+    def test_script(self) -> None:
+        form = """pipecheck compare MODEL LISTING.. LOG
+    Compares the states in a log of herd7 or litmus7 with those that the model
+    shows of the listings of the same names.
+pipecheck: these words are no command; how compare is called stands above
+"""
+        write("bad.uspec", 'StageName 0 "S".\nAxiom "x": IsAnyRead i 7.\n')
+        write("log 2", SB_MACHINE)
+        write("-m", read(BUFFERS))
+        self.by_script("no log", [BUFFERS, "SB.litmus"], 2, "pipecheck: bad command line\n", form)
+        self.by_script("names with a dash or a blank", ["-m", "SB.litmus", "log 2"], 0, SB_BOTH + counted(4), "")
+        self.by_script("a file that is not there", [BUFFERS, "gone.litmus", "log"], 4, "",
+                       "pipecheck: a file could not be read\npipecheck: gone.litmus is not there\n")
+        self.by_script("a refused model", ["bad.uspec", "SB.litmus", "log"], 3, "", "bad.uspec:2:12: arity: the model is refused\n")
+
+    def test_python(self) -> None:
+        write("bad.litmus", LISTINGS["SB"].replace("MOV EAX,[y]", "ADD EAX,$1"))
+        write("other.litmus", LISTINGS["SB"])
+        none = counted(0, tests=0)
+        refused = "bad.litmus:5:2: syntax: the listing is refused; pipecheck test86 says what to do\n"
+        self.by_python("a refused listing", [BUFFERS, "bad.litmus", "log"], 3, none,
+                       f"{refused}log:1: not compared: no listing that is read has the name SB\n")
+        self.by_python("two listings of one name", [BUFFERS, "SB.litmus", "other.litmus", "log"], 3, SB_LISTED + counted(4),
+                       "compare: other.litmus has the name of SB.litmus: SB\n")
+        for name, status, said, checker in (
+            ("a program that is refused memory", 7, "a sweep of it has no answer, and the status 7", self.stub("seven", "exit 7")),
+            ("a program that gives no rows", 125, "a sweep of it has no answer, and the status 0", self.stub("none", "echo sweep")),
+        ):
+            self.by_python(name, [BUFFERS, "SB.litmus", "log"], status, none, f"compare: not compared: SB: {said}\n", checker)
+        self.by_python("a program that is none", [BUFFERS, "SB.litmus", "log"], 125, "", "compare: no checker: /bin/true\n",
+                       "/bin/true")
+
+    def test_outputs(self) -> None:
+        reader, writer = os.pipe()
+        os.close(reader)
+        unwritten = "pipecheck: standard output could not be written: what it got is not the whole answer\n"
+        for name, opened, said in (
+            ("a full device", os.open("/dev/full", os.O_WRONLY), unwritten), ("a pipe whose reader has enough", writer, ""),
+        ):
+            words = [pipecheck(), "compare", BUFFERS, "SB.litmus", "log"]
+            self.gives(f"compare: {name}", words, 5, "", said, cwd=self.work, stdout=opened)
+            os.close(opened)
+
+    def test_no_room(self) -> None:
+        limited = ["/bin/sh", "-c", 'ulimit -f 0; exec "$@"', "limited", *COMPARE, BUFFERS, "SB.litmus", "log"]
+        done = run(limited, cwd=self.work)
+        with self.case("compare: no room for what is asked"):
+            self.assertEqual((done.status, done.out), (125, ""))
+            self.assertRegex(done.err, "^compare: No usable temporary directory found")
+
+    def test_signal(self) -> None:
+        os.mkdir("temporary")
+        sleeper = self.stub("sleeper", 'echo $$ >"$0.pid"; exec sleep 100')
+        env = {**os.environ, "PIPECHECK": sleeper, "TMPDIR": f"{self.work}/temporary"}
+        with subprocess.Popen([pipecheck(), "compare", BUFFERS, "SB.litmus", "log"], env=env) as called:
+            deadline = time.monotonic() + 60
+            while not (os.path.exists(f"{sleeper}.pid") and os.path.getsize(f"{sleeper}.pid")) and time.monotonic() < deadline:
+                time.sleep(0.05)
+            called.send_signal(signal.SIGTERM)
+            status = called.wait(60)
+        with self.case("compare: a signal ends all of it"):
+            is_there = os.path.exists(f"/proc/{read(f'{sleeper}.pid').strip()}")
+            self.assertEqual((status, is_there, os.listdir("temporary")), (-signal.SIGTERM, False, []))

@@ -1,0 +1,417 @@
+"""Ends installs, updates and uninstalls by SIGKILL before each change of a file that they make, and looks at what stands. Then the
+same, where the disk is full from a change on.
+
+Each command that is there has to be of the old installation or of the new one, and that one whole. After it an install brings all,
+and an uninstall takes all away and nothing else. On a full disk an install leaves all as it was, and an uninstall does its work.
+The changes are those that the interpreter reports. A small folder stands for the checkout.
+"""
+from __future__ import annotations
+
+import errno
+import os
+import random
+import shutil
+import signal
+import sys
+import tempfile
+from typing import Callable, NamedTuple, Sequence
+from unittest import mock
+
+from tests.cases import Cases
+
+# where these stand tests.cases says
+from tools.install import installer
+from tools.install.installed import FORMER, LINKS, Refused
+
+EVENTS = {"os.chmod", "os.mkdir", "os.remove", "os.rename", "os.rmdir", "os.symlink"}
+TAKE_ROOM = {"open", "os.mkdir", "os.symlink"}
+FILES = {
+    "README.md": "read me\n",
+    "CONTRIBUTING.md": "how to work on it\n",
+    "NEWS.md": "news\n",
+    "commands.txt": "program|check|MODEL TEST|Says.\n",
+    "docs/faults.md": "# Faults\n",
+    "editors/vim/syntax/uspec.vim": "syntax\n",
+    "examples/mp.test": "test\n",
+    "examples/suite": "#!/bin/sh\n",
+    "pipecheck": "#!/bin/sh\n",
+    "tools/lint/main.py": "lint\n",
+    "script/build": "build\n",
+    "script/completion.bash": "bash\n",
+    "script/completion.fish": "fish\n",
+    "script/completion.zsh": "zsh\n",
+    "script/manual": '#!/bin/sh\necho "the page $1"\n',
+    "tools/agree/machines/sc.py": "machine\n",
+}
+Texts = dict[str, str]
+
+
+class Room(NamedTuple):
+    """A folder of temporary files: checkouts by their version, and a prefix beside others."""
+
+    path: str
+    name: str = "prefix"
+
+    @property
+    def around(self) -> str:
+        """A folder that no installation makes."""
+        return os.path.join(self.path, "around")
+
+    @property
+    def prefix(self) -> str:
+        """The prefix that is installed under."""
+        return os.path.join(self.around, self.name)
+
+    def program(self, version: str) -> str:
+        """The program of a version."""
+        return os.path.join(self.path, version, "program")
+
+    def make(self, version: str) -> None:
+        """Makes the checkout of a version. A later one has a file more and one less."""
+        files = {**FILES, "program": "#!/bin/sh\n", f"docs/{version}.md": "page\n"}
+        for name, text in files.items():
+            path = os.path.join(self.path, version, name)
+            os.makedirs(os.path.dirname(path), exist_ok=True)
+            with open(path, "w", encoding="ascii") as file:
+                file.write(f"{text}# {version}\n")
+            os.chmod(path, 0o755 if text.startswith("#!") else 0o644)
+
+    def install(self, version: str) -> None:
+        """An install or update from the checkout of a version."""
+        installer.TOP = os.path.join(self.path, version)
+        installer.Installation(self.prefix).install(self.program(version), f"version {version}")
+
+    def uninstall(self) -> None:
+        """An uninstall; that there is nothing is no fault."""
+        try:
+            installer.Installation(self.prefix).uninstall()
+        except Refused:
+            pass
+
+    def install_former(self) -> None:
+        """An installation of the former layout, as that installer made it, of version 1."""
+        tree = os.path.join(self.prefix, "lib", "pipecheck")
+        folders = ("bin", "share", "share/man", "share/man/man1")
+        made = [folder for folder in folders if not os.path.isdir(f"{self.prefix}/{folder}")]
+        made += ["share/bash-completion", "share/bash-completion/completions", "lib", "lib/pipecheck/script"]
+        for folder in made:
+            os.makedirs(os.path.join(self.prefix, folder), exist_ok=True)
+        for name in ("README.md", "commands.txt", "docs", "editors", "examples", "pipecheck", "tools"):
+            installer.copy(os.path.join(self.path, "1", name), os.path.join(tree, name))
+        installer.copy(self.program("1"), os.path.join(tree, "pipecheck_cli"))
+        os.symlink("../lib/pipecheck/pipecheck", os.path.join(self.prefix, "bin", "pipecheck"))
+        os.symlink("../lib/pipecheck/examples/suite", os.path.join(self.prefix, "bin", "pipecheck-suite"))
+        for name, begin in FORMER.items():
+            with open(os.path.join(self.prefix, name), "wb") as file:
+                file.write(begin + b"\n")
+        lines = [f"file {name}" for name in ("bin/pipecheck", "bin/pipecheck-suite", *FORMER)] + ["tree lib/pipecheck"]
+        with open(os.path.join(tree, "installed"), "w", encoding="ascii") as file:
+            file.write("\n".join(lines + [f"folder {self.prefix}/{name}" for name in reversed(made)]) + "\n")
+
+
+def texts(folder: str) -> Texts:
+    """Each file, link and folder below a folder, with its bytes or what it leads to."""
+    found = {}
+    pending = [folder]
+    while pending:
+        with os.scandir(pending.pop()) as entries:
+            for entry in entries:
+                key = entry.path[len(folder) + 1 :]
+                if entry.is_symlink():
+                    found[key] = f"-> {os.readlink(entry.path)}"
+                elif entry.is_dir():
+                    found[key] = "folder"
+                    pending.append(entry.path)
+                else:
+                    with open(entry.path, encoding="ascii") as file:
+                        found[key] = file.read()
+    return found
+
+
+def tree_of(command: str) -> str:
+    """The folder of the tree that a command is of."""
+    file = LINKS[f"bin/{os.path.basename(command)}"]
+    return os.path.realpath(command).removesuffix(f"/{file}")
+
+
+def texts_of(tree: str) -> Texts:
+    """What a tree has, without its list."""
+    return {name: text for name, text in texts(tree).items() if not name.startswith("installed")}
+
+
+def commands(room: Room) -> list[Texts]:
+    """The trees of the commands that are there."""
+    paths = [os.path.join(room.prefix, "bin", name) for name in ("pipecheck", "pipecheck-suite")]
+    trees = [tree_of(path) for path in paths if os.path.exists(path)]
+    found = {tree: texts_of(tree) for tree in set(trees)}
+    return [found[tree] for tree in trees]
+
+
+def served(room: Room) -> set[str]:
+    """The names outside of the tree that are of some use: links that lead to a file, and files."""
+    return {name for name in LINKS if os.path.isfile(os.path.join(room.prefix, name))}
+
+
+def is_change(event: str, words: tuple[object, ...]) -> bool:
+    """Whether an event changes a file."""
+    writes = event == "open" and isinstance(words[2], int) and words[2] & (os.O_WRONLY | os.O_RDWR | os.O_CREAT)
+    return event in EVENTS or bool(writes)
+
+
+def ended(change: int, work: Callable[[], None]) -> bool:
+    """Does the work in a process of its own, which is ended before this change; whether it was."""
+    pid = os.fork()
+    if pid == 0:
+        count = 0
+
+        def look(event: str, words: tuple[object, ...]) -> None:
+            nonlocal count
+            if is_change(event, words):
+                count += 1
+                if count == change:
+                    os.kill(os.getpid(), signal.SIGKILL)
+
+        sys.addaudithook(look)
+        work()
+        os._exit(0)
+    status = os.waitpid(pid, 0)[1]
+    if not os.WIFSIGNALED(status) and status != 0:
+        raise AssertionError(f"status {status} before change {change}")
+    return os.WIFSIGNALED(status)
+
+
+def lacks_room(change: int, work: Callable[[], None]) -> bool:
+    """Does the work in a process of its own, where the disk is full from this change on; whether it wanted room."""
+    pid = os.fork()
+    if pid == 0:
+        count, wanted = 0, False
+
+        def look(event: str, words: tuple[object, ...]) -> None:
+            nonlocal count, wanted
+            if is_change(event, words):
+                count += 1
+                if count >= change and event in TAKE_ROOM:
+                    wanted = True
+                    raise OSError(errno.ENOSPC, os.strerror(errno.ENOSPC))
+
+        sys.addaudithook(look)
+        try:
+            work()
+        except OSError as error:
+            os._exit(1 if error.errno == errno.ENOSPC else 2)
+        # one that it could do without
+        os._exit(2 if wanted else 0)
+    status = os.waitstatus_to_exitcode(os.waitpid(pid, 0)[1])
+    judge(status in (0, 1), f"status {status} without room for change {change}")
+    return status == 1
+
+
+class Case(NamedTuple):
+    """What is there before, what is ended, and whether nothing of another stands under the prefix."""
+
+    name: str
+    before: str
+    work: str
+    is_alone: bool
+    prefix: str = "prefix"
+
+
+CASES = (
+    Case("a first install", "", "install", False),
+    Case("a first install under a folder that is not there", "", "install", True),
+    Case("a first install under folders that are not there", "", "install", True, "new/deep/prefix"),
+    Case("an update", "installed", "install", False),
+    Case("an update of the former layout", "former", "install", False),
+    Case("an uninstall", "installed", "uninstall", False),
+    Case("an uninstall of a folder that was made", "installed", "uninstall", True),
+    Case("an uninstall of folders that were made", "installed", "uninstall", True, "new/deep/prefix"),
+    Case("an uninstall of the former layout", "former", "uninstall", False),
+)
+
+
+def prepare(room: Room, case: Case) -> Texts:
+    """What stands before the case; answers what no installation made."""
+    shutil.rmtree(room.around, ignore_errors=True)
+    os.makedirs(room.around)
+    if not case.is_alone:
+        for name in ("bin/mine", "share/man/man1/mine.1", "lib/mine/file"):
+            os.makedirs(os.path.dirname(os.path.join(room.prefix, name)), exist_ok=True)
+            with open(os.path.join(room.prefix, name), "w", encoding="ascii") as file:
+                file.write("mine\n")
+    own = texts(room.around)
+    if case.before == "installed":
+        room.install("1")
+    elif case.before == "former":
+        room.install_former()
+    return own
+
+
+class Beginning:
+    """What stands before each call of a case: it is made once, and written again then."""
+
+    def __init__(self, room: Room, case: Case) -> None:
+        self.room = room
+        self.own = prepare(room, case)
+        self.before, self.old, self.names = texts(room.around), commands(room)[:1], served(room)
+
+    def begin(self) -> None:
+        """Has it stand."""
+        put(self.before, self.room.around)
+
+
+def put(found: Texts, folder: str) -> None:
+    """Has a folder with these files, links and folders stand in the place of another one."""
+    shutil.rmtree(folder, ignore_errors=True)
+    os.makedirs(folder)
+    for name, text in found.items():
+        path = f"{folder}/{name}"
+        if text == "folder":
+            os.mkdir(path)
+        elif text.startswith("-> "):
+            os.symlink(text[3:], path)
+        else:
+            with open(path, "w", encoding="ascii") as file:
+                file.write(text)
+
+
+def judge(condition: bool, what: str) -> None:
+    """Ends the case where something does not hold."""
+    if not condition:
+        raise AssertionError(what)
+
+
+def run_case(room: Room, case: Case, new: Texts) -> int:
+    """Ends the work before each change in turn; answers how many changes there are."""
+    change, its = 0, Beginning(room, case)
+    own, old, names = its.own, its.old, its.names
+    while True:
+        change += 1
+        its.begin()
+        is_ended = ended(change, (lambda: room.install("2")) if case.work == "install" else room.uninstall)
+        after = commands(room)
+        judge(all(tree in old + [new] for tree in after), f"a part of a tree before change {change}")
+        judge(len(after) in (0, 2) or case.work == "uninstall", f"one command of two before change {change}")
+        judge(names <= served(room) or case.work == "uninstall", f"a command or a page is lost before change {change}")
+        kept = texts(room.around)
+        room.install("2")
+        judge(commands(room) == [new, new], f"install after change {change}")
+        rest = [name for name in texts(room.around) if "-part" in name]
+        judge(not rest, f"a rest after change {change}")
+        room.uninstall()
+        judge(texts(room.around) == own, f"install and uninstall after change {change}")
+        put(kept, room.around)
+        room.uninstall()
+        judge(texts(room.around) == own, f"uninstall after change {change}")
+        if not is_ended:
+            return change
+
+
+def run_without_room(room: Room, case: Case, new: Texts) -> int:
+    """Has the disk full from each change on in turn; answers how many changes there are."""
+    change, its = 0, Beginning(room, case)
+    own, before, old, names = its.own, its.before, its.old, its.names
+    while True:
+        change += 1
+        its.begin()
+        if case.work == "uninstall":
+            judge(not lacks_room(1, room.uninstall), "an uninstall wants room")
+            judge(texts(room.around) == own, "uninstall without room")
+            return change
+        is_full = lacks_room(change, lambda: room.install("2"))
+        if case.before == "former":
+            # of the two layouts each command is of the one or of the other
+            judge(all(tree in old + [new] for tree in commands(room)), f"a part of a tree without room for {change}")
+            judge(names <= served(room), f"a command or a page is lost without room for change {change}")
+        elif is_full:
+            judge(texts(room.around) == before, f"something is left, or lost, without room for change {change}")
+        judge(is_full or commands(room) == [new, new], f"install without room for change {change}")
+        judge(not lacks_room(1, room.uninstall), f"an uninstall wants room after change {change}")
+        judge(texts(room.around) == own, f"uninstall without room after change {change}")
+        if not is_full:
+            return change
+
+
+def run_again_and_again(room: Room, new: Texts) -> int:
+    """Ends call after call at changes of chance, the same in each run; answers how many calls were ended."""
+    chance, count = random.Random(48), 0
+    for number in range(35):
+        case = CASES[number % len(CASES)]
+        own = prepare(room, case)
+        old, names = commands(room)[:1], served(room)
+        for _ in range(4):
+            count += ended(chance.randrange(1, 90), lambda: room.install("2"))
+            after = commands(room)
+            judge(all(tree in old + [new] for tree in after) and len(after) in (0, 2), f"after {count} calls")
+            judge(names <= served(room), f"a command or a page is lost after {count} calls")
+        if number % 2:
+            count += ended(chance.randrange(1, 30), room.uninstall)
+        room.uninstall()
+        judge(texts(room.around) == own, f"uninstall after {count} calls")
+    return count
+
+
+def page(name: str) -> str:
+    """A man page, as the script of the small checkout writes it; a shell for each would be started thousands of times."""
+    return f"the page {name}\n"
+
+
+class InARoom(Cases):
+    """Cases over a folder of temporary files with two versions of the small checkout. Many small files: in memory, where that is
+    there."""
+
+    room: Room
+    new: Texts
+
+    @classmethod
+    def setUpClass(cls) -> None:
+        memory = "/dev/shm"
+        folder = tempfile.mkdtemp(prefix="pipecheck-tests-", dir=memory if os.access(memory, os.W_OK) else None)
+        cls.addClassCleanup(shutil.rmtree, folder, ignore_errors=True)
+        patched = mock.patch.object(installer, "manual", page)
+        patched.start()
+        cls.addClassCleanup(patched.stop)
+        cls.addClassCleanup(os.umask, os.umask(0o022))
+        cls.room = Room(folder)
+        for version in ("1", "2"):
+            cls.room.make(version)
+        prepare(cls.room, CASES[0])
+        cls.room.install("2")
+        cls.new = texts_of(tree_of(os.path.join(cls.room.prefix, "bin", "pipecheck")))
+
+    def walk(self, name: str, cases: Sequence[Case], run_one: Callable[[Room, Case, Texts], int], least: int) -> None:
+        """Each of these cases, of which each has at least so many changes."""
+        for case in cases:
+            if self.is_wanted(f"{name}: {case.name}"):
+                with self.case(f"{name}: {case.name}"):
+                    self.assertGreaterEqual(run_one(self.room._replace(name=case.prefix), case, self.new), least)
+
+
+class EndedInstalls(InARoom):
+    """Installs that end before each change."""
+
+    def test_installs(self) -> None:
+        self.walk("ended before each change", [it for it in CASES if it.work == "install" and not it.before], run_case, 50)
+
+
+class EndedUpdates(InARoom):
+    """Updates and uninstalls that end before each change."""
+
+    def test_updates(self) -> None:
+        self.walk("ended before each change", [it for it in CASES if it.work == "install" and it.before], run_case, 50)
+
+    def test_uninstalls(self) -> None:
+        self.walk("ended before each change", [it for it in CASES if it.work == "uninstall"], run_case, 20)
+
+
+class FullDisks(InARoom):
+    """A disk that is full from each change on, and calls that end one after the other."""
+
+    def test_installs(self) -> None:
+        apart = [it for it in CASES if "/" in it.prefix or not it.is_alone]
+        self.walk("on a full disk", [it for it in apart if it.work == "install"], run_without_room, 50)
+        self.walk("on a full disk", [it for it in apart if it.work == "uninstall"], run_without_room, 1)
+
+    def test_call_after_call(self) -> None:
+        if self.is_wanted("ended before each change: call after call"):
+            with self.case("ended before each change: call after call"):
+                self.assertGreaterEqual(run_again_and_again(self.room, self.new), 50)

@@ -1,0 +1,180 @@
+"""Two programs, one answer: what the program and the second implementation say of listings and of lifted refutations that are
+spoilt at random, the same ones in each run, and of lifted refutations of shipped models and tests.
+
+    COUNT=5000 tests/program one_answer             so many texts of each kind; 600 where no number is given
+    EACH=yes tests/program one_answer lifted        lifts what is found of all shipped tests on the models that are shipped for them
+"""
+from __future__ import annotations
+
+import os
+import re
+import sys
+from functools import cache
+from glob import glob
+from random import Random
+
+from tests import random_texts
+from tests.cases import TOP, Cases, program, run, write
+
+from tools.second.main import Refused, check, judged, second_line, verify_lifted
+from tools.second.cases import Case, read_case
+from tools.second.lifted import LiftedJudge
+from tools.second.listings import read_listing
+from tools.second.models import Model
+from tools.second.scopes import read_model
+
+COUNT = int(os.environ.get("COUNT", "600"))
+
+# a small model that asks for values, program order and fences of no kind
+MODEL = f"{TOP}/examples/store-buffer.uspec"
+FORMS = [re.compile(it) for it in (rb"[A-Za-z]\w*", rb"\d+", rb"/\\|[^\s\w]", rb" /\\ [^ )]+")]
+OTHERS = [
+    b"(*", b"*)", b"%", b"'", b"\\/", b"~", b"\r", b"\t", b"\n", b"\x00", b"\xff", b";", b"|", b"{", b"}", b"=", b'"',
+    b"MOV", b"MFENCE", b"exists", b"P2", b"0:EAX=1", b"x=1;", b"7", b"18446744073709551616", b"X86 ", b"locations",
+    b"EBX", b"[x]",
+]
+
+SHIPPED = {
+    "two": ("po-and-reverse.uspec", "two-forbidden.test"),
+    "mp": ("in-order.uspec", "mp.test"),
+    "corr": ("models/sc-inorder.uspec", "corr.test"),
+}
+
+FEW = ("CoRR", "MP", "SB+fences", "Final+both+behind", "ISA2")
+# folders of models, with those of the tests that are run on them
+EACH = (
+    ("models", "tests"), ("buggy", "tests"), ("models", "locked"), ("translation", "translation"),
+    ("translation/buggy", "translation"),
+)
+VERIFIED = "verified unobservable\n"
+
+sys.setrecursionlimit(20_000)
+
+
+@cache
+def contents(path: str) -> bytes:
+    """The bytes of a file."""
+    with open(path, "rb") as file:
+        return file.read()
+
+
+@cache
+def model_of(text: bytes) -> Model:
+    """A model, which is read once."""
+    return judged("model", read_model, text)
+
+
+@cache
+def case_of(text: bytes) -> Case:
+    """A test, which is read once."""
+    return judged("test", read_case, text)
+
+
+def spoilt(chance: Random, listing: bytes) -> bytes:
+    """The listing with one to three changes of tokens, lines or bytes."""
+    for _ in range(chance.randint(1, 3)):
+        form = chance.choice(FORMS)
+        places = [match.span() for match in form.finditer(listing)]
+        start, end = chance.choice(places or [(0, 0)])
+        other_start, other_end = chance.choice(places or [(0, 0)])
+        lines = listing.splitlines(keepends=True)
+        line = chance.randrange(len(lines)) if lines else 0
+        listing = (
+            listing[:start] + listing[end:],
+            listing[:start] + listing[other_start:other_end] + listing[end:],
+            listing[:start] + chance.choice(OTHERS) + listing[end:],
+            listing[:start] + chance.choice(OTHERS) + listing[start:],
+            b"".join(lines[:line] + lines[line : line + 1] + lines[line:]),
+            listing[:end] + listing[start:],
+            b"".join(lines[:line] + lines[line + 1 :]),
+        )[chance.choice((0, 1, 1, 2, 3, 4, 5, 6))]
+    return listing
+
+
+class SpoiltListings(Cases):
+    """Listings of examples/x86 with some tokens, lines or bytes changed."""
+
+    def test_listings(self) -> None:
+        chance, path = Random(86), f"{self.work}/spoilt.litmus"
+        listings = [contents(it) for it in sorted(glob(f"{TOP}/examples/x86/*.litmus"))]
+        words = set()
+        with self.case(f"spoilt listings: {COUNT} answered alike by check86"):
+            for _ in range(COUNT):
+                listing = spoilt(chance, chance.choice(listings))
+                write(path, listing)
+                try:
+                    answer = check(model_of(contents(MODEL)), judged("test", read_listing, listing))[0]
+                except Refused as refused:
+                    answer = f"{refused}\n"
+                self.assertEqual(run([program(), "check86", MODEL, path]).out, answer, listing)
+                words.add(answer.split()[2 if answer.startswith("refused") else 0])
+            self.assertLess({"observable", "unobservable", "lexical", "syntax"}, words)
+
+
+class SpoiltLifted(Cases):
+    """Half of them are texts of examples/lifted. The others begin as a lifted refutation of a random model and test does, and
+    some of these are whole. Then up to three lines are changed."""
+
+    def shipped(self, chance: Random) -> tuple[bytes, bytes, bytes]:
+        """A shipped text with its model and its test."""
+        name, pair = chance.choice(sorted(SHIPPED.items()))
+        model, test = (contents(f"{TOP}/examples/{it}") for it in pair)
+        return model, test, contents(f"{TOP}/examples/lifted/{name}.txt")
+
+    def walked(self, chance: Random) -> tuple[bytes, bytes, bytes]:
+        """Lines that go on from the axioms of a random model, of two files without a fault."""
+        while True:
+            model, test = random_texts.ModelMaker(chance).text(), random_texts.test_text(chance)
+            try:
+                judge = LiftedJudge(model_of(model), case_of(test))
+            except Refused:
+                continue
+            return model, test, random_texts.lifted_text(chance, judge, second_line(False, case_of(test)))
+
+    def test_lifted(self) -> None:
+        chance = Random(27)
+        words = set()
+        with self.case(f"lifted refutations: {COUNT} answered alike by verify-lifted"):
+            for number in range(COUNT):
+                model, test, text = (self.walked if number % 2 else self.shipped)(chance)
+                for _ in range(chance.randint(0, 3)):
+                    text = random_texts.changed_lifted(chance, text)
+                files = [write(f"{self.work}/{name}", it) for name, it in (("model", model), ("test", test), ("text", text))]
+                answer = verify_lifted(model_of(model), case_of(test), text)[0]
+                self.assertEqual(run([program(), "verify-lifted", *files]).out, answer, (model, test, text))
+                words.add(answer.split()[0])
+            self.assertEqual(words, {"verified", "certificate"})
+
+
+class Lifts(Cases):
+    """Of each pair of a shipped model and test `check` answers first. Where its answer is a refutation, `lift` ends with 0, and its
+    text is accepted by `verify-lifted` and by the second implementation. Where it is a graph, `lift` says so."""
+
+    def pairs(self) -> list[tuple[str, str]]:
+        """The models with their tests."""
+        folders = EACH if "EACH" in os.environ else (("models", "tests"),)
+        found = [
+            (model, test) for models, tests in folders for model in sorted(glob(f"{TOP}/examples/{models}/*.uspec"))
+            for test in sorted(glob(f"{TOP}/examples/{tests}/*.test"))
+        ]
+        return found if "EACH" in os.environ else [it for it in found if os.path.basename(it[1])[:-5] in FEW]
+
+    def is_lifted(self, model: str, test: str) -> bool:
+        """Whether a pair has a refutation, which is lifted and judged."""
+        pair = os.path.relpath(model, TOP), os.path.relpath(test, TOP)
+        certificate = run([program(), "check", model, test])
+        lifted = run([program(), "lift", model, test, write(f"{self.work}/certificate", certificate.out)])
+        if certificate.status == 0:
+            self.assertEqual((lifted.status, lifted.out), (0, "verified observable\n"), pair)
+            return False
+        self.assertEqual((certificate.status, lifted.status), (1, 0), pair)
+        judge = run([program(), "verify-lifted", model, test, write(f"{self.work}/lifted", lifted.out)])
+        self.assertEqual((judge.status, judge.out), (1, VERIFIED), pair)
+        text = lifted.out.encode("ascii")
+        self.assertEqual(verify_lifted(model_of(contents(model)), case_of(contents(test)), text), (VERIFIED, 1), pair)
+        return True
+
+    def test_pairs(self) -> None:
+        pairs = self.pairs()
+        with self.case(f"lifted refutations of {len(pairs)} shipped pairs, each judged where there is one"):
+            self.assertGreater(sum(self.is_lifted(*it) for it in pairs), len(pairs) // 2)

@@ -1,0 +1,776 @@
+"""How examples/suite is called, and what may go wrong with it: words, names, programs, machines, files, streams and signals."""
+from __future__ import annotations
+
+import contextlib
+import fcntl
+import io
+import json
+import os
+import pty
+import re
+import shutil
+import signal
+import struct
+import subprocess
+import sys
+import termios
+import threading
+import time
+from dataclasses import replace
+from typing import Callable
+from unittest.mock import patch
+
+from tests.cases import TOP, Done, apart, call, program, read, text_of, tool, write
+from tests.suite_cases import CORR, EARLY, GOOD, MP, NO_FAULTS, PATIENCE, SB, SC, TUTORIAL, SuiteCases, no_lint, of_suite
+
+from tools.texts.memory_models import memory_model_of
+from tools.texts.quoting import quoted
+from tools.suite import kept
+from tools.suite.beside import Lint
+from tools.suite.calling import Calls, side_by_side
+from tools.suite.files import File, model_file, test_file
+from tools.suite.keeping import Folder, State, write_anew
+from tools.suite.main import handle_signals, interrupt
+from tools.suite.pairs import Found
+from tools.suite.programs import command_of
+from tools.suite.refusing import Interrupted, Refusal
+from tools.suite.tables import table_of_models
+
+PATTERN = "examples/patterns/MP.pattern"
+BAD_PATTERN = f"""\
+test        tutorial-early
+MP.pattern  BUG
+{PATTERN}: tutorial-early: shown though tso does not allow it: 1 0
+1 pairs: 0 ok, 1 BUG, {NO_FAULTS}"""
+BAD_PAIR = f"""\
+test  tutorial-early
+MP    BUG
+SB    ok
+2 pairs: 1 ok, 1 BUG, {NO_FAULTS}"""
+# those that end a process without a fault of its own
+SIGNALS = (
+    signal.SIGTERM, signal.SIGHUP, signal.SIGINT, signal.SIGQUIT, signal.SIGUSR1, signal.SIGUSR2, signal.SIGALRM,
+    signal.SIGVTALRM, signal.SIGPROF, signal.SIGXCPU,
+)
+UNWRITTEN = "suite: standard output could not be written: what it got is not the whole answer\n"
+
+
+def contents_in(folder: str) -> dict[str, dict[str, str]]:
+    """What the files below a folder have, by the folders that they are in."""
+    return {place: {it: read(f"{place}/{it}") for it in names} for place, _, names in os.walk(folder)}
+
+
+class Words(SuiteCases):
+    """Words, names and variables of the environment."""
+
+    def setUp(self) -> None:
+        super().setUp()
+        self.copy("tests", MP, SB)
+
+    def test_words(self) -> None:
+        os.mkdir(f"{self.work}/none")
+        self.refuses("a folder without tests", "there is no test in WORK/none", SC, SUITE_TESTS="WORK/none")
+        self.refuses("a folder without tests among the words", "there is no test in WORK/none", SC, "WORK/none")
+        for word in ("gone.uspec", "gone.test", "gone"):
+            self.refuses(f"a word that names nothing: {word}", f"WORK/{word} is not there", SC, f"WORK/{word}", "WORK/tests")
+        twice = "/dev/null is neither a file nor a folder: it is read more than once"
+        self.refuses("a pipe, which cannot be read twice", twice, "/dev/null")
+        self.refuses("an option that there is not", "there is no option -n; --help shows how it is called", "-n", SC)
+        form = "examples/suite [--differ] [--bad] [--baseline CELLS] [--junit FILE] [--sarif FILE] [MODEL | TEST | FOLDER].."
+        self.same("--help is help", f"    {form}\n" in self.called("--help").out)
+        for value, word in (("x", "x"), ("0", "0"), ("0.0", "0.0"), ("-1", "-1"), ("1 2", r"1\ 2")):
+            for name, kind in (("SUITE_SECONDS", "a number above 0"), ("SUITE_JOBS", "a number from 1 to 9999")):
+                self.refuses(f"{name} is '{value}'", f"{name} is {kind}, and not {word}", SC, **{name: value})
+
+    def test_names(self) -> None:
+        """Nothing is written or removed outside the folder of the model."""
+        for name, word in (
+            (".", "."), ("..", ".."), ("cells", "cells"), ("cells.part", "cells.part"), ("-n", "-n"), ("a\tb", r"$'a\tb'"),
+            ("a\nb", r"$'a\nb'"), ("", "''"),
+        ):
+            self.put(f"names/{name}.uspec", read(EARLY))
+            self.put("MP.test.certificate", "precious\n")
+            self.put("kept/MP.test.certificate", "precious\n")
+            before = contents_in(self.work)
+            self.refuses(f"a model that is named {word}", f"no model may be named {word}", f"WORK/names/{name}.uspec")
+            self.same(f"a model that is named {word} changes no file", contents_in(self.work), before)
+        self.refuses("a model that is a folder", "there is no test in WORK/names/", "WORK/names/")
+        self.put("tabs/a\tb.test", read(MP))
+        self.refuses("a test whose name has a tab", r"no test may be named $'a\tb'", SC, SUITE_TESTS="WORK/tabs")
+        self.put("names/sc-inorder.uspec", read(EARLY))
+        two = f"sc-inorder: {SC} and WORK/names/sc-inorder.uspec; a link gives one of them another name"
+        self.refuses("two models of one name", f"two models have one name: {two}", SC, "WORK/names/sc-inorder.uspec")
+        os.mkdir(f"{self.work}/none")
+        os.symlink(f"{self.work}/none", f"{self.work}/kept/elsewhere")
+        self.put("names/elsewhere.uspec", read(EARLY))
+        link = "the folder WORK/kept/elsewhere cannot be written"
+        self.refuses("a folder that is a link to another", link, "WORK/names/elsewhere.uspec")
+
+    def test_odd_names(self) -> None:
+        """Models and tests with blanks, quotes and the like in their names."""
+        odd = ("a b", "it's", '"', "&", "\\", "$(touch called)", "*")
+        for name in odd:
+            self.put(f"files/{name}.test", read(MP))
+            self.put(f"files/{name}.uspec", read(EARLY))
+        done = of_suite(self.called("WORK/files", *(f"WORK/files/{it}.uspec" for it in odd)), self.work)
+        found = (done.status, done.out.splitlines()[-1], done.err)
+        wanted = (1, "49 pairs: 0 ok, 49 BUG, 0 stricter, 0 time, 0 faults, in N s", "")
+        self.same("models and tests with blanks, quotes and the like in their names", found, wanted)
+        for name in odd:
+            words = ("verify", EARLY, MP, f"{self.work}/kept/{name}/{name}.test.certificate")
+            self.shows(f"the certificate of a test that is named {name}", 0, "verified observable\n", *words)
+
+    def test_programs(self) -> None:
+        """PIPECHECK names a file, or has words that are taken apart as by a shell, where nothing is replaced."""
+        shutil.copy2(program(), f"{self.work}/my program")
+        for words in ("WORK/my program", "'WORK/my program'", "env UNUSED=1 'WORK/my program'", r"env WORK/my\ program"):
+            self.table(f"PIPECHECK is {words.replace('WORK', '..')}", 0, GOOD, SC, PIPECHECK=words)
+        for name, words, line in (
+            ("PIPECHECK with a substitution", "$(touch called)", r"no checker: \$\(touch called\)"),
+            ("PIPECHECK with one quote", "'", r"PIPECHECK is no command: No closing quotation: \'"),
+            ("PIPECHECK is a blank", " ", r"PIPECHECK is no command: \ "),
+            ("a command that is no checker", "true", "no checker: true"),
+        ):
+            self.refuses(name, line, SC, PIPECHECK=words)
+
+    def test_commands(self) -> None:
+        place = self.put("a b", "")
+        for value, wanted in (
+            (place, [place]),
+            (f"'{place}' -x", [place, "-x"]),
+            (f"{self.work}/a\\ b", [place]),
+            ("python3 tools/second/main.py", ["python3", "tools/second/main.py"]),
+            ("a '' $HOME * `b` $(c) ; d", ["a", "", "$HOME", "*", "`b`", "$(c)", ";", "d"]),
+        ):
+            self.same(f"the words of PIPECHECK {value.replace(self.work, '..')}", command_of(value), wanted)
+        for value in ("'", " ", "''"):
+            with self.case(f"PIPECHECK {quoted(value)} has no words"):
+                self.assertRaisesRegex(Refusal, "^suite: PIPECHECK is no command: ", command_of, value)
+
+
+class Checkers(SuiteCases):
+    """Checkers that lie, are late, or are replaced."""
+
+    def setUp(self) -> None:
+        super().setUp()
+        self.copy("tests", MP, SB)
+
+    def liar(self, checks: str, verifies: str) -> str:
+        """A checker that does these commands of the shell when it is to check, and to verify."""
+        return self.script("liar", f'case $1 in "") exit 2 ;; check) {checks} ;; verify) {verifies} ;; esac')
+
+    def test_liars(self) -> None:
+        said = "echo unobservable; echo test forbidden: ok; exit 1"
+        for name, checks, verifies, cell, counts in (
+            ("a status without its verdict", "exit 1", "echo verified unobservable; exit 1", "status:1", "0 time, 2 faults"),
+            (
+                "a status with another verdict", "echo observable; echo test forbidden: BUG; exit 1",
+                "echo verified unobservable; exit 1", "status:1", "0 time, 2 faults",
+            ),
+            ("a judge that is late", said, "sleep 30", "time", "2 time, 0 faults"),
+            ("a checker that is late", "sleep 30", "exit 1", "time", "2 time, 0 faults"),
+            ("a judge without its line", said, "exit 1", "certificate", "0 time, 2 faults"),
+            (
+                "a certificate that is refused", said, "echo certificate refused at line 3; exit 6", "certificate",
+                "0 time, 2 faults",
+            ),
+            ("a checker that a signal ends", "kill -9 $$", "exit 1", "status:137", "0 time, 2 faults"),
+            ("a judge that a signal ends", said, "kill -9 $$", "certificate", "0 time, 2 faults"),
+        ):
+            self.table(name, 2, f"""\
+test  sc-inorder
+MP    {cell}
+SB    {cell}
+2 pairs: 0 ok, 0 BUG, 0 stricter, {counts}, in N s
+""", SC, PIPECHECK=self.liar(checks, verifies), SUITE_SECONDS="2" if "late" in name else "60")
+        leaving = self.liar(f"sleep 30 & {said}", "sleep 30 & echo verified unobservable; exit 1")
+        self.table("a checker that leaves something running", 0, GOOD, SC, PIPECHECK=leaving)
+
+    def test_memory(self) -> None:
+        self.lint_lines = no_lint
+        axiom = 'Axiom "a": forall microop "i", forall microop "j", ProgramOrder i j => AddEdge ((i, S), (j, S), "").\n'
+        self.put("many.uspec", '% Memory model: tso\nStageName 0 "S".\n' + 3_000 * axiom)
+        self.table("a check under the limit of memory", 2, """\
+test  many
+two   status:7
+1 pairs: 0 ok, 0 BUG, 0 stricter, 0 time, 1 faults, in N s
+""", "WORK/many.uspec", "examples/two.test", PIPECHECK_MEMORY="6")
+        said = "PIPECHECK_MEMORY is 1 MiB, and the program takes more to start"
+        self.refuses("a limit of memory that the program cannot start in", said, SC, PIPECHECK_MEMORY="1")
+        self.judge(
+            "a limit of memory that is no number", self.called(SC, PIPECHECK_MEMORY="much"), 2, "",
+            "pipecheck: PIPECHECK_MEMORY is a number of MiB, or none, and not much\n",
+        )
+        self.put("four.test", 'Litmus "four".\n' + "".join(
+            f"Microop {k} 0 0 0 (Write (VA {k} 0) (PA {k} 0) (Data 1)).\n" for k in range(4)
+        ))
+        stages = "".join(f'StageName {k} "S{k}".\n' for k in range(32))
+        nodes = "".join(f"(i, S{k});" for k in range(32))
+        self.put("nodes.uspec", f'% Memory model: tso\n{stages}Axiom "n": forall microops "i", NodesExist [{nodes}].\n')
+        limited = ["bash", "-c", 'ulimit -f 1 && exec "$@"', "bash"]
+        self.writes("a limit of the size of files", self.started("WORK/nodes.uspec", "WORK/four.test", before=limited), 2, """\
+test  nodes
+four  status:5
+1 pairs: 0 ok, 0 BUG, 0 stricter, 0 time, 1 faults, in N s
+""")
+        os.mkdir(f"{self.work}/temporary")
+        done = self.started(EARLY, "WORK/four.test", before=limited, env={"TMPDIR": "WORK/temporary"})
+        self.judge(
+            "a limit of the size of files that a copy of a model passes",
+            Done(done.status, done.out, re.sub("tmp[a-z0-9_]*:", "FOLDER:", done.err.replace(self.work, "WORK"))), 2, "",
+            f"suite: {EARLY} cannot be copied into WORK/temporary/FOLDER: File too large\n",
+        )
+        self.same("a copy of a model that passes the limit of size leaves nothing", os.listdir(f"{self.work}/temporary"), [])
+        done = self.started(SC, before=["bash", "-c", 'ulimit -v 20000 && exec "$@"', "bash"])
+        self.judge("a limit of memory that Python cannot load the suite in", Done(done.status, done.out, ""), 2)
+
+    def test_replaced(self) -> None:
+        """Files and programs that others take the place of while the suite runs."""
+        self.copy("replaced", MP, CORR)
+        self.put("replaced/mine.uspec", read(EARLY))
+        folder = f"{self.work}/replaced"
+        replacing = self.script("replacing", f"""\
+[ $# -eq 0 ] || [ -e "{folder}/done" ] || {{
+    cp examples/tests/SB.test "{folder}/MP.test"
+    rm "{folder}/CoRR.test" "{folder}/mine.uspec"
+    : >"{folder}/done"
+}}
+exec "{program()}" "$@\"""")
+        done = self.called("WORK/replaced", EARLY, "WORK/replaced/mine.uspec", PIPECHECK=replacing, SUITE_JOBS="1")
+        self.writes("files that are replaced or taken away are judged by what they were", done, 1, f"""\
+test  tutorial-early  mine
+CoRR  BUG             BUG
+MP    BUG             BUG
+4 pairs: 0 ok, 4 BUG, {NO_FAULTS}""")
+        self.top = f"{self.work}/copy"
+        shutil.copytree(apart(), self.top, symlinks=True)
+        self.two_programs()
+        self.table("a program that is replaced while the suite runs", 1, BAD_PAIR, EARLY, SUITE_JOBS="1")
+        self.same("the suite's program is replaced after its first answer", os.path.exists(f"{self.work}/second"), False)
+        self.two_programs()
+        patterns = (f"examples/patterns/{it}.pattern" for it in ("MP", "R", "SB"))
+        self.gives(
+            "a program that is replaced while agree runs",
+            [*tool("agree", self.top), "examples/models/tso-ooo.uspec", *patterns], 0,
+            "swept by the program\n3 agree, 0 differ\n",
+        )
+        self.same("agree's program is replaced after its first answer", os.path.exists(f"{self.work}/second"), False)
+
+    def two_programs(self) -> None:
+        """A program stands in the copy, and a second one, which has no answers, takes its place at its first answer."""
+        first = self.script("first", f"""\
+case $1/$2 in check/?* | sweep/?*) [ ! -e "{self.work}/second" ] || mv -f "{self.work}/second" "{self.top}/pipecheck_cli" ;; esac
+exec "{program()}" "$@\"""")
+        os.replace(first, f"{self.top}/pipecheck_cli")
+        self.script("second", "exit 9")
+
+    def test_odd_copies(self) -> None:
+        """What an installation has, in a folder with an odd name, beside a false program that finds no bug: a shell that takes the
+        path apart calls that one with the rest of the path as its first word."""
+        self.script("odd/a", """\
+touch "$0.called"
+case $2 in
+'') exit 2 ;;
+check) echo unobservable; echo test forbidden: ok ;;
+verify) echo verified unobservable ;;
+esac
+exit 1""")
+        self.lint_lines = Lint.lines
+        for name, word in (
+            ("a b", r"a\ b"), ("a\nb", r"$'a\nb'"), ("a&b", r"a\&b"), ("a\\b", r"a\\b"), ("a'b", r"a\'b"), ('a"b', r"a\"b"),
+            ("a;b", r"a\;b"), ("a*", r"a\*"),
+        ):
+            self.top = f"{self.work}/odd/{name}"
+            shutil.copytree(apart(), self.top, symlinks=True)
+            self.table(f"a copy in a folder that is named {word}", 1, BAD_PAIR, EARLY)
+            is_called = os.path.exists(f"{self.work}/odd/a.called")
+            self.same(f"a copy in a folder that is named {word} calls no other file", is_called, False)
+            shutil.rmtree(self.top)
+
+
+class Machines(SuiteCases):
+    """Machines that are late, fail, or are not there."""
+
+    def test_late(self) -> None:
+        """Eight cores with eight writes each have some 40 million states."""
+        self.put("large.test", 'Litmus "large".\n' + "".join(
+            f"Microop {k} {k // 8} 0 0 (Write (VA {k} 0) (PA {k} 0) (Data 1)).\n" for k in range(64)
+        ))
+        liar = self.script("liar", """\
+case $1 in "") exit 2 ;; check) echo observable; echo test unstated ;; verify) echo verified observable ;; esac""")
+        self.table("a machine that is late", 0, """\
+test   sc-inorder
+large  observable
+not compared with a machine within the limit of time: 1 test, the first WORK/large.test
+1 pairs: 0 ok, 0 BUG, 0 stricter, 1 unstated, 0 time, 0 faults, in N s
+""", SC, "WORK/large.test", PIPECHECK=liar, SUITE_SECONDS="2")
+
+    def test_environment(self) -> None:
+        """What the suite starts of Python has nothing of the environment."""
+        self.put("shadow/fractions.py", "raise SystemExit(3)\n")
+        self.put("shadow/enum.py", "raise SystemExit(3)\n")
+        for name, value in (
+            ("PYTHONSAFEPATH", "1"), ("PYTHONIOENCODING", "utf-16"), ("PYTHONWARNINGS", "error"), ("PYTHONPATH", "WORK/shadow"),
+        ):
+            done = self.started(EARLY, PATTERN, env={name: value})
+            self.writes(f"with {name}={value.replace('WORK', '..')} a machine says the same", done, 1, BAD_PATTERN)
+        limited = ["bash", "-c", 'ulimit -v 1000000 && exec "$@"', "bash"]
+        done = self.started(EARLY, PATTERN, before=limited)
+        self.writes("under a limit of address space, which a machine has then", done, 1, BAD_PATTERN)
+
+    def test_layouts(self) -> None:
+        """Two writes in one instruction, and a walk of another page than the access's."""
+        for machine, text in (
+            ("tso", """\
+Litmus "two". Microop 0 0 0 0 (Write (VA 0 0) (PA 0 0) (Data 1)).
+Microop 0 0 0 1 (Write (VA 1 0) (PA 1 0) (Data 1)). Microop 1 1 1 0 (Read (VA 1 0) (PA 1 0) (Data Any)).
+"""),
+            ("tlb", """\
+Litmus2 "walk". Microop 0 0 0 0 (Read Walk (VA 1 0) (Entry 1) (Maps 1 0 0)).
+Microop 0 0 0 1 (Read (VA 0 0) (PA 0 0) (Data Any)).
+"""),
+        ):
+            words = [*tool("verdicts"), machine, self.put(f"{machine}.pattern", text)]
+            self.gives(f"a layout that the machine of {machine} does not run", words, 3)
+
+    def machine(self, text: str) -> None:
+        """The suite's copy gets this as its machine of TSO."""
+        self.top = f"{self.work}/copy"
+        if not os.path.exists(self.top):
+            shutil.copytree(apart(), self.top, symlinks=True)
+        write(f"{self.top}/tools/agree/machines/tso.py", text)
+
+    def test_failing(self) -> None:
+        unstated = "".join(it for it in read(MP).splitlines(keepends=True) if not it.startswith("Forbidden"))
+        self.put("own/mine.test", unstated)
+        for name, reason, fails in (
+            ("crashes", "status 1: KeyError: 1", "{}[1]"),
+            ("wants more memory than there is", "status 1: MemoryError", "bytes(1 << 62)"),
+            ("ends by a signal", "status 137", "os.kill(os.getpid(), 9)"),
+            ("gives an answer that is none", "its answer is none", "os._exit(0)"),
+        ):
+            self.machine(f"import os\ndef outcomes(test: object) -> object:\n    return {fails}\n")
+            self.table(f"a machine that {name}", 2, f"""\
+test        tutorial-early
+MP          BUG
+MP.pattern  machine
+mine        machine
+{PATTERN}: the machine of tso failed: {reason}
+WORK/own/mine.test: tutorial-early says observable, and the machine of tso failed: {reason}
+3 pairs: 0 ok, 1 BUG, 0 stricter, 0 time, 2 faults, in N s
+""", EARLY, PATTERN, "WORK/own", MP)
+        shutil.rmtree(f"{self.top}/tools/agree/machines")
+        self.table("a copy without machines", 0, """\
+test  tutorial
+mine  unobservable
+not compared with machines: there are none in WORK/copy/tools/agree/machines
+1 pairs: 0 ok, 0 BUG, 0 stricter, 1 unstated, 0 time, 0 faults, in N s
+""", TUTORIAL, "WORK/own")
+
+    def test_several(self) -> None:
+        """A machine runs one test after another in one process as long as it does not fail, and the clock has its time."""
+        self.machine(f"""\
+import time
+with open("{self.work}/started", "a", encoding="ascii") as file:
+    file.write("started\\n")
+def outcomes(test):
+    time.sleep(1)
+    if len(test.ops) == 3:
+        raise KeyError(3)
+    return set()
+""")
+        patterns = (f"examples/patterns/{it}.pattern" for it in ("CoRR", "MP", "R", "SB"))
+        done = self.called(EARLY, *patterns, SUITE_JOBS="1")
+        lines = done.out.splitlines(keepends=True)
+        self.judge("a machine that fails on one test of several", Done(done.status, "".join(lines[:5]), done.err), 2, """\
+test          tutorial-early
+CoRR.pattern  machine
+MP.pattern    BUG
+R.pattern     BUG
+SB.pattern    BUG
+""")
+        self.same("a machine is started again after it fails, and then alone", read(f"{self.work}/started"), "started\nstarted\n")
+        seconds = int(lines[-1].rpartition("in ")[2].partition(" s")[0])
+        self.same("the clock has the time of machines", seconds >= 4)
+
+
+class Folders(SuiteCases):
+    """What cannot be written, and what an interrupted suite has got."""
+
+    def setUp(self) -> None:
+        super().setUp()
+        self.copy("tests", MP, SB)
+
+    def test_unwritten(self) -> None:
+        self.put("kept/sc-inorder/MP.test.certificate.part/x", "")
+        self.writes("a certificate that cannot be written", self.called(SC), 2, """\
+test  sc-inorder
+MP    unwritten
+SB    ok
+2 pairs: 1 ok, 0 BUG, 0 stricter, 0 time, 1 faults, in N s
+""")
+        shutil.rmtree(f"{self.work}/kept")
+        os.makedirs(f"{self.work}/kept/cells")
+        said = "suite: WORK/kept/cells cannot be written: Is a directory\n"
+        self.writes("rows that cannot be kept", self.called(SC), 2, GOOD, said)
+        self.refuses(
+            "a folder that cannot be made", "the folder /dev/null/suite cannot be written", SC, SUITE_FOLDER="/dev/null/suite"
+        )
+
+    def test_links(self) -> None:
+        precious = self.put("precious", "precious\n")
+        os.makedirs(f"{self.work}/kept/sc-inorder")
+        places = [f"{self.work}/kept/{it}" for it in ("cells", "sc-inorder/MP.test.certificate")]
+        for place in (*places, *(f"{it}.part" for it in places)):
+            os.symlink(precious, place)
+        self.writes("files that are links", self.called(SC), 0, GOOD)
+        self.same("links are not followed", read(precious), "precious\n")
+        for name, place in zip(("rows take", "a certificate takes"), places):
+            self.same(f"{name} the place of a link", not os.path.islink(place) and os.path.getsize(place) > 0)
+        self.same("beside links no part is left", parts_in(f"{self.work}/kept"), [])
+
+    def test_streams(self) -> None:
+        """Standard output and standard error that are full, closed, or not read."""
+        with open("/dev/full", "wb") as full:
+            self.judge("a full device as standard output", self.started(SC, stdout=full), 2, "", UNWRITTEN)
+        closed = self.started(SC, before=["bash", "-c", '"$@" >&-', "bash"])
+        self.judge("a closed standard output", closed, 2, "", UNWRITTEN)
+        ours, theirs = os.pipe()
+        os.close(ours)
+        self.judge("a standard output whose reader has enough", self.started(SC, stdout=theirs), 2)
+        os.close(theirs)
+        self.writes("a closed standard error", self.started(SC, before=["bash", "-c", '"$@" 2>&-', "bash"]), 0, GOOD)
+
+    def test_states(self) -> None:
+        """What an interrupted suite has got is read where a suite can have written it."""
+        place = f"{self.work}/kept/.state"
+        os.mkdir(f"{self.work}/kept")
+        kinds: dict[str, Callable[[], object]] = {
+            "deep": lambda: write(place, 200_000 * "["),
+            "pipe": lambda: os.mkfifo(place),
+            "link": lambda: os.symlink(f"{TOP}/{MP}", place),
+            "folder": lambda: os.mkdir(place),
+        }
+        for kind, make in kinds.items():
+            make()
+            said = "suite: WORK/kept/.state is spoilt: it is made anew\n"
+            self.writes(f"what an interrupted suite has got is a {kind}", self.called(SC), 0, GOOD, said)
+
+    def test_at_once(self) -> None:
+        """Of two suites in one folder at once one waits for the other."""
+        started = [(it, self.begun(it, stdout=subprocess.PIPE)) for it in (EARLY, SC, EARLY, SC)]
+        found = []
+        for model, process in started:
+            out, _ = process.communicate(timeout=PATIENCE)
+            rows = [line for line in text_of(out).splitlines() if line.split()[:1] == ["MP"]]
+            found.append((model, process.returncode, rows))
+        early, good = (EARLY, 1, ["MP    BUG"]), (SC, 0, ["MP    ok"])
+        self.same("four suites in one folder at once", found, [early, good, early, good])
+
+
+def parts_in(folder: str) -> list[str]:
+    """The files that are half written."""
+    return [name for _, _, names in os.walk(folder) for name in names if name.endswith(".part")]
+
+
+class Signals(SuiteCases):
+    """Signals end the suite, the programs that it calls, and what builds one; nothing half written is left."""
+
+    def setUp(self) -> None:
+        super().setUp()
+        # a shell has what it starts beside itself ignore Ctrl-C, and who runs this may ignore the others
+        for number in SIGNALS:
+            signal.signal(number, signal.SIG_DFL)
+        signal.signal(signal.SIGINT, signal.default_int_handler)
+        # a child of the checker goes on where the checker alone is ended, and so does one that ignores signals
+        ignored = " ".join(number.name.removeprefix("SIG") for number in SIGNALS)
+        self.checker = self.script("checker", f'[ $# -gt 0 ] || exit 2\ntrap "" {ignored}\necho observable\nsleep 300 &\nwait')
+        self.env = {"PIPECHECK": self.checker, "SUITE_SECONDS": "300"}
+
+    def wait_for(self, is_so: Callable[[], bool]) -> None:
+        """Waits until something comes true, or fails."""
+        self.assertTrue(comes(is_so), "it did not come true in time")
+
+    def test_each(self) -> None:
+        for number in SIGNALS:
+            process = self.begun(TUTORIAL, MP, env=self.env)
+            self.wait_for(lambda: bool(running(self.checker)) and bool(parts_in(f"{self.work}/kept")))
+            groups = groups_of(running(self.checker))
+            process.send_signal(number)
+            status = process.wait(PATIENCE)
+            self.same(f"{number.name} ends a suite", status, -number)
+            self.same(f"{number.name} ends a suite's programs", (left_of(groups), running(self.checker)), ([], []))
+            self.same(f"{number.name} leaves no part", parts_in(f"{self.work}/kept"), [])
+
+    def test_ignored(self) -> None:
+        ignoring = ["sh", "-c", 'trap "" HUP; exec "$@"', "sh"]
+        process = self.begun(TUTORIAL, MP, env=self.env, before=ignoring)
+        self.wait_for(lambda: bool(parts_in(f"{self.work}/kept")))
+        process.send_signal(signal.SIGHUP)
+        time.sleep(0.5)
+        self.same("HUP does not end a suite that ignores it, as behind nohup", process.poll(), None)
+        process.send_signal(signal.SIGTERM)
+        process.wait(PATIENCE)
+
+    def test_unseen(self) -> None:
+        """Python does not see at once what comes just before it waits, nor what another thread gets, as here."""
+
+        def entry() -> int:
+            calls = Calls()
+
+            def task() -> int | None:
+                # the main thread waits by then
+                time.sleep(1)
+                signal.pthread_kill(threading.get_ident(), signal.SIGTERM)
+                with open(os.devnull, "wb") as out:
+                    return calls.status(["sleep", "120"], None, 120, out)
+
+            handle_signals(interrupt)
+            begun = time.monotonic()
+            try:
+                side_by_side(calls, 1, [task], lambda _, __: None)
+            except Interrupted as interrupted:
+                return interrupted.number if time.monotonic() < begun + 60 else 1
+            return 0
+
+        self.same("a signal that Python does not see at once ends a call", call(entry, []).status, signal.SIGTERM)
+
+    def test_early(self) -> None:
+        """Ctrl-C while Python still loads what the suite is made of ends it without a word. What Python says is what it loads."""
+        for module in ("os", "tools.texts.quoting", "tools.suite.files", "tools.suite.running"):
+            # another Python may stand before the one that is meant
+            before = [sys.executable, "-E", "-S", "-X", "importtime"]
+            process = self.begun(TUTORIAL, MP, env=self.env, before=before, stderr=subprocess.PIPE)
+            assert process.stderr is not None
+            lines = iter(process.stderr.readline, b"")
+            is_loaded = any(text_of(it).rpartition("|")[2].strip() == module for it in lines)
+            process.send_signal(signal.SIGINT)
+            said = [it for it in lines if not it.startswith(b"import time:")]
+            found = (is_loaded, said, process.wait(PATIENCE))
+            self.same(f"Ctrl-C when Python has loaded {module}", found, (True, [], -signal.SIGINT))
+
+    def test_waiting(self) -> None:
+        folder = Folder(f"{self.work}/kept")
+        folder.wait_in_turn()
+        process = self.begun(TUTORIAL, MP, env=self.env, stderr=subprocess.PIPE)
+        assert process.stderr is not None
+        said = text_of(process.stderr.readline())
+        process.send_signal(signal.SIGTERM)
+        status = process.wait(PATIENCE)
+        os.close(folder.lock)
+        wanted = f"suite: another suite writes into {self.work}/kept: waiting for it\n"
+        self.same("TERM ends a suite that waits for another one", (said, status), (wanted, -signal.SIGTERM))
+
+    def test_limits(self) -> None:
+        """A call has a limit of processor time, which holds where its suite was ended by force; one that stands is kept."""
+        checker = self.script("limited", '[ $# -gt 0 ] || exit 2\nulimit -S -t >"$0.limit"')
+        whole = 3 * len(os.sched_getaffinity(0)) + 1
+        for name, shell, wanted in (
+            ("3 seconds on each processor, and one more", 'exec "$@"', whole),
+            ("a lower limit that stands", 'ulimit -S -t 3; exec "$@"', 3),
+        ):
+            self.started(TUTORIAL, MP, env={"PIPECHECK": checker, "SUITE_SECONDS": "2.5"}, before=["sh", "-c", shell, "sh"])
+            self.same(f"the processor time of a call: {name}", read(f"{checker}.limit"), f"{wanted}\n")
+
+    def test_build(self) -> None:
+        """A build ends with the suite, and may clean up before."""
+        self.top, note = f"{self.work}/copy", f"{self.work}/built"
+        shutil.copytree(apart(), self.top, symlinks=True)
+        write(f"{self.top}/script/calls", f"ensure_built() {{ trap 'rm -f {note}' EXIT; : >{note}; sleep 300; }}\n")
+        process = self.begun(TUTORIAL, MP)
+        self.wait_for(lambda: os.path.exists(note))
+        groups = groups_of(running(self.top)) - {os.getpgid(0)}
+        process.send_signal(signal.SIGTERM)
+        status = process.wait(PATIENCE)
+        self.same("TERM ends a suite that builds", status, -signal.SIGTERM)
+        self.same("TERM ends a suite's build", (os.path.exists(note), left_of(groups)), (False, []))
+
+
+def comes(is_so: Callable[[], bool]) -> bool:
+    """Whether something comes true in time."""
+    end = time.monotonic() + PATIENCE
+    while not is_so():
+        if time.monotonic() > end:
+            return False
+        time.sleep(0.05)
+    return True
+
+
+def running(word: str) -> list[int]:
+    """The processes one of whose words has this in it."""
+    found = []
+    for name in os.listdir("/proc"):
+        if name.isdigit() and int(name) != os.getpid():
+            with contextlib.suppress(OSError), open(f"/proc/{name}/cmdline", "rb") as file:
+                if word.encode("ascii") in file.read():
+                    found.append(int(name))
+    return found
+
+
+def groups_of(processes: list[int]) -> set[int]:
+    """The groups of processes that are still there."""
+    found = set()
+    for it in processes:
+        with contextlib.suppress(ProcessLookupError):
+            found.add(os.getpgid(it))
+    return found
+
+
+def left_of(groups: set[int]) -> list[int]:
+    """The groups of processes that are still there when they had time to end."""
+
+    def is_there(group: int) -> bool:
+        try:
+            os.killpg(group, 0)
+        except ProcessLookupError:
+            return False
+        return True
+
+    comes(lambda: not any(map(is_there, groups)))
+    return list(filter(is_there, groups))
+
+
+class Terminals(SuiteCases):
+    """A table on a terminal has numbers where it is too narrow, and in a file it has none."""
+
+    def test_tables(self) -> None:
+        rows = [["MP", "ok", "BUG"], ["2+2W", "stricter", "ok"]]
+        wide = ["test  one-model  other-model", "MP    ok         BUG", "2+2W  stricter   ok"]
+        narrow = ["1  one-model", "2  other-model", "test  1         2", "MP    ok        BUG", "2+2W  stricter  ok"]
+        for name, width, wanted in (
+            ("no terminal", None, wide),
+            ("a terminal as wide as the table", 28, wide),
+            ("a terminal narrower by one", 27, narrow),
+        ):
+            self.same(name, table_of_models(["one-model", "other-model"], rows, width), wanted)
+
+    def test_terminals(self) -> None:
+        checker = self.script("checker", """\
+case $1 in "") exit 2 ;; verify) echo verified unobservable ;; *) echo unobservable; echo test unstated ;; esac
+exit 1""")
+        table = ["test  tutorial  tutorial-early", "MP    ok        ok"]
+        numbered = ["1  tutorial", "2  tutorial-early", "test  1   2", "MP    ok  ok"]
+        for name, width, columns, wanted in (
+            ("a wide terminal", 80, "", table),
+            ("a narrow terminal", 20, "", numbered),
+            ("a wide terminal that COLUMNS says is narrow", 80, "20", numbered),
+            ("a narrow terminal that COLUMNS says is wide", 20, "80", table),
+            ("a narrow terminal and COLUMNS of 5,000 digits", 20, 5000 * "9", numbered),
+        ):
+            lines = self.shown_on_terminal(width, {"PIPECHECK": checker, "COLUMNS": columns})
+            self.same(name, lines[: len(wanted)], wanted)
+
+    def shown_on_terminal(self, width: int, env: dict[str, str]) -> list[str]:
+        """The lines that the suite writes to a terminal of this width."""
+        ours, theirs = pty.openpty()
+        fcntl.ioctl(theirs, termios.TIOCSWINSZ, struct.pack("HHHH", 24, width, 0, 0))
+        process, text = self.begun(TUTORIAL, EARLY, MP, env=env, stdout=theirs), b""
+        os.close(theirs)
+        # so a terminal ends
+        with contextlib.suppress(OSError):
+            while part := os.read(ours, 4096):
+                text += part
+        process.wait(PATIENCE)
+        os.close(ours)
+        return text_of(text).replace("\r\n", "\n").splitlines()
+
+
+class Parts(SuiteCases):
+    """Parts of the suite that need no program."""
+
+    def test_memory_models(self) -> None:
+        """What a model names, and why it names nothing."""
+        none = "the model names no memory model"
+        inside = "a memory model is named inside another comment"
+        twice = "a memory model is named a second time"
+        for text, wanted in (
+            ("% Memory model: tso\n", "tso"),
+            ("% MEMORY MODEL:\tx86-TSO \r\n", "x86-tso"),
+            ("%Memory model:tso", "tso"),
+            ('StageName 0 "S". % Memory model: tso', "tso"),
+            ("", none),
+            ("% Memory model: tso, for now\n", none),
+            ("% the memory model: tso\n", none),
+            ("// Memory model: tso\n", none),
+            ('Axiom "% Memory model: tso": True.', none),
+            ("% Memory model: tso\n% memory model: tso\n", twice),
+            ("(* % Memory model: tso *)", inside),
+            ("(*\n% Memory model: tso\n*)\n% Memory model: sc\n", inside),
+            ("// % Memory model: tso", inside),
+            ("%% Memory model: tso", inside),
+            ("% such as % Memory model: tso\n", inside),
+            ("% such as `% Memory model: NAME`\n% Memory model: tso\n", "tso"),
+        ):
+            named = memory_model_of(text.encode("ascii"))
+            self.same(f"a model with {text!r}", named.name or named.fault, wanted)
+
+    def test_states(self) -> None:
+        """A verdict of an interrupted suite stands for the same bytes alone."""
+        model, test = model_file(f"{TOP}/{TUTORIAL}"), test_file(f"{TOP}/{MP}")
+        listing = replace(test, path=test.path.removesuffix(".test") + ".litmus")
+        found = Found("unobservable", "forbidden")
+        folder = Folder(self.work)
+        folder.make_room(model)
+        state = State(folder, "the program")
+        place = folder.place(model, test)
+        certificate = b"unobservable\ntest forbidden: ok\nend\n"
+        for name, text, is_noted in (
+            ("with its certificate", certificate, True),
+            ("with a certificate of another verdict", b"observable\n", False),
+            ("without its certificate", None, False),
+        ):
+            if text is not None:
+                write_anew(place, text)
+            else:
+                os.unlink(place)
+            state.pairs = {}
+            state.note(model, test, found)
+            self.same(f"a verdict {name} is noted" if is_noted else f"a verdict {name} is not noted", bool(state.pairs), is_noted)
+        write_anew(place, certificate)
+        state.note(model, test, found)
+        state.write()
+
+        def stands(program: str = "the program", of_model: File = model, of_test: File = test) -> Found | None:
+            other = State(folder, program)
+            # that it is spoilt is told
+            with contextlib.redirect_stderr(io.StringIO()):
+                other.read()
+            return other.found(of_model, of_test)
+
+        self.same("a verdict of the same bytes stands", stands(), found)
+        for name, other in (
+            ("another program", stands("another program")),
+            ("a program whose bytes are not known", stands("")),
+            ("another model", stands(of_model=replace(model, digest="other bytes"))),
+            ("another test", stands(of_test=replace(test, digest="other bytes"))),
+            ("a test that another word checks", stands(of_test=listing)),
+        ):
+            self.same(f"a verdict of {name} does not stand", other, None)
+        write_anew(place, certificate + b"more")
+        self.same("a verdict with another certificate does not stand", stands(), None)
+        write_anew(place, certificate)
+        observable = json.dumps({"program": "the program", "pairs": state.pairs}).replace("unobservable", "observable")
+        write_anew(state.place, observable.encode("ascii"))
+        self.same("a verdict that its certificate does not say does not stand", stands(), None)
+        for spoilt in (b"", b"{", b"[]", b'{"program": "the program", "pairs": {"tutorial/MP.test": {"verdict": 1}}}'):
+            write_anew(state.place, spoilt)
+            self.same(f"a state of {spoilt!r} is none", stands(), None)
+
+    def test_kept(self) -> None:
+        """What was not taken for longest goes, where there is more than the limit; and nothing else in the folder does."""
+        model, found = model_file(f"{TOP}/{TUTORIAL}"), Found("unobservable", "forbidden")
+        tests = [replace(test_file(f"{TOP}/{MP}"), digest=letter) for letter in "abc"]
+        text = b"unobservable\n" + b"x" * 1000
+        store = f"{self.work}/store"
+        for name in ("mine", "0" * 64 + ".part", "0" * 64 + "." + "0" * 32 + ".part"):
+            os.utime(self.put(f"store/{name}", text), (0, 0))
+        verdicts = kept.Kept(store, "the program")
+        for age, test in enumerate(tests):
+            verdicts.keep(model, test, found, text)
+            os.utime(verdicts.place(model, test), (1000 - age, 1000 - age))
+        self.same("a verdict is taken", verdicts.found(model, tests[2]), (found, text))
+        with patch.object(kept, "MOST_BYTES", 2500):
+            verdicts.shorten()
+        left = {os.path.basename(verdicts.place(model, test)) for test in (tests[0], tests[2])}
+        name = "the one that was not taken for longest goes, with what is half written"
+        self.same(name, {*os.listdir(store)}, left | {"mine", "0" * 64 + ".part"})

@@ -1,0 +1,169 @@
+"""What examples/suite, and the machines beside it, say of all that is shipped."""
+from __future__ import annotations
+
+import glob
+import re
+import signal
+import subprocess
+import time
+
+from tests.cases import TOP, apart, read, text_of, tool
+from tests.suite_cases import BUFFER, PATIENCE, SuiteCases, no_lint, of_suite
+
+LOCKED = (
+    "2+2W+xchgs", "IRIW+xchgs", "LB+xchgs", "MP+po+xchg", "MP+po+xchg+seen", "MP+xchgs", "R+po+xchg", "R+xchg+po", "SB+xchg+po",
+    "SB+xchgs", "SB+xchgs+own", "lock+handover", "xchg+between", "xchg+forwards", "xchg+lost", "xchg+misses", "xchg+xchg",
+    "xchg+xchg+seen",
+)
+
+
+def names_of(pattern: str) -> list[str]:
+    """The files of the examples that such a name stands for, in order."""
+    return [f"examples/{it}" for it in sorted(glob.glob(pattern, root_dir=f"{TOP}/examples"))]
+
+
+MODELS, TESTS, LISTINGS = names_of("models/*.uspec"), names_of("tests/*.test"), names_of("x86/*.litmus")
+
+
+TRANSLATION = names_of("translation/*.test")
+AGREEMENT: tuple[tuple[str, int, str, list[str]], ...] = (
+    (
+        "the machines agree on final values, on locked instructions, on page tables and on listings", 0, "208 agree, 0 differ\n",
+        [
+            *names_of("tests/Final*.test"), *names_of("locked/*.test"), *TRANSLATION,
+            *(f"examples/x86/{it}.litmus" for it in ("n6", "SB+mfences", "R+po+mfence")),
+        ],
+    ),
+    (
+        "the buggy TLBs differ from their machine where they should", 1, """\
+tlb-late-hold.uspec remap+invalidate+walk.test: shown yes, tlb allows no
+tlb-late-hold.uspec shootdown.test: shown yes, tlb allows no
+tlb-late-hold.uspec wrong-frame.test: shown yes, tlb allows no
+tlb-lazy-mark.uspec accessed.test: shown yes, tlb allows no
+tlb-lazy-mark.uspec dirty.test: shown yes, tlb allows no
+39 agree, 5 differ
+""",
+        [*names_of("translation/buggy/*.uspec"), *TRANSLATION],
+    ),
+    (
+        "what the reads get on all shipped models is what they get on the machines", 0,
+        "swept by the program\n498 agree, 0 differ\n", names_of("patterns/*.pattern"),
+    ),
+    (
+        "a buggy pipeline shows rows that its machine does not", 1, """\
+tso-ooo-commit-early.uspec MP.pattern: shown though tso does not allow it: 1 0
+swept by the program
+2 agree, 1 differ
+""",
+        ["examples/buggy/tso-ooo-commit-early.uspec", *(f"examples/patterns/{it}.pattern" for it in ("MP", "SB", "LB"))],
+    ),
+)
+
+
+def all_ok(tests: list[str]) -> str:
+    """How the last line begins where all models are right on all of these."""
+    pairs = len(tests) * len(MODELS)
+    return f"{pairs} pairs: {pairs} ok, 0 BUG, 0 stricter, 0 time, 0 faults, in N s\n"
+
+
+class Shipped(SuiteCases):
+    """All shipped tests and listings on all shipped models."""
+
+    def test_all(self) -> None:
+        """The first suite is ended when it has some, and the next one goes on from there."""
+        self.lint_lines = no_lint
+        env = {"SUITE_TESTS": f"{TOP}/examples/tests", "SUITE_FOLDER": "WORK/ended", "SUITE_SECONDS": "60"}
+        process = self.begun(env={**env, "SUITE_JOBS": "1"}, stderr=subprocess.PIPE)
+        while process.poll() is None and len(glob.glob(f"{self.work}/ended/*/*.certificate")) < 50:
+            time.sleep(0.1)
+        process.send_signal(signal.SIGTERM)
+        _, said = process.communicate(timeout=PATIENCE)
+        self.same("a suite that is ended", (process.returncode, numbered(text_of(said))), (
+            -signal.SIGTERM, "suite: N pairs are kept, and the next suite goes on from there\n"
+        ))
+        self.same("a suite that is ended leaves no part", glob.glob(f"{self.work}/ended/*/*.part"), [])
+        done = of_suite(self.called(**env), self.work)
+        last = done.out.splitlines(keepends=True)[-1]
+        self.same(
+            "a suite goes on from what it has: all shipped tests on all shipped models", (done.status, last, numbered(done.err)),
+            (0, all_ok(TESTS), "suite: N pairs stand from a suite that was interrupted\n"),
+        )
+        done = of_suite(self.called(**{**env, "SUITE_TESTS": f"{TOP}/examples/x86"}), self.work)
+        last = done.out.splitlines(keepends=True)[-1]
+        self.same("all shipped listings on all shipped models", (done.status, last, done.err), (0, all_ok(LISTINGS), ""))
+        self.same("tests that are written in both forms have one verdict", self.verdicts_of_both_forms(), (630, []))
+
+    def verdicts_of_both_forms(self) -> tuple[int, list[str]]:
+        """How many pairs of a model and a listing have the verdict of the test that says the same, and those that have another."""
+        same, others = 0, []
+        for listing in (it.rpartition("/")[2] for it in LISTINGS):
+            test = listing.replace("mfence", "fence").removesuffix(".litmus") + ".test"
+            if f"examples/tests/{test}" in TESTS:
+                for model in (it.rpartition("/")[2].removesuffix(".uspec") for it in MODELS):
+                    first, second = (
+                        read(f"{self.work}/ended/{model}/{it}.certificate").partition("\n")[0] for it in (test, listing)
+                    )
+                    same += first == second
+                    others += [] if first == second else [f"{model} {listing}"]
+        return same, others
+
+
+def numbered(text: str) -> str:
+    """What is said of pairs, without how many there are."""
+    return re.sub("^suite: [1-9][0-9]+ pairs", "suite: N pairs", text)
+
+
+class Kinds(SuiteCases):
+    """Shipped tests with locked instructions and with page-table entries."""
+
+    def test_locked(self) -> None:
+        rows = "".join(f"{it:15}  ok\n" for it in LOCKED)
+        self.table(
+            "the shipped tests with locked instructions", 0,
+            f"{'test':15}  tso-buffer\n{rows}18 pairs: 18 ok, 0 BUG, 0 stricter, 0 time, 0 faults, in N s\n",
+            BUFFER, SUITE_TESTS=f"{TOP}/examples/locked",
+        )
+
+    def test_translation(self) -> None:
+        self.lint_lines = no_lint
+        self.table("the shipped tests with page-table entries", 1, """\
+test                   tlb  tlb-late-hold  tlb-lazy-mark
+MP+read+walk           ok   ok             ok
+MP+walks               ok   ok             ok
+accessed               ok   ok             BUG
+accessed+none          ok   ok             ok
+dirty                  ok   ok             BUG
+dirty+early            ok   ok             ok
+dirty+hit              ok   ok             ok
+dirty+walk             ok   ok             ok
+identity               ok   ok             ok
+mark+kept              ok   ok             ok
+mark+lost              ok   ok             ok
+remap+fence+walk       ok   ok             ok
+remap+hit              ok   ok             ok
+remap+invalidate+walk  ok   BUG            ok
+remap+read             ok   ok             ok
+remap+walk             ok   ok             ok
+shootdown              ok   BUG            ok
+shootdown+none         ok   ok             ok
+synonym                ok   ok             ok
+two-walks              ok   ok             ok
+two-walks+seen         ok   ok             ok
+wrong-frame            ok   BUG            ok
+66 pairs: 61 ok, 5 BUG, 0 stricter, 0 time, 0 faults, in N s
+""", "examples/translation/tlb.uspec", *names_of("translation/buggy/*.uspec"),
+                   SUITE_TESTS=f"{TOP}/examples/translation", SUITE_TABLE="examples/translation/memory-models.tsv")
+
+
+class Agreement(SuiteCases):
+    """Whether the machines agree with the shipped models, and with the tables."""
+
+    def test_files(self) -> None:
+        for name, status, text, words in AGREEMENT:
+            self.gives(name, [*tool("agree", apart()), *words], status, text)
+
+    def test_table(self) -> None:
+        self.gives(
+            "the table of the tests with page-table entries is the one that the machine gives",
+            [*tool("table"), "translation"], 0, read("examples/translation/memory-models.tsv"),
+        )

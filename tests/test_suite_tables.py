@@ -1,0 +1,627 @@
+"""The tables of examples/suite: what it says of tests of one's own, of listings, patterns and queries, and beside other tables."""
+from __future__ import annotations
+
+import glob
+import json
+import os
+import shutil
+import stat
+import threading
+from typing import Any, Iterator
+from xml.etree import ElementTree
+
+from tests.cases import TOP, program, read, write
+from tests.suite_cases import BUFFER, CORR, EARLY, GOOD, MP, NO_FAULTS, SB, SC, TSO, TUTORIAL, SuiteCases, of_suite
+from tests.suite_cases import without_first_line
+
+from tools.second.scopes import read_model
+from tools.suite.axioms import without
+
+BROKEN = 'Litmus "broken"'
+# the test of message passing without what it states
+UNSTATED_MP = "".join(it for it in read(MP).splitlines(keepends=True) if not it.startswith("Forbidden"))
+INSIDE, TWICE = "a memory model is named inside another comment", "a memory model is named a second time"
+NONE, UNKNOWN = "the model names no memory model", "no row and no machine has the memory model x86-tso"
+# how a model begins that names no memory model, with the place and the sentence that say why
+UNNAMED = (
+    ("a model that names no memory model", "1:1", NONE, ""),
+    ("a memory model that nothing knows", "1:1", UNKNOWN, "% Memory model: x86-tso"),
+    ("two memory models in one model", "2:1", TWICE, "% Memory model: sc\n% Memory model: tso"),
+    ("one memory model, named twice", "3:1", TWICE, "% Memory model: tso\n%\n% memory model: TSO"),
+    ("a memory model in a comment in brackets", "2:1", INSIDE, "(* as in\n% Memory model: tso\n*)"),
+    ("a memory model in brackets", "1:4", INSIDE, "(* % Memory model: tso *)"),
+    ("a memory model in a comment of another form", "1:4", INSIDE, "// % Memory model: tso"),
+)
+# the in-order pipeline as a model of TSO, which it is too strict for, and its table beside one that shows too much
+STRICT = "% Memory model: tso\n" + without_first_line(SC)
+STRICT_ROWS = """\
+test  strict    tutorial-early
+MP    ok        BUG
+SB    stricter  ok
+"""
+STRICT_COUNT = "4 pairs: 2 ok, 1 BUG, 1 stricter, 0 time, 0 faults, in N s\n"
+
+
+class OwnTests(SuiteCases):
+    """Tests of one's own: the table of memory models has no row for them, and the machine may say otherwise."""
+
+    def test_refused(self) -> None:
+        self.copy("tests", MP)
+        self.put("tests/broken.test", BROKEN)
+        self.put("axiom.uspec", "Axiom\n")
+        self.table("a refused test and a refused model beside others", 2, """\
+test    sc-inorder   axiom
+MP      ok           model:syntax
+broken  test:syntax  model:syntax
+WORK/tests/broken.test:1:16: syntax: no test can continue with this token
+WORK/axiom.uspec:2:1: syntax: no model can continue with this token
+4 pairs: 1 ok, 0 BUG, 0 stricter, 0 time, 3 faults, in N s
+""", SC, "WORK/axiom.uspec")
+        for name in "ab":
+            self.put(f"refused/{name}.litmus", read("examples/x86/SB.litmus").replace("\nexists", "\nforall"))
+        forall = (
+            "left-out: a test states one outcome: write a listing with ~exists for each that must not come; beside a log, "
+            "compare answers forall"
+        )
+        self.table("what to do about a refused listing", 2, f"""\
+test      sc-inorder   tutorial-early
+a.litmus  test:syntax  test:syntax
+b.litmus  test:syntax  test:syntax
+WORK/refused/a.litmus:10:1: syntax: no test can continue with this token
+WORK/refused/a.litmus:10:1: {forall}
+WORK/refused/b.litmus:10:1: syntax: no test can continue with this token
+WORK/refused/b.litmus:10:1: {forall}
+4 pairs: 0 ok, 0 BUG, 0 stricter, 0 time, 4 faults, in N s
+""", SC, EARLY, SUITE_TESTS="WORK/refused")
+
+    def test_stated(self) -> None:
+        for state in ("Forbidden", "Permitted"):
+            self.put(f"tests/{state}.test", f"{UNSTATED_MP}{state}.\n")
+        self.put("tests/unstated.test", UNSTATED_MP)
+        self.table("where the table has no row the test decides", 1, f"""\
+test       sc-inorder    tutorial-early
+Forbidden  ok            BUG
+Permitted  stricter      ok
+unstated   unobservable  observable
+WORK/tests/Permitted.test: the test says permitted, and the machine of sc forbidden
+WORK/tests/Permitted.test: the test says permitted, and {TSO} forbidden
+WORK/tests/unstated.test: tutorial-early says observable, and {TSO} unobservable
+6 pairs: 2 ok, 1 BUG, 1 stricter, 2 unstated, 0 time, 0 faults, in N s
+""", SC, EARLY)
+        self.put("nameless.uspec", without_first_line(EARLY))
+        line = (
+            "WORK/nameless.uspec:1:1: unnamed: the model names no memory model; known are NAMES, named once by a comment "
+            "% Memory model: NAME"
+        )
+        self.table("without a memory model the word of a test of one's own decides", 1, f"""\
+test       nameless
+Forbidden  BUG
+Permitted  ok
+{line}
+2 pairs: 1 ok, 1 BUG, 0 stricter, 0 time, 0 faults, in N s
+""", "WORK/nameless.uspec", "WORK/tests/Forbidden.test", "WORK/tests/Permitted.test")
+        self.table("without a memory model the word of a shipped test does not", 2, f"""\
+test       nameless
+MP         unnamed
+Permitted  ok
+{line}
+2 pairs: 1 ok, 0 BUG, 0 stricter, 0 time, 1 faults, in N s
+""", "WORK/nameless.uspec", "WORK/tests/Permitted.test", MP)
+
+    def test_memory_models(self) -> None:
+        self.put("tests/unstated.test", UNSTATED_MP)
+        self.table("no expectation is no fault", 0, f"""\
+test      tutorial-early
+unstated  observable
+WORK/tests/unstated.test: tutorial-early says observable, and {TSO} unobservable
+1 pairs: 0 ok, 0 BUG, 0 stricter, 1 unstated, 0 time, 0 faults, in N s
+""", EARLY)
+        table = self.put("table.tsv", "memory model\ttest\tallowed\tsource\nTSO\tunstated\tno\tmine\n")
+        self.table("a table of one's own", 1, f"""\
+test      tutorial-early
+unstated  BUG
+1 pairs: 0 ok, 1 BUG, {NO_FAULTS}""", EARLY, SUITE_TABLE=table)
+        self.refuses("a table that is not there", "the table WORK/gone cannot be read", EARLY, SUITE_TABLE="WORK/gone")
+        self.put("maybe.tsv", "memory model\ttest\tallowed\nTSO\tunstated\tmaybe\n")
+        row = r"$'TSO\tunstated\tmaybe'"
+        self.refuses(
+            "a table with a row that decides nothing", f"the table WORK/maybe.tsv has a row without yes or no: {row}", EARLY,
+            SUITE_TABLE="WORK/maybe.tsv",
+        )
+        self.put("nameless.uspec", without_first_line(EARLY))
+        for end, shown in ((" ", " "), ("\r", r"\r"), (" \t\r", r" \t\r")):
+            self.put("mine.uspec", f"% Memory Model: TSO{end}\n{without_first_line(EARLY)}")
+            self.table(f"a memory model in capitals, and '{shown}' after it", 1, f"""\
+test      mine
+unstated  BUG
+1 pairs: 0 ok, 1 BUG, {NO_FAULTS}""", "WORK/mine.uspec", SUITE_TABLE=table)
+        known = self.called("WORK/nameless.uspec", SUITE_TABLE=table).out.partition("known are ")[2].partition(", named")[0]
+        for name in ("nmca", "pso", "sc", "tlb", "tso", "weak"):
+            self.same(f"the memory models that are known have {name}", name in known.replace(" and ", ", ").split(", "))
+        for name, place, sentence, head in UNNAMED:
+            self.put("mine.uspec", f"{head}\n{without_first_line(EARLY)}")
+            self.table(name, 2, f"""\
+test      mine
+unstated  unnamed
+WORK/mine.uspec:{place}: unnamed: {sentence}; known are NAMES, named once by a comment % Memory model: NAME
+1 pairs: 0 ok, 0 BUG, 0 stricter, 0 time, 1 faults, in N s
+""", "WORK/mine.uspec", SUITE_TABLE=table)
+
+    def test_names_of_shipped_ones(self) -> None:
+        """A row of the table of memory models is for the shipped test, and not for another one of its name."""
+        self.put("named/SB.test", read(SB) + "% mine\n")
+        self.put("named/SB.litmus", read("examples/x86/SB.litmus").replace("\nexists", "\n~exists"))
+        self.copy("named", MP)
+        self.put("named/LB.test", read(MP).replace("(Data 0)", "(Data 1)"))
+        self.table("tests of one's own with the names of shipped ones", 1, f"""\
+test       tutorial
+LB         BUG
+MP         ok
+SB         BUG
+SB.litmus  BUG
+WORK/named/LB.test: the test says forbidden, and {TSO} permitted
+WORK/named/SB.litmus: the test says forbidden, and {TSO} permitted
+WORK/named/SB.test: the test says forbidden, and {TSO} permitted
+4 pairs: 1 ok, 3 BUG, {NO_FAULTS}""", TUTORIAL, SUITE_TESTS="WORK/named")
+        self.table("tests with the names of shipped ones go by the rows of a table that is named", 1, f"""\
+test       tutorial
+LB         BUG
+MP         ok
+SB         ok
+SB.litmus  ok
+4 pairs: 3 ok, 1 BUG, {NO_FAULTS}""", TUTORIAL, SUITE_TESTS="WORK/named", SUITE_TABLE="examples/memory-models.tsv")
+
+
+class Words(SuiteCases):
+    """What words and options ask for."""
+
+    def test_options(self) -> None:
+        self.copy("tests", MP, SB)
+        self.writes("--differ shows the tests on which models differ", self.called("--differ", TUTORIAL, EARLY), 1, f"""\
+test  tutorial  tutorial-early
+MP    ok        BUG
+4 pairs: 3 ok, 1 BUG, {NO_FAULTS}""")
+        self.same("a certificate has the whole name of its test", self.is_kept("tutorial-early/MP.test"))
+        self.same("the rows of a table are kept", read(f"{self.work}/kept/cells"), """\
+tutorial\tMP\tok
+tutorial\tSB\tok
+tutorial-early\tMP\tBUG
+tutorial-early\tSB\tok
+""")
+        self.table("--bad shows the tests that are not ok", 1, f"""\
+test  tutorial-early  tutorial
+MP    BUG             ok
+4 pairs: 3 ok, 1 BUG, {NO_FAULTS}""", "--bad", EARLY, TUTORIAL)
+        self.table("--bad shows no test where all are ok", 0, f"""\
+test  tutorial
+2 pairs: 2 ok, 0 BUG, {NO_FAULTS}""", "--bad", TUTORIAL)
+        twice = (SC, f"{TOP}/{SC}", "WORK/tests", "WORK/tests/../tests/MP.test")
+        self.table("a file that is named twice is taken once", 0, GOOD, *twice)
+        self.put("tests/typo.test", read(MP).replace("(Data 0)", "(Data 7)"))
+        self.table("what lint says comes once, for all models and tests", 1, f"""\
+test  sc-inorder  tutorial-early
+MP    ok          BUG
+SB    ok          ok
+typo  ok          ok
+WORK/tests/typo.test:7:47: unwritten: the read gets 7, which is not the value of PA 0 0 at the start, and nothing writes it there
+6 pairs: 5 ok, 1 BUG, {NO_FAULTS}""", SC, EARLY)
+
+    def is_kept(self, pair: str) -> bool:
+        """Whether there is a certificate of a pair."""
+        return os.path.exists(f"{self.work}/kept/{pair}.certificate")
+
+    def test_listings(self) -> None:
+        listing = read("examples/x86/SB.litmus")
+        self.copy("both", SB, "examples/x86/SB.litmus")
+        self.put("both/mine.litmus", listing)
+        self.put("both/never.litmus", listing.replace("\nexists", "\n~exists"))
+        self.put("both/open.litmus", listing.replace(" /\\ 1:EAX=0", ""))
+        self.writes("tests and listings in one folder", self.called(TUTORIAL, SUITE_TESTS="WORK/both"), 2, f"""\
+test          tutorial
+SB            ok
+SB.litmus     ok
+mine.litmus   observable
+never.litmus  BUG
+open.litmus   test:x86-open
+WORK/both/never.litmus: the test says forbidden, and {TSO} permitted
+WORK/both/open.litmus:9:20: x86-open: the condition gives this register no value
+5 pairs: 2 ok, 1 BUG, 0 stricter, 1 unstated, 0 time, 1 faults, in N s
+""")
+        self.same("the certificate of a listing has the whole name of it", self.is_kept("tutorial/SB.litmus"))
+        self.same("the certificate of a listing stands beside that of the test", self.is_kept("tutorial/SB.test"))
+        self.same("nothing is kept of a refused listing", self.is_kept("tutorial/open.litmus"), False)
+        os.rename(f"{self.work}/both/SB.test", f"{self.work}/both/SB.litmus.test")
+        self.refuses(
+            "a test that is named as a listing",
+            "two tests have one name: SB.litmus: WORK/both/SB.litmus and WORK/both/SB.litmus.test; a link gives one of them "
+            "another name",
+            SC, SUITE_TESTS="WORK/both",
+        )
+
+    def test_words_in_any_order(self) -> None:
+        """The endings of words say what they are."""
+        self.copy("tests", MP, SB)
+        self.copy("patterns", "examples/patterns/MP.pattern")
+        table = f"""\
+test        tutorial  tutorial-early
+CoRR        ok        BUG
+MP          ok        BUG
+MP.pattern  ok        BUG
+SB          ok        ok
+SB.litmus   ok        ok
+WORK/patterns/MP.pattern: tutorial-early: shown though tso does not allow it: 1 0
+10 pairs: 7 ok, 3 BUG, {NO_FAULTS}"""
+        first, *rest = ("examples/x86/SB.litmus", "WORK/patterns", TUTORIAL, "WORK/tests", EARLY, CORR)
+        self.table("a listing, a folder of patterns, a model, a folder of tests, a model, a test", 1, table, first, *rest)
+        self.table("such words behind --, beside a folder of tests that no word names", 1, table, "--", first, *rest)
+        bad = "".join(it for it in table.splitlines(keepends=True) if not it.endswith(" ok\n"))
+        self.table("an option among such words", 1, bad, first, "--bad", *rest)
+        self.table("a test before its model", 0, f"""\
+test  sc-inorder
+MP    ok
+1 pairs: 1 ok, 0 BUG, {NO_FAULTS}""", MP, SC)
+
+    def test_what_machines_see(self) -> None:
+        """Bytes that are no ASCII, values at the start, addresses that no micro-op names, memory models of one's own."""
+        self.put("latin.pattern", b"% by M\303\274ller\n" + read("examples/patterns/MP.pattern").encode("ascii"))
+        self.table("a pattern with a comment that is not ASCII", 1, f"""\
+test           tutorial-early
+latin.pattern  BUG
+WORK/latin.pattern: tutorial-early: shown though tso does not allow it: 1 0
+1 pairs: 0 ok, 1 BUG, {NO_FAULTS}""", "WORK/latin.pattern", EARLY)
+        self.put("untouched.pattern", """\
+Litmus "f".
+Microop 0 0 0 0 (Write (VA 0 0) (PA 0 0) (Data 1)).
+Microop 1 0 0 0 (Read (VA 0 0) (PA 0 0) (Data Any)).
+Final (PA 9 0) 0.
+""")
+        self.table("a final value of an address that no micro-op names", 0, f"""\
+test               sc-inorder
+untouched.pattern  ok
+WORK/untouched.pattern:4:1: nobody's: no micro-op is at PA 9 0, so that no axiom can see this
+1 pairs: 1 ok, 0 BUG, {NO_FAULTS}""", "WORK/untouched.pattern", SC)
+        # the machines take the rest of the first line for a comment, as of the longer test below, whose reads then get what
+        # nothing writes; nothing is said of that
+        self.put("percent.test", """\
+Litmus "100%". Init (PA 0 0) 5.
+Microop 0 0 0 0 (Read (VA 0 0) (PA 0 0) (Data 5)).
+Permitted.
+""")
+        self.table("a value at the start that the machines do not read", 0, f"""\
+test     sc-inorder
+percent  ok
+1 pairs: 1 ok, 0 BUG, {NO_FAULTS}""", "WORK/percent.test", SC)
+        self.put("large.test", """\
+Litmus "100%". Microop 0 0 0 0 (Write (VA 0 0) (PA 0 0) (Data 1)). Microop 1 0 0 0 (Write (VA 1 0) (PA 1 0) (Data 1)).
+Microop 2 1 1 0 (Read (VA 1 0) (PA 1 0) (Data 1)). Microop 3 1 1 0 (Read (VA 0 0) (PA 0 0) (Data 1)). Permitted.
+""")
+        self.table("a test that the machines read otherwise than the program", 0, f"""\
+test   tutorial-early
+large  ok
+1 pairs: 1 ok, 0 BUG, {NO_FAULTS}""", "WORK/large.test", EARLY)
+        self.put("table.tsv", "mine\tMP\tno\n")
+        self.put("mine.uspec", "% Memory model: mine\n" + without_first_line(EARLY))
+        pattern = "examples/patterns/MP.pattern"
+        self.table("a pattern whose memory model has rows and no machine", 1, """\
+test        mine
+MP          BUG
+MP.pattern  swept
+SB          BUG
+3 pairs: 0 ok, 2 BUG, 0 stricter, 1 unstated, 0 time, 0 faults, in N s
+""", "WORK/mine.uspec", pattern, MP, SB, SUITE_TABLE="WORK/table.tsv")
+
+    def test_locked(self) -> None:
+        """A model that asks for the type of locked instructions, and one that does not."""
+        self.table("a model without locked instructions takes no test that has some", 0, """\
+test              tso-buffer  tso-ooo
+SB+fences         ok          ok
+SB+xchgs          ok          not taken
+SB+xchgs.pattern  ok          not taken
+examples/locked/SB+xchgs.test:4:23: not-asked: type Locked: no axiom of examples/models/tso-ooo.uspec asks for it, here and in 7 \
+more places
+6 pairs: 4 ok, 0 BUG, 0 stricter, 2 not taken, 0 time, 0 faults, in N s
+""", BUFFER, "examples/models/tso-ooo.uspec", "examples/locked/SB+xchgs.test", "examples/patterns/SB+xchgs.pattern",
+                   "examples/tests/SB+fences.test")
+        buggy = (f"examples/buggy/tso-buffer-{it}.uspec" for it in ("newest-alone", "merges-older"))
+        self.table("two store buffers, each with a test that alone tells it", 1, f"""\
+test        tso-buffer  tso-buffer-newest-alone  tso-buffer-merges-older
+CoWR+other  ok          BUG                      ok
+MP+merge    ok          ok                       BUG
+6 pairs: 4 ok, 2 BUG, {NO_FAULTS}""", BUFFER, *buggy, "examples/tests/CoWR+other.test", "examples/tests/MP+merge.test")
+
+
+class Beside(SuiteCases):
+    """What is new beside an earlier suite, and reports for other programs."""
+
+    def setUp(self) -> None:
+        super().setUp()
+        self.copy("tests", MP, SB)
+        self.put("strict.uspec", STRICT)
+        self.put("broken.test", BROKEN)
+
+    def test_status(self) -> None:
+        """The status parts what is lost from what is too much."""
+        self.table("what is lost alone", 3, """\
+test  strict
+MP    ok
+SB    stricter
+2 pairs: 1 ok, 0 BUG, 1 stricter, 0 time, 0 faults, in N s
+""", "WORK/strict.uspec")
+        self.table("what is lost, and too much beside it", 1, f"{STRICT_ROWS}{STRICT_COUNT}", "WORK/strict.uspec", EARLY)
+
+    def test_baselines(self) -> None:
+        cells = self.put("cells", """\
+strict\tMP\tok
+strict\tSB\tstricter
+tutorial-early\tMP\tBUG
+tutorial-early\tSB\tok
+""")
+        both = ("WORK/strict.uspec", EARLY)
+        self.writes("nothing is new", self.called("--baseline", cells, *both), 0, f"""\
+{STRICT_ROWS}nothing is new beside WORK/cells
+{STRICT_COUNT}""")
+        self.same("a baseline is what a suite keeps", read(f"{self.work}/kept/cells"), read(cells))
+        self.table("a BUG and a fault are new", 2, """\
+test    strict       tutorial-early
+CoRR    ok           BUG
+MP      ok           BUG
+SB      stricter     ok
+broken  test:syntax  test:syntax
+WORK/broken.test:1:16: syntax: no test can continue with this token
+1 new BUG: tutorial-early CoRR
+2 new test:syntax: strict broken, tutorial-early broken
+8 pairs: 3 ok, 2 BUG, 1 stricter, 0 time, 2 faults, in N s
+""", "--baseline", cells, *both, "WORK/tests", CORR, "WORK/broken.test")
+        self.table("a BUG is new", 1, f"""\
+test  tutorial-early
+CoRR  BUG
+MP    BUG
+1 new BUG: tutorial-early CoRR
+2 gone: model strict, test SB
+2 pairs: 0 ok, 2 BUG, {NO_FAULTS}""", EARLY, MP, CORR, "--baseline", cells)
+        write(cells, read(cells).replace("stricter", "ok").replace("strict\tMP\tok", "strict\tMP\tBUG"))
+        self.table("what was ok and is lost is new, and a BUG that is mended is gone", 3, f"""\
+{STRICT_ROWS}1 new stricter: strict SB
+1 gone: strict MP (BUG)
+{STRICT_COUNT}""", "--baseline", cells, *both)
+        write(cells, "MP ok\n")
+        gone = "the baseline WORK/gone cannot be read: No such file or directory"
+        self.refuses("a baseline that is not there", gone, "--baseline", "WORK/gone")
+        none = r"the baseline WORK/cells has a line that is no model, test and cell: MP\ ok"
+        self.refuses("a baseline that is none", none, "--baseline", cells)
+        one_file = "takes one file, which is named behind it"
+        self.refuses("--baseline without a file", f"--baseline {one_file}", SC, "--baseline")
+        self.refuses("--junit twice", f"--junit {one_file}", "--junit", "WORK/a", "--junit", "WORK/b")
+        self.refuses(
+            "a report where no folder is", "--sarif: WORK/gone/sarif cannot be written", "--sarif", "WORK/gone/sarif", SC
+        )
+
+    def test_reports(self) -> None:
+        """Reports of files whose names are not what XML and JSON take."""
+        self.put("reports/<a>&\"b'c]]>\udcff%.test", read(MP))
+        self.copy("reports", f"{self.work}/broken.test", "examples/patterns/MP.pattern")
+        self.put("reports/slip.test", read(MP).replace("(Data 0)", "(Data 7)"))
+        self.put("reports/<m>.uspec", read(EARLY))
+        self.called("--junit", "WORK/junit", "--sarif", "WORK/sarif", "WORK/reports/<m>.uspec", "WORK/strict.uspec", "WORK/reports",
+                    SB)
+        lines = [*junit_lines(f"{self.work}/junit"), *sarif_lines(f"{self.work}/sarif")]
+        self.same("the reports are well-formed, whatever the names", "\n".join(lines), """\
+testsuites 10 2 4 0
+<m> '<a>&"b\\'c]]>\\\\udcff%' error status:8
+<m> 'MP.pattern' failure BUG
+<m> 'broken' error test:syntax
+<m> 'slip'
+<m> 'SB'
+strict '<a>&"b\\'c]]>\\\\udcff%' error status:8
+strict 'MP.pattern'
+strict 'broken' error test:syntax
+strict 'slip'
+strict 'SB' failure stricter
+2.1.0 True True
+error BUG BUG %3Cm%3E.uspec 1 1 MP.pattern
+warning stricter stricter strict.uspec 1 1 SB.test
+error syntax syntax broken.test 1 16
+warning unwritten unwritten slip.test 7 47""")
+
+    def test_report_into_a_pipe(self) -> None:
+        pipe, got = f"{self.work}/report", []
+        os.mkfifo(pipe)
+        reader = threading.Thread(target=lambda: got.append(read(pipe)))
+        reader.start()
+        self.called("--junit", pipe, SC)
+        reader.join()
+        self.same("a report goes into a pipe", "\n</testsuites>\n" in got[0])
+        self.same("a pipe that gets a report stays one", stat.S_ISFIFO(os.stat(pipe).st_mode))
+
+
+
+class Keeping(SuiteCases):
+    """Verdicts that are kept over suites."""
+
+    def setUp(self) -> None:
+        super().setUp()
+        self.copy("tests", MP, SB)
+        self.store = f"{self.work}/store"
+
+    def stand(self, name: str, number: int, **env: str) -> None:
+        """Of the two pairs so many stand from the folder of kept verdicts."""
+        said = f"suite: {number} pairs stand from WORK/store\n" if number else ""
+        self.writes(name, self.called(SC, SUITE_KEPT=self.store, **env), 0, GOOD, said)
+
+    def test_kept(self) -> None:
+        self.stand("verdicts are kept", 0)
+        shutil.rmtree(f"{self.work}/kept/sc-inorder")
+        self.stand("verdicts that are kept stand in another suite", 2)
+        self.shows(
+            "verdicts that are kept stand with their certificates", 1, "verified unobservable\n",
+            "verify", SC, MP, f"{self.work}/kept/sc-inorder/MP.test.certificate",
+        )
+        self.put("tests/MP.test", read(MP) + "% another test\n")
+        self.stand("verdicts stand for the same bytes of a test alone", 1)
+        self.copy("tests", MP)
+        entries = [f"{self.store}/{it}" for it in sorted(os.listdir(self.store))]
+        for it in entries:
+            lines = read(it).splitlines(keepends=True)
+            write(it, "".join([lines[0], lines[1].replace("un", ""), *lines[2:]]))
+        self.stand("spoilt verdicts are made anew", 0)
+        self.stand("what was spoilt stands once it is made anew", 2)
+        for it in entries:
+            os.remove(it)
+        os.mkfifo(entries[0])
+        os.mkdir(entries[1])
+        write(entries[2], "")
+        self.stand("what is no file is no verdict", 0)
+
+    def test_at_once(self) -> None:
+        for it in [self.begun(SC, env={"SUITE_KEPT": self.store, "SUITE_FOLDER": f"WORK/{it}"}) for it in range(4)]:
+            it.wait()
+        self.stand("four suites may keep verdicts in one folder at once", 2)
+        self.same("four suites that keep verdicts at once leave no part", len(os.listdir(self.store)), 2)
+        done = self.called(SC, SUITE_KEPT=self.store, PIPECHECK=f"env '{program()}'")
+        said = "suite: nothing is kept in WORK/store: PIPECHECK is not one binary\n"
+        self.writes("of more than one binary nothing is kept", done, 0, GOOD, said)
+        self.refuses(
+            "a folder of verdicts that cannot be made", "the folder /dev/null/kept cannot be made: Not a directory", SC,
+            SUITE_KEPT="/dev/null/kept",
+        )
+
+    def test_axioms(self) -> None:
+        self.put("few.uspec", 'StageName 0 "S".\nAxiom "none": forall microops "i", NodeExists (i, S).\n')
+        for name, said in (
+            ("verdicts without an axiom are kept", ""),
+            ("verdicts without an axiom stand in another suite", "suite: 2 pairs stand from WORK/store\n"),
+        ):
+            done = self.called("--axioms", "WORK/few.uspec", "WORK/tests/MP.test", SUITE_KEPT=self.store)
+            self.judge(name, of_suite(done, self.work), 0, """\
+axiom     changes  first
+0 "none"  0        untested or not needed
+1 axioms on 1 tests: 0 change a verdict, 1 change none, 0 time, 0 faults, in N s
+""", said)
+
+    def test_queries(self) -> None:
+        for name, stage, expected in (
+            ("overtakes", "Execute", "sometimes"), ("commits", "Commit", "never"), ("wrong", "Commit", "sometimes"),
+            ("none", "None", "never"), ("other", "Fetch", "never"),
+        ):
+            self.put(f"queries/{name}.query", f"""\
+% Test: MP+seen
+% Expect: {expected}
+exists microop "i", exists microop "j",
+  IsAnyRead i /\\ IsAnyRead j /\\ ProgramOrder i j /\\ EdgeExists ((j, {stage}), (i, {stage}))
+""")
+        # it says nothing of a test, and is passed over
+        other = f"{self.work}/queries/other.query"
+        write(other, read(other).partition("\n")[2])
+        for name, said in (
+            ("a query is a row", ""), ("the answer to a query is kept", "suite: 3 pairs stand from WORK/store\n"),
+        ):
+            self.writes(name, self.called("WORK/queries", TUTORIAL, SUITE_KEPT=self.store), 2, """\
+test             tutorial
+commits.query    ok
+none.query       query:stage-unknown
+overtakes.query  ok
+wrong.query      BUG (never)
+WORK/queries/none.query:4:69: stage-unknown: no stage has the name
+4 pairs: 2 ok, 1 BUG, 0 stricter, 0 time, 1 faults, in N s
+""", said)
+        self.refuses(
+            "a query that does not say what it is asked of",
+            "WORK/queries/other.query is no row of a table: it says so by one comment each, % Expect: always, sometimes or never, "
+            "and % Test: NAME",
+            other, SC,
+        )
+        self.put("gone.query", read(f"{self.work}/queries/wrong.query").replace("MP+seen", "gone"))
+        self.refuses(
+            "a query of a test that is not there", "WORK/gone.query is asked of a test that is not there: gone.test",
+            "WORK/gone.query", SC,
+        )
+
+
+class Axioms(SuiteCases):
+    """What each axiom of a model is for."""
+
+    def changes(self, name: str, text: str, *words: str) -> None:
+        """The suite writes this table of axioms."""
+        if self.is_wanted(name):
+            self.judge(name, of_suite(self.called("--axioms", *words), self.work), 0, text)
+
+    def test_axioms(self) -> None:
+        self.put("axioms.uspec", """\
+% Memory model: tso
+StageName 0 "S". (* Axiom "none": True. *)
+Axiom "order": forall microops "i", forall microops "j",
+  ProgramOrder i j => % Axiom
+  AddEdge ((i, S), (j, S), "Axiom"). Axiom "back":
+  forall microops "i", forall microops "j", ProgramOrder i j => AddEdge ((j, S), (i, S), "back").
+Axiom "idle": forall microops "i", NodeExists (i, S).
+""")
+        self.changes("each axiom taken out", """\
+axiom      changes  first
+0 "order"  1        two
+1 "back"   1        two
+2 "idle"   0        untested or not needed
+3 axioms on 1 tests: 2 change a verdict, 1 change none, 0 time, 0 faults, in N s
+""", "WORK/axioms.uspec", "examples/two.test")
+        self.same("to take axioms out keeps nothing", os.path.exists(f"{self.work}/kept"), False)
+        self.changes("the axioms of a shipped model on message passing", """\
+axiom                                      changes  first
+0 "Path"                                   1        MP
+1 "Path of writes"                         0        untested or not needed
+2 "Commit is in program order"             1        MP
+3 "The store queue drains in order"        1        MP
+4 "A full fence commits behind the drain"  0        untested or not needed
+5 "Writes of one address have an order"    0        untested or not needed
+6 "Reads"                                  1        MP
+7 "Final values"                           0        untested or not needed
+8 axioms on 1 tests: 4 change a verdict, 4 change none, 0 time, 0 faults, in N s
+""", TUTORIAL, MP)
+        one_model = "--axioms takes one model, which is named"
+        self.put("axiom.uspec", "Axiom\n")
+        self.copy("tests", MP)
+        for name, line, *words in (
+            ("--axioms with two models", one_model, SC, EARLY),
+            ("--axioms without a model", one_model),
+            ("--axioms with another option", "--axioms takes no other option beside it", "--bad", SC),
+            ("--axioms of a model that is refused", "the model is refused: WORK/axiom.uspec:2:1: syntax", "WORK/axiom.uspec"),
+        ):
+            self.refuses(name, line, "--axioms", *words)
+
+    def test_without(self) -> None:
+        """A model without an axiom is the model with blanks in its place."""
+        text = b'StageName 0 "S". Axiom "a": True % Axiom "no": .\n. (* b *) Axiom "b": False.\nDefineMacro "M": True.'
+        wanted = (
+            b'StageName 0 "S".' + b" " * 32 + b'\n  (* b *) Axiom "b": False.\nDefineMacro "M": True.',
+            b'StageName 0 "S". Axiom "a": True % Axiom "no": .\n. (* b *)' + b" " * 18 + b'\nDefineMacro "M": True.',
+        )
+        for axiom, rest in zip(read_model(text).axioms, wanted):
+            self.same(f"a model without axiom {axiom.title}", without(text, axiom), rest)
+            self.same(f"a model without axiom {axiom.title} has no such axiom", axiom in read_model(rest).axioms, False)
+
+
+
+def junit_lines(path: str) -> Iterator[str]:
+    """What a report in XML has: its counts, and each case with what came of it."""
+    root = ElementTree.parse(path).getroot()
+    yield " ".join([root.tag, *(root.attrib[name] for name in ("tests", "failures", "errors", "skipped"))])
+    for case in root.iter("testcase"):
+        yield " ".join([case.attrib["classname"], ascii(case.attrib["name"]), *(f"{it.tag} {it.get('type')}" for it in case)])
+
+
+def sarif_lines(path: str) -> Iterator[str]:
+    """What a report in JSON has: whether its rules are those of the pages, each once, and each result with its place."""
+    with open(path, encoding="utf-8") as file:
+        log = json.load(file)
+    (part,) = log["runs"]
+    rules = [it["id"] for it in part["tool"]["driver"]["rules"]]
+    yield f"{log['version']} {len({*rules}) == len(rules)} {({'BUG', 'stricter', 'not-asked', 'free-node', 'syntax'} <= {*rules})}"
+    for it in part["results"]:
+        (place,) = it["locations"]
+        region = place["physicalLocation"]["region"]
+        beside = [name_of(it) for it in it.get("relatedLocations", ())]
+        rule = f"{it['level']} {it['ruleId']} {rules[it['ruleIndex']]}"
+        yield " ".join([rule, name_of(place), str(region["startLine"]), str(region["startColumn"]), *beside])
+
+
+def name_of(place: Any) -> str:
+    """The name of the file of a place."""
+    return str(place["physicalLocation"]["artifactLocation"]["uri"].rpartition("/")[2])

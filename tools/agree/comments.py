@@ -1,0 +1,68 @@
+"""Writes into each test of examples/tests which memory models allow its outcome: the second line, a comment.
+
+    python3 tools comments             writes the lines that are not what examples/memory-models.tsv says
+    python3 tools comments --check     writes none
+
+Each test whose line is another is printed. The status is 1 where --check finds one.
+"""
+import os
+import sys
+from glob import glob
+
+from tools import TOP
+
+BEGINNINGS = ("% Allowed by ", "% Forbidden by every ")
+
+
+def allowing_models() -> dict[str, dict[str, bool]]:
+    """Of each test, whether each memory model allows its outcome, in the order of the table."""
+    with open(os.path.join(TOP, "examples/memory-models.tsv"), encoding="ascii") as file:
+        names, *rows = (line.rstrip("\n").split("\t") for line in file)
+    model, test, allowed = map(names.index, ("memory model", "test", "allowed"))
+    found: dict[str, dict[str, bool]] = {}
+    for row in rows:
+        found.setdefault(row[test], {})[row[model]] = row[allowed] == "yes"
+    return found
+
+
+def comment(allowed: dict[str, bool]) -> str:
+    """The line of a test."""
+    yes = ", ".join(name for name, is_allowed in allowed.items() if is_allowed)
+    no = ", ".join(name for name, is_allowed in allowed.items() if not is_allowed)
+    if not yes or not no:
+        said = f"{'Allowed' if yes else 'Forbidden'} by every memory model here"
+    else:
+        said = f"Allowed by {yes}; forbidden by {no}"
+    return f"% {said}. The test states what sc says."
+
+
+def with_comment(text: str, said: str) -> str:
+    """A test with this line as its second one."""
+    first, second, *rest = text.split("\n")
+    return "\n".join([first, said] + ([] if second.startswith(BEGINNINGS) else [second]) + rest)
+
+
+def main(words: list[str]) -> int:
+    """Writes the lines, or only compares them, and answers the exit status."""
+    if words not in ([], ["--check"]):
+        raise SystemExit(__doc__)
+    is_differing = False
+    for name, allowed in allowing_models().items():
+        path = os.path.join(TOP, "examples/tests", name + ".test")
+        if not os.path.exists(path):
+            continue
+        with open(path, encoding="ascii") as file:
+            old = file.read()
+        new = with_comment(old, comment(allowed))
+        if new == old:
+            continue
+        is_differing = True
+        print(name)
+        if not words:
+            with open(path, "w", encoding="ascii") as file:
+                file.write(new)
+    return 1 if is_differing and words else 0
+
+
+if __name__ == "__main__":
+    sys.exit(main(sys.argv[1:]))

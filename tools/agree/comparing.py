@@ -1,0 +1,333 @@
+"""A model beside a machine: whether both say the same of a test, or of what the open reads of a pattern get."""
+import os
+import re
+import subprocess
+import sys
+import tempfile
+from dataclasses import dataclass
+from functools import lru_cache
+from glob import glob
+from importlib import import_module
+from types import ModuleType
+from typing import Collection, NamedTuple
+
+
+from tools import TOP
+from tools.agree.listing import read_file
+from tools.agree.litmus import Reads, Test, Value, test_of_text
+from tools.agree.programs import Program
+from tools.agree.verdicts import is_alike, runs
+from tools.agree.working import Unusable
+from tools.lint.lines import line_of
+from tools.lint.linting import Asked
+from tools.lint.main import LIMIT, sentence
+from tools.second.cases import Case, Entry
+from tools.second.evaluating import false_axioms
+from tools.second.grounding import ground
+from tools.second.listings import read_file_items
+from tools.second.models import Model
+from tools.second.patterns import MOST_ROWS, read_pattern, sweep
+from tools.second.scopes import read_model
+from tools.second.searching import search
+from tools.second.tokens import Fault
+from tools.standing import standing
+from tools.suite.programs import command_of, held
+from tools.suite.refusing import Refusal
+from tools.texts.memory_models import memory_model_of
+from tools.texts.quoting import shown
+
+MACHINES = os.path.join(TOP, "tools", "agree", "machines")
+READ = re.compile(rb"(\(\s*Read\b[^()]*(?:\([^()]*\)\s*){2})\(\s*(?:Data|Maps)[^()]*\)")
+OPEN = rb"\1(Data Any)"
+PATTERN = ".pattern"
+LOCKED = "Locked"
+# a module of the folder of machines, or of one in it
+NAME = re.compile(r"[a-z0-9_-]+(?:\.[a-z0-9_-]+)*")
+MACHINE = re.compile(r"^def outcomes\(", re.MULTILINE)
+
+
+class Unreadable(Exception):
+    """A file cannot be read, and why."""
+
+
+class Refused(Exception):
+    """A file has a fault: the line that tells it."""
+
+
+class Pair(NamedTuple):
+    """A model, its machine and a test; whether the test is a pattern, by the file or since all its reads are opened;
+    and whether the program sweeps it."""
+
+    model: str
+    machine: str
+    test: str
+    is_pattern: bool
+    is_opened: bool
+    by_program: bool
+
+
+@dataclass(frozen=True)
+class Other:
+    """What a model is compared with: a machine by its name, or another model by its path."""
+
+    name: str
+    is_model: bool = False
+
+    def words(self, model: str) -> tuple[str, str]:
+        """What is said of rows that the model alone shows, and of those that the other alone has."""
+        if self.is_model:
+            return f"shown by {shown(model)} alone", f"shown by {shown(self.name)} alone"
+        return f"shown though {self.name} does not allow it", f"allowed by {self.name} and not shown"
+
+    def rows_of(self, pattern: str, by_program: bool) -> set[Reads]:
+        """The rows of a pattern that it has."""
+        if self.is_model:
+            return rows_shown(self.name, pattern.encode("ascii"), by_program)
+        test = test_of_text(pattern)
+        return test.rows_shown_by(machine_of(self.name).outcomes(test))
+
+
+def contents(path: str) -> bytes:
+    """The bytes of a file, with one more than the limit where there are more."""
+    try:
+        with open(path, "rb") as file:
+            return file.read(LIMIT + 1)
+    except OSError as error:
+        raise Unreadable(f"{shown(path)}: {error.strerror}") from error
+
+
+def refusal(kind: str, path: str, text: bytes, fault: Fault) -> Refused:
+    """The fault of a file as a line."""
+    return Refused(line_of(path, text, fault.place, f"{fault.word}: {sentence(kind, fault.word)}"))
+
+
+def named_memory_model(path: str) -> str:
+    """The memory model that a model names."""
+    named = memory_model_of(contents(path))
+    if not named.name:
+        raise Unusable(f"{shown(path)}: {named.fault}")
+    return named.name
+
+
+@lru_cache(None)
+def machine_of(name: str) -> ModuleType:
+    """The machine of a memory model."""
+    if not is_machine(name):
+        known = ", ".join(sorted(path[:-3] for path in glob("*.py", root_dir=MACHINES) if is_machine(path[:-3])))
+        raise Unusable(f"there is no machine of the memory model {shown(name)}; there are {known}")
+    return import_module(f"tools.agree.machines.{name}")
+
+
+def is_machine(name: str) -> bool:
+    """Whether a machine has this name."""
+    return NAME.fullmatch(name) is not None and is_machine_file(os.path.join(MACHINES, *name.split(".")) + ".py")
+
+
+def is_machine_file(path: str) -> bool:
+    """Whether a file is a machine."""
+    try:
+        with open(path, encoding="utf-8") as file:
+            return MACHINE.search(file.read()) is not None
+    except OSError:
+        return False
+
+
+@lru_cache(None)
+def model_of(path: str) -> Model:
+    """The model of a file, as the second implementation reads it."""
+    text = contents(path)
+    try:
+        if len(text) > LIMIT:
+            raise Fault("too-large", 0)
+        return read_model(text)
+    except Fault as fault:
+        raise refusal("model", path, text, fault) from fault
+
+
+@lru_cache(None)
+def case_of(path: str) -> Case:
+    """The case of a file, as the second implementation reads it."""
+    text = contents(path)
+    try:
+        if len(text) > LIMIT:
+            raise Fault("too-large", 0)
+        return read_file_items(path, text)[0]
+    except Fault as fault:
+        raise refusal("test", path, text, fault) from fault
+
+
+@lru_cache(None)
+def test_of(path: str) -> Test:
+    """The test of a file, as the machines read it. They are made for usual layouts, and have to read the same micro-ops
+    as the second implementation, which reads all."""
+    case = case_of(path)
+    try:
+        test = read_file(path)
+    except OSError as error:
+        raise Unreadable(f"{shown(path)}: {error.strerror}") from error
+    except (ArithmeticError, LookupError, ValueError) as error:
+        raise Unusable(f"{shown(path)}: the machines cannot read this layout") from error
+    if not is_alike(test, case):
+        raise Unusable(f"{shown(path)}: the machines cannot read this layout")
+    return test
+
+
+@lru_cache(None)
+def rows_allowed(name: str, path: str, is_opened: bool) -> frozenset[Reads]:
+    """What the open reads get in the outcomes that come up on a machine. Each machine runs each test once."""
+    test = test_of(path).opened if is_opened else test_of(path)
+    try:
+        return frozenset(test.rows_shown_by(machine_of(name).outcomes(test)))
+    except ValueError as error:
+        raise Unusable(f"{shown(path)}: the machine {name} does not run it: {error}") from error
+
+
+def is_allowed(name: str, path: str) -> bool:
+    """Whether the outcome of a test comes up on a machine."""
+    return bool(rows_allowed(name, path, False))
+
+
+def machine_takes(name: str, path: str) -> bool:
+    """Whether a machine runs tests of this kind."""
+    return runs(machine_of(name), test_of(path))
+
+
+def model_takes(model_path: str, path: str) -> bool:
+    """Whether the axioms of a model ask which micro-ops are locked, where some are."""
+    test = test_of(path)
+    if test.has_entries or not test.has_locked:
+        return True
+    return asks_for_locked(model_path)
+
+
+def is_shown(model_path: str, path: str) -> bool:
+    """Whether the second implementation shows the outcome; its graph is judged again by the written axioms."""
+    model, case = model_of(model_path), case_of(path)
+    witness = search(ground(model, case))
+    if witness is not None and false_axioms(model, case, witness.nodes, witness.edges):
+        raise Unusable(f"{shown(model_path)} {shown(path)}: the witness is none")
+    return witness is not None
+
+
+def pattern_of(path: str, is_opened: bool) -> bytes:
+    """The text of a pattern; of a test whose reads are opened, the pattern that it is then."""
+    text = contents(path)
+    text = READ.sub(OPEN, text) if is_opened else text
+    try:
+        read_pattern(text)
+    except Fault as fault:
+        raise refusal("test", path, text, fault) from fault
+    return text
+
+
+def rows_shown(model_path: str, pattern: bytes, by_program: bool) -> set[Reads]:
+    """The rows of a pattern that a sweep calls observable."""
+    if by_program:
+        return rows_of_program(model_path, pattern)
+    swept = sweep(model_of(model_path), read_pattern(pattern))
+    return {tuple(map(plain_value, row)) for row, is_seen in swept if is_seen}
+
+
+def plain_value(value: int | Entry) -> Value:
+    """A value of the second implementation as the machines have it."""
+    return (value.tag, value.accessed, value.dirty) if isinstance(value, Entry) else value
+
+
+def rows_of_program(model_path: str, pattern: bytes) -> set[Reads]:
+    """The rows that the built program calls observable."""
+    with tempfile.NamedTemporaryFile() as file:
+        file.write(pattern)
+        file.flush()
+        command = [*sweeper().words, "sweep", model_path, file.name]
+        done = subprocess.run(command, capture_output=True, text=True, errors="replace", check=False)
+    lines = done.stdout.splitlines()
+    if done.returncode != 0 or not lines or lines[-1] != "end":
+        said = f"status {done.returncode} {done.stdout[:100]!r}"
+        raise Unusable(f"{shown(model_path)}: the program swept no pattern: {said}")
+    rows = [line.split()[1:] for line in lines if line.startswith("row ")]
+    return {tuple(map(value_of_word, row[:-1])) for row in rows if row[-1] == "observable"}
+
+
+def value_of_word(word: str) -> Value:
+    """A value as a sweep writes it."""
+    if word.startswith("Maps:"):
+        tag, accessed, dirty = map(int, word.split(":")[1:])
+        return tag, accessed, dirty
+    return int(word)
+
+
+class Sweeper(NamedTuple):
+    """The words that call what sweeps, none where nothing has the command `sweep`, and what the last line says of it."""
+
+    words: list[str]
+    said: str
+
+
+@lru_cache(maxsize=None)
+def sweeper() -> Sweeper:
+    """What PIPECHECK says, or the program that stands."""
+    value = os.environ.get("PIPECHECK", "")
+    try:
+        if value:
+            found = Sweeper(command_of(value), "")
+        else:
+            stands = standing(TOP)
+            found = Sweeper([held(stands.path)], stands.said)
+        done = subprocess.run([*found.words, "sweep", "", ""], stdout=subprocess.DEVNULL, check=False)
+    except Refusal as refusal_of_words:
+        raise Unusable(str(refusal_of_words)) from refusal_of_words
+    except OSError as error:
+        if value:
+            raise Unusable(f"PIPECHECK: {error}") from error
+        return Sweeper([], "")
+    except SystemExit:
+        return Sweeper([], "")
+    return found if done.returncode != 2 else Sweeper([], "")
+
+
+def words_of_rows(rows: set[Reads]) -> str:
+    """Rows as a sweep writes their values."""
+    words = (
+        " ".join("Maps:" + ":".join(map(str, value)) if isinstance(value, tuple) else str(value) for value in row)
+        for row in sorted(rows, key=repr)
+    )
+    return ", ".join(word or "the only row" for word in words)
+
+
+def difference(pair: Pair) -> str:
+    """How the model and its machine differ on the test; nothing where they do not."""
+    machine = pair.machine
+    if pair.is_pattern:
+        seen = rows_shown(pair.model, pattern_of(pair.test, pair.is_opened), pair.by_program)
+        wanted = rows_allowed(machine, pair.test, pair.is_opened)
+        return difference_of_rows(Other(machine).words(pair.model), seen, wanted)
+    is_seen, is_wanted = is_shown(pair.model, pair.test), is_allowed(machine, pair.test)
+    said = f"shown {'yes' if is_seen else 'no'}, {machine} allows {'yes' if is_wanted else 'no'}"
+    return "" if is_seen == is_wanted else said
+
+
+def difference_of_rows(words: tuple[str, str], seen: Collection[Reads], wanted: Collection[Reads]) -> str:
+    """The rows that only one of two has, each after its words; nothing where there are none."""
+    parts = zip(words, (set(seen) - set(wanted), set(wanted) - set(seen)))
+    return "; ".join(f"{said}: {words_of_rows(rows)}" for said, rows in parts if rows)
+
+
+def program_difference(model: str, other: Other, by_program: bool, program: Program) -> str:
+    """How a model differs from a machine, or from another model, on a program; nothing where they do not."""
+    if not any(op.reads for op in program.ops):
+        return ""
+    if program.rows > MOST_ROWS:
+        raise Unusable(f"its reads may get values in {program.rows} ways, and a sweep takes {MOST_ROWS}")
+    pattern = program.pattern.encode("ascii")
+    wanted = other.rows_of(program.pattern, by_program)
+    return difference_of_rows(other.words(model), rows_shown(model, pattern, by_program), wanted)
+
+
+def types_asked(model: str) -> tuple[str, ...]:
+    """The types that a model asks for, but that of locked instructions."""
+    return tuple(sorted(set(Asked(model_of(model)).types) - {LOCKED}))
+
+
+def asks_for_locked(model: str) -> bool:
+    """Whether a model asks which micro-ops are locked."""
+    return LOCKED in Asked(model_of(model)).types

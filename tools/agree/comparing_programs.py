@@ -1,0 +1,145 @@
+"""A model beside a machine, or another model, on many programs: random ones, or all small ones."""
+import os
+import time
+from dataclasses import dataclass, replace
+from itertools import islice
+from random import Random
+from typing import Iterable, Iterator
+
+from tools import TOP
+from tools.agree.comparing import Other, asks_for_locked, machine_of, program_difference, sweeper, types_asked
+from tools.agree.counts import Counts
+from tools.agree.kept import Kept, Progress, digest_of_files
+from tools.agree.programs import Program, named, random_program, smallest
+from tools.agree.small_programs import Family, Shape
+from tools.agree.working import Unusable, Workers
+from tools.suite.counting import Progress as Meter
+from tools.texts.quoting import shown
+
+# how often what is done is kept
+SECONDS = 2.0
+FULL = "Full"
+
+
+@dataclass(frozen=True)
+class Small:
+    """Which small programs are asked for: the shapes, how many addresses, with fences and with exchanges or not."""
+
+    shapes: tuple[Shape, ...]
+    locations: int
+    has_fences: bool
+    has_exchanges: bool
+
+    def family(self, types: set[str], takes_locked: bool) -> Family:
+        """The programs, with fences of these types, or of the full one alone, and with exchanges if they are taken."""
+        fences = {FULL} if FULL in types else types
+        names = tuple(sorted(fences)) if self.has_fences else ()
+        return Family(self.shapes, self.locations, names, self.has_exchanges and takes_locked)
+
+
+@dataclass(frozen=True)
+class Comparison:
+    """A model, what it is compared with, and whether the program sweeps."""
+
+    model: str
+    other: Other
+    by_program: bool
+
+    @property
+    def name(self) -> str:
+        """The model in a line."""
+        return shown(os.path.basename(self.model))
+
+    def judge_usable(self) -> None:
+        """Programs have no page tables."""
+        if not self.other.is_model and getattr(machine_of(self.other.name), "TAKES_ENTRIES", False):
+            raise Unusable(f"{shown(self.model)}: no programs are made for a machine with page tables")
+
+    def difference(self, program: Program) -> str:
+        """How the two differ on a program; nothing where they do not."""
+        return program_difference(self.model, self.other, self.by_program, program)
+
+    def answers(self, programs: Iterable[Program], counts: Counts) -> Iterator[tuple[Program, bool]]:
+        """Of each program in its order whether the two differ, once it is counted."""
+        with Workers(self.difference) as workers:
+            for program, said in workers.answers(programs):
+                yield program, counts.enter(f"{self.name}: {named(program)}", said)
+
+    def show_smallest(self, program: Program) -> None:
+        """Takes parts out of a program as long as the two differ, and prints what is left."""
+        least = smallest(program, self.differ)
+        print(f"{self.name}: {named(least)}: {self.difference(least)}\n{least.pattern}", end="", flush=True)
+
+    def differ(self, program: Program) -> bool:
+        """Whether the two differ on a program."""
+        return self.difference(program) != ""
+
+    def random(self, seed: int, count: int) -> Counts:
+        """Compares on random programs, and prints the smallest on which the two differ, if there is one."""
+        self.judge_usable()
+        random, types, counts = Random(seed), tuple(sorted(self.types)), Counts()
+        programs = (random_program(random, types) for _ in range(count))
+        least: Program | None = None
+        for program, differs in self.answers(programs, counts):
+            if differs and (least is None or len(program.ops) < len(least.ops)):
+                least = program
+        if least is not None:
+            self.show_smallest(least)
+        return counts
+
+    def all_small(self, small: Small, folder: str) -> Counts:
+        """Compares on all small programs, and goes on from what an ended comparison has got. Prints the smallest on
+        which the two differ, if there is one."""
+        self.judge_usable()
+        family = small.family(self.types, self.takes_locked)
+        count, kept = family.count, Kept(folder, repr((self, family)), self.origin)
+        progress = kept.read(count)
+        before = f", {progress.counts.done} of them compared before" if progress.counts.done else ""
+        print(f"{self.name}: {count} programs{before}", flush=True)
+        programs = family.programs
+        least: Program | None = None
+        for number, program in enumerate(islice(programs, progress.counts.done)):
+            if number == progress.smallest:
+                least = program
+        counts, meter, moment = replace(progress.counts), Meter(count), time.monotonic()
+        meter.done = counts.done
+        try:
+            for program, differs in self.answers(programs, counts):
+                if differs and (least is None or len(program.ops) < len(least.ops)):
+                    least, progress.smallest = program, counts.done - 1
+                progress = Progress(replace(counts), progress.smallest)
+                meter.step()
+                if time.monotonic() > moment + SECONDS:
+                    moment = time.monotonic()
+                    kept.write(progress)
+        except BaseException:
+            kept.write(progress)
+            raise
+        finally:
+            meter.end()
+        if least is not None:
+            self.show_smallest(least)
+        kept.clear()
+        return counts
+
+    @property
+    def models(self) -> list[str]:
+        """The models that programs are made for."""
+        return [self.model, self.other.name] if self.other.is_model else [self.model]
+
+    @property
+    def types(self) -> set[str]:
+        """The types that they ask for."""
+        return {name for model in self.models for name in types_asked(model)}
+
+    @property
+    def takes_locked(self) -> bool:
+        """Whether exchanges mean something to both."""
+        takes = self.other.is_model or getattr(machine_of(self.other.name), "TAKES_LOCKED", False)
+        return takes and all(map(asks_for_locked, self.models))
+
+    @property
+    def origin(self) -> str:
+        """One hash of all that the answers depend on, but for the programs."""
+        code = [os.path.join(TOP, "tools"), *(sweeper().words if self.by_program else [])]
+        return digest_of_files(*self.models, *filter(os.path.exists, code))

@@ -1,0 +1,153 @@
+"""Total store order by caches: in-order cores with store buffers, over caches whose lines may be invalidated before
+their data come.
+
+A cache has one line of an address at a time, or none. A read that has no line of its address asks for it, and may do so
+before the micro-ops before it are executed, as soon as the reads that its address depends on are. The answer, with the
+value of that moment, is on its way from then on. When it comes the cache has a line, which reads of its core may use; a
+line may be given up at any time. The oldest write of a buffer goes to its cache, which then has the only line of the
+address: each other cache gives its line up, and an answer that is on its way there is marked as late. A cache that
+waits for an answer takes no write of that address.
+
+A late answer is good for one use, by the read that asked; it is thrown away where that read takes its value elsewhere.
+With the mend it is used only where the read was the oldest of its core that was not executed when it asked: this is
+total store order. Without, any read may use it (any_read.py). Half a mend is that no *read* before it was left, while
+a fence may have been (oldest_read.py).
+"""
+from typing import Callable, Iterator, NamedTuple
+
+from tools.agree.litmus import Address, Memory, Op, Outcome, Test, Value, ends, in_test_order, replaced
+
+
+class Line(NamedTuple):
+    """A line, which has the value of memory; or, of the read that asked, an answer on its way, with its value where it
+    is late."""
+
+    asker: int | None = None
+    is_oldest: bool = False
+    late: Value | None = None
+
+
+class Core(NamedTuple):
+    """How many micro-ops are executed, the buffer with the oldest entry first, the lines of the cache."""
+
+    done: int = 0
+    buffer: tuple[tuple[Address, Value], ...] = ()
+    lines: frozenset[tuple[Address, Line]] = frozenset()
+
+
+class State(NamedTuple):
+    """The cores, the newest value of each address, and the values that reads got."""
+
+    cores: tuple[Core, ...]
+    memory: Memory
+    reads: tuple[tuple[int, Value], ...]
+
+
+# whether a read is the oldest: by the micro-ops before it that are not executed
+IsOldest = Callable[[tuple[Op, ...]], bool]
+
+
+def is_first(waiting: tuple[Op, ...]) -> bool:
+    """Whether no micro-op before it is left."""
+    return not waiting
+
+
+def outcomes(test: Test, is_oldest: IsOldest = is_first) -> set[Outcome]:
+    """All outcomes of a test."""
+    rules = Rules(test, is_oldest)
+    start = State((Core(),) * len(test.cores), test.memory, ())
+    return {(in_test_order(end.reads), end.memory) for end in ends(start, rules.steps)}
+
+
+class Rules:
+    """The steps of the machine on one test."""
+
+    def __init__(self, test: Test, is_oldest: IsOldest) -> None:
+        self.test = test
+        self.is_oldest = is_oldest
+
+    def steps(self, state: State) -> Iterator[State]:
+        """A cache asks, has its answer or gives up a line; a buffer drains; or a micro-op executes."""
+        for k, (core, ops) in enumerate(zip(state.cores, self.test.cores)):
+            yield from self.asks(state, k, core, ops)
+            yield from comes_or_goes(state, k, core)
+            yield from drains(state, k, core)
+            if core.done < len(ops):
+                yield from executes(state, k, core, ops[core.done])
+
+    def asks(self, state: State, k: int, core: Core, ops: tuple[Op, ...]) -> Iterator[State]:
+        """A read that is not executed asks for its line."""
+        there = dict(core.lines)
+        executed = {op.place for op in ops[: core.done]}
+        for number in range(core.done, len(ops)):
+            op = ops[number]
+            sources = {i for kind, i, j in self.test.dependencies if kind == "addr" and j == op.place}
+            if op.kind == "Read" and op.address not in there and sources <= executed:
+                line = Line(op.place, self.is_oldest(ops[core.done : number]))
+                yield with_core(state, k, with_line(core, op.address, line))
+
+
+def comes_or_goes(state: State, k: int, core: Core) -> Iterator[State]:
+    """An answer comes, or a line is given up."""
+    for address, line in core.lines:
+        if line.asker is None or line.late is not None:
+            yield with_core(state, k, with_line(core, address, None))
+        else:
+            yield with_core(state, k, with_line(core, address, Line()))
+
+
+def drains(state: State, k: int, core: Core) -> Iterator[State]:
+    """The oldest write of a buffer goes to the cache, and from all others."""
+    if not core.buffer:
+        return
+    address, value = core.buffer[0]
+    own = dict(core.lines).get(address)
+    if own is not None and own.asker is not None:
+        return
+    old = dict(state.memory)[address]
+    cores = [invalidated(other, address, old) for other in state.cores]
+    cores[k] = with_line(core._replace(buffer=core.buffer[1:]), address, Line())
+    yield state._replace(cores=tuple(cores), memory=replaced(state.memory, address, value))
+
+
+def invalidated(core: Core, address: Address, old: Value) -> Core:
+    """A core whose line goes, or whose answer, with the old value, is late from now on."""
+    line = dict(core.lines).get(address)
+    if line is None or line.late is not None:
+        return core
+    return with_line(core, address, None if line.asker is None else line._replace(late=old))
+
+
+def executes(state: State, k: int, core: Core, op: Op) -> Iterator[State]:
+    """The next micro-op of a core."""
+    after = core._replace(done=core.done + 1)
+    if op.kind == "Write":
+        yield with_core(state, k, after._replace(buffer=core.buffer + ((op.address, op.value),)))
+    elif op.kind == "Fence":
+        if not (op.is_full_fence and core.buffer):
+            yield with_core(state, k, after)
+    else:
+        own = [value for address, value in core.buffer if address == op.address]
+        line = dict(core.lines).get(op.address)
+        if own:
+            yield with_core(with_read(state, op, own[-1]), k, after)
+        elif line is not None and line.asker is None:
+            yield with_core(with_read(state, op, dict(state.memory)[op.address]), k, after)
+        elif line is not None and line.late is not None and line.asker == op.place and line.is_oldest:
+            yield with_core(with_read(state, op, line.late), k, with_line(after, op.address, None))
+
+
+def with_read(state: State, op: Op, value: Value) -> State:
+    """The state with one read more, in test order."""
+    return state._replace(reads=tuple(sorted(state.reads + ((op.place, value),))))
+
+
+def with_core(state: State, k: int, core: Core) -> State:
+    """The state with another core k."""
+    return state._replace(cores=state.cores[:k] + (core,) + state.cores[k + 1 :])
+
+
+def with_line(core: Core, address: Address, line: Line | None) -> Core:
+    """The core with this line of an address, or with none."""
+    rest = frozenset((other, there) for other, there in core.lines if other != address)
+    return core._replace(lines=rest if line is None else rest | {(address, line)})

@@ -1,0 +1,251 @@
+"""Compares models with the machines of their memory models, on tests or on many programs. docs/agree.md has all of it.
+
+    pipecheck agree [--open] [--reading] [--as MACHINE] [MODEL..] [TEST..]
+    pipecheck agree --all SHAPES [--locations N] [--fences] [--locked] [--reading] [--as MACHINE] [MODEL..]
+    pipecheck agree --random SEED COUNT [--reading] [--as MACHINE] [MODEL..]
+    pipecheck agree --between MODEL MODEL --all SHAPES | --random SEED COUNT [..]
+
+Words that end with .uspec are models; the others are tests, your own too: listings where they end with .litmus, and
+patterns where they end with .pattern. Without models and tests all of examples/ are taken. A model names its memory
+model in a comment, `% Memory model: NAME`, and tools/agree/NAME.py is the machine; with --as it is MACHINE.py for
+each model.
+
+On each test the second implementation says whether the model shows the outcome, and the machine runs the test and says
+whether it comes up. Of a pattern the rows that the model shows are compared with all that the open reads get on the
+machine. The last line but one says who swept: the built program where it has the command `sweep`, otherwise, and with
+--reading, the second implementation. With --open each test that is no listing is compared as a pattern: all of its
+reads are open.
+
+With --all each model is compared on every small program of these shapes: 3+3 is two cores with three accesses each, and
+4 all of up to four accesses on up to three cores. They have N addresses (2), fences between accesses with --fences, and
+exchanges with --locked. A comparison that was ended goes on. With --random it is compared on COUNT programs of at most
+eight micro-ops, which are made from the number SEED. The smallest program that differs is printed, with parts taken out
+as long as the two differ. This tests models; it searches for no tests. With --between two models are compared.
+
+Tests with locked instructions are compared on machines, and on models, that take them: those whose axioms ask for the
+type `Locked`. Tests with page-table entries are compared on machines that have page tables, and these on no other test.
+Each pair where the two differ is printed, with the tables memory-models.tsv of examples/ and examples/translation where
+one differs from a machine. The last line counts. The status is 0 where all agree, 1 where some differ, 2 where the words
+are none that are taken, 3 where a file has a fault and 4 where one cannot be read, before anything is compared; 5 where
+standard output could not be written; and 125 where something could not be compared, which is told. A signal ends all
+that was begun.
+"""
+import os
+import signal
+import sys
+from argparse import ArgumentParser, ArgumentTypeError, Namespace, RawDescriptionHelpFormatter
+from glob import escape as glob_escape
+from glob import glob
+from typing import Sequence
+
+# quietly, up to where the workers are ended with this process
+if signal.getsignal(signal.SIGINT) is not signal.SIG_IGN:
+    signal.signal(signal.SIGINT, signal.SIG_DFL)
+sys.dont_write_bytecode = True
+
+from tools import TOP
+from tools import TOP
+from tools.agree.comparing import (
+    PATTERN, Other, Pair, Refused, Unreadable, contents, difference, is_allowed, machine_of, machine_takes, model_of,
+    model_takes, named_memory_model, pattern_of, sweeper, test_of
+)
+from tools.agree.comparing_programs import Comparison, Small
+from tools.agree.counts import Counts, tell
+from tools.agree.small_programs import MOST_ACCESSES, MOST_LOCATIONS, Shape, shapes_of
+from tools.agree.working import Ended, Unusable, Workers, end_by, receive_signals
+from tools.second.standard_output import FAILED, UNREAD, status_of
+from tools.suite.words import folder_of
+from tools.texts.quoting import quoted, shown
+
+KINDS = ("tests/*.test", "x86/*.litmus", "locked/*.test", "translation/*.test", "patterns/*.pattern")
+REFUSED = 3
+# how many addresses small programs have where nothing is said
+LOCATIONS = 2
+# the folder of comparisons that were ended, in that of the suite; no model has such a name
+KEPT = ".agree"
+
+
+def table_rows() -> list[tuple[str, str, bool]]:
+    """Memory model, test and verdict of each row of the tables."""
+    rows = []
+    for folder in ("", "translation"):
+        path = os.path.join(TOP, "examples", folder, "memory-models.tsv")
+        if os.path.exists(path):
+            lines = [line.split("\t") for line in contents(path).decode("ascii").splitlines()]
+            columns = [lines[0].index(name) for name in ("memory model", "test", "allowed")]
+            rows += [(row[columns[0]], row[columns[1]], row[columns[2]] == "yes") for row in lines[1:]]
+    return rows
+
+
+def shipped(kind: str) -> list[str]:
+    """The paths of the examples of a kind, in order."""
+    folder = os.path.join(TOP, "examples")
+    return [os.path.join(folder, path) for path in sorted(glob(kind, root_dir=folder))]
+
+
+def shipped_test(name: str) -> str:
+    """The path of a test of the examples. The name of a listing has its ending."""
+    file = name if name.endswith(".litmus") else name + ".test"
+    for path in shipped(os.path.join("*", glob_escape(file))):
+        return path
+    raise Unusable(f"a table has a row of {shown(file)}, and there is no such test")
+
+
+def pairs_of(models: list[tuple[str, str]], tests: list[str], options: Namespace, by_program: bool) -> list[Pair]:
+    """The pairs that are compared, model by model, each model with its machine."""
+    found = []
+    for test in tests:
+        # each file is read before anything is compared
+        test_of(test)
+    for model, machine in models:
+        for test in tests:
+            is_pattern = test.endswith(PATTERN)
+            is_compared = not options.open or is_pattern or test.endswith(".test")
+            if is_compared and machine_takes(machine, test) and model_takes(model, test):
+                opens = options.open and not is_pattern
+                found.append(Pair(model, machine, test, is_pattern or options.open, opens, by_program))
+    for test in {pair.test for pair in found if pair.is_opened}:
+        pattern_of(test, True)
+    return found
+
+
+def compare_files(pairs: list[Pair], counts: Counts) -> None:
+    """Prints each pair that differs."""
+    with Workers(difference) as workers:
+        for pair, said in workers.answers(pairs):
+            name = f"{shown(os.path.basename(pair.model))} {shown(os.path.basename(pair.test))}"
+            if counts.enter(name, said):
+                print(f"{name}: {said}", flush=True)
+
+
+def compare_table() -> int:
+    """Prints each row of the tables that its machine does not say, and answers how many there are."""
+    differ = 0
+    for name, test, allowed in table_rows():
+        if is_allowed(name, shipped_test(test)) != allowed:
+            differ += 1
+            print(f"the table {name} {test}: the machine says {'no' if allowed else 'yes'}")
+    return differ
+
+
+def models_of(options: Namespace) -> list[tuple[str, str]]:
+    """The models that are compared, each with its machine. All are read before anything is compared."""
+    folders = ("models",) if options.random or options.all else ("models", "translation")
+    given = [word for word in options.files if word.endswith(".uspec")]
+    models = given or [path for folder in folders for path in shipped(os.path.join(folder, "*.uspec"))]
+    for model in models:
+        model_of(model)
+    found = [(model, options.machine or named_memory_model(model)) for model in models]
+    for _, machine in found:
+        machine_of(machine)
+    return found
+
+
+def compare_programs(options: Namespace, by_program: bool) -> Counts:
+    """Compares on random programs, or on all small ones."""
+    if options.between:
+        for model in options.between:
+            model_of(model)
+        first, second = options.between
+        comparisons = [Comparison(first, Other(second, True), by_program)]
+    else:
+        comparisons = [Comparison(model, Other(machine), by_program) for model, machine in models_of(options)]
+    counts = Counts()
+    for comparison in comparisons:
+        if options.random:
+            counts.add(comparison.random(*options.random))
+        else:
+            small = Small(options.all, options.locations or LOCATIONS, options.fences, options.locked)
+            counts.add(comparison.all_small(small, os.path.join(folder_of(os.environ, TOP), KEPT)))
+    return counts
+
+
+def compare(options: Namespace) -> int:
+    """Compares everything and answers the exit status."""
+    by_program = not options.reading and bool(sweeper().words)
+    counts = Counts()
+    if options.random or options.all:
+        counts = compare_programs(options, by_program)
+        is_swept = True
+    else:
+        given = [word for word in options.files if not word.endswith(".uspec")]
+        tests = given or [path for kind in KINDS for path in shipped(kind)]
+        pairs = pairs_of(models_of(options), tests, options, by_program)
+        compare_files(pairs, counts)
+        is_swept = any(pair.is_pattern for pair in pairs)
+        counts.differ += 0 if given else compare_table()
+        if not counts.done:
+            raise Unusable("nothing is compared: no machine of these models runs one of these tests")
+    if is_swept:
+        print(f"swept by {'the program' if by_program else 'the second implementation'}")
+    print(f"{counts.line}{sweeper().said if is_swept and by_program else ''}")
+    return counts.status
+
+
+def main(*words: str) -> int:
+    """Compares what the words ask for, or says why not, and answers the exit status."""
+    receive_signals()
+    options = options_of(words)
+    try:
+        return compare(options)
+    except Refused as refused:
+        print(refused)
+        return REFUSED
+    except Unreadable as unreadable:
+        tell(str(unreadable))
+        return UNREAD
+    except Unusable as unusable:
+        tell(str(unusable))
+        return FAILED
+
+
+def options_of(words: Sequence[str]) -> Namespace:
+    """The words of the command line."""
+    parser = ArgumentParser("pipecheck agree", description=__doc__, formatter_class=RawDescriptionHelpFormatter)
+    parser.add_argument("--open", action="store_true")
+    parser.add_argument("--reading", action="store_true")
+    parser.add_argument("--as", dest="machine", metavar="MACHINE")
+    parser.add_argument("--random", nargs=2, type=int, metavar=("SEED", "COUNT"))
+    parser.add_argument("--all", type=named_shapes, metavar="SHAPES")
+    parser.add_argument("--locations", type=int, choices=range(1, MOST_LOCATIONS + 1), metavar="N")
+    parser.add_argument("--fences", action="store_true")
+    parser.add_argument("--locked", action="store_true")
+    parser.add_argument("--between", nargs=2, metavar=("MODEL", "MODEL"))
+    parser.add_argument("files", nargs="*")
+    options = parser.parse_args(words)
+    fault = fault_of(options)
+    if fault:
+        parser.error(fault)
+    return options
+
+
+def named_shapes(words: str) -> tuple[Shape, ...]:
+    """The shapes that words name."""
+    try:
+        return shapes_of(words)
+    except ValueError as error:
+        form = f"such as 4, 3+3 or 2+2+2, of at most {MOST_ACCESSES} accesses"
+        raise ArgumentTypeError(f"{quoted(str(error))} is no shape, {form}") from error
+
+
+def fault_of(options: Namespace) -> str:
+    """Which words do not stand beside each other; nothing where all do."""
+    making = "--random" if options.random else "--all" if options.all else ""
+    if options.random and options.all:
+        return "--random and --all make programs in two ways"
+    if making and (options.open or not all(word.endswith(".uspec") for word in options.files)):
+        return f"{making} makes the programs: there are no tests beside it"
+    if options.random and options.random[1] < 1:
+        return "--random makes at least one program"
+    if not options.all and (options.locations or options.fences or options.locked):
+        return "--locations, --fences and --locked say what --all makes"
+    if options.between and (not making or options.machine or options.files):
+        return "--between compares two models on the programs of --all or --random, and with no machine"
+    return ""
+
+
+if __name__ == "__main__":
+    try:
+        sys.exit(status_of(main, sys.argv[1:]))
+    except Ended as ended:
+        end_by(ended.number)

@@ -1,0 +1,59 @@
+"""Writes a table of the examples, whole: what each memory model says of each test. No row is written by hand.
+
+    python3 tools table >examples/memory-models.tsv
+    python3 tools table translation >examples/translation/memory-models.tsv
+
+The first has the tests of examples/tests, and the listings of examples/x86, whose names keep their endings; those of
+examples/locked, with locked instructions, have rows for the machines that take them. The second has the tests with
+page-table entries, for the machine that has them. Each row is found by running the machine of the memory model. Where a
+paper states the same outcome of the same test, the row names it too. The last column is the SHA-256 hash of the test's
+bytes: examples/suite takes a row for these bytes alone. So the tables are written anew where a machine, a test or a
+byte of a test is new. """
+import os
+import sys
+from glob import escape, glob
+from hashlib import sha256
+from importlib import import_module
+
+sys.dont_write_bytecode = True
+
+from tools import TOP
+from tools.agree.listing import read_file
+from tools.agree.verdicts import rows_allowed, runs
+
+KINDS = ("tests/*.test", "x86/*.litmus", "locked/*.test")
+MACHINES = ("sc", "tso", "pso", "weak", "nmca", "pc", "rvwmo")
+X86_TSO = "Owens, Sarkar, Sewell, x86-TSO, 2009"
+OF_X86_TSO = ("SB", "MP", "LB", "SB+rfi-pos", "SB+fences", "IRIW", "n4b", "n5", "n6", "n7")
+PAPERS = {("tso", test): X86_TSO for test in OF_X86_TSO}
+
+
+def source(machine: str, test: str) -> str:
+    """Where the verdict comes from."""
+    here = f"machine tools/agree/machines/{machine}.py"
+    return f"{here}; {PAPERS[machine, test]}" if (machine, test) in PAPERS else here
+
+
+def digest(path: str) -> str:
+    """The hash of a test's bytes."""
+    with open(path, "rb") as file:
+        return sha256(file.read()).hexdigest()
+
+
+def main(words: list[str]) -> None:
+    """Writes the header and the rows."""
+    kinds, machines = (("translation/*.test",), ("tlb",)) if words == ["translation"] else (KINDS, MACHINES)
+    paths = [path for kind in kinds for path in glob(f"{escape(TOP)}/examples/{kind}")]
+    named = sorted((os.path.basename(path).removesuffix(".test"), path) for path in paths)
+    tests = [(name, read_file(path), digest(path)) for name, path in named]
+    print("memory model", "test", "allowed", "source", "sha256", sep="\t")
+    for machine in machines:
+        module = import_module(f"tools.agree.machines.{machine}")
+        for name, test, hash_of_bytes in tests:
+            if runs(module, test):
+                allowed = "yes" if rows_allowed(module, test) else "no"
+                print(machine, name, allowed, source(machine, name), hash_of_bytes, sep="\t")
+
+
+if __name__ == "__main__":
+    main(sys.argv[1:])

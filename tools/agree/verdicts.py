@@ -1,0 +1,133 @@
+"""Says what a machine allows of a test.
+
+    python3 tools verdicts MACHINE TEST
+    python3 tools verdicts MACHINE --within SECONDS
+
+Of a test it writes `yes` or `no`: whether the outcome comes up. Of a pattern it writes what its open reads get, a line
+`row ..` for each way, as a sweep does, and `end`. The status is 3 where the machine does not run such tests, or where the
+machines do not read them, or read other micro-ops than the second implementation, which takes each test that has no fault:
+they are made for usual layouts.
+
+The second form says it of one test after another: standard input has their paths, each with a NUL behind it, and after
+what is said of a test a NUL stands too; `not run` in place of status 3. Each may take so many seconds of a processor.
+"""
+import os
+import resource
+import sys
+from importlib import import_module
+from types import ModuleType
+from typing import Iterator
+
+from tools.agree.listing import read_file
+from tools.agree.litmus import NotRun, Reads, Test, Value
+
+
+from tools.second.cases import Case, Entry
+from tools.second.cases import Value as ReadValue
+from tools.second.listings import read_file_items
+
+PATTERN = ".pattern"
+NOT_RUN = 3
+
+
+def runs(machine: ModuleType, test: Test) -> bool:
+    """Whether a machine runs tests of this kind: with page-table entries or without, and with locked instructions."""
+    takes_entries = getattr(machine, "TAKES_ENTRIES", False)
+    if test.has_entries or takes_entries:
+        return test.has_entries and takes_entries
+    return not test.has_locked or getattr(machine, "TAKES_LOCKED", False)
+
+
+def rows_allowed(machine: ModuleType, test: Test) -> set[Reads]:
+    """What the open reads get in the stated outcomes that come up; without open reads the one empty row, or none."""
+    return test.rows_shown_by(machine.outcomes(test))
+
+
+def line_of(row: Reads) -> str:
+    """A row as a sweep writes its values."""
+    words = ("Maps:" + ":".join(map(str, value)) if isinstance(value, tuple) else str(value) for value in row)
+    return " ".join(("row", *words))
+
+
+def case_of(path: str) -> Case:
+    """The case of a file, as the second implementation has it."""
+    with open(path, "rb") as file:
+        return read_file_items(path, file.read())[0]
+
+
+def value_of(value: ReadValue | None) -> Value:
+    """A value of the second implementation as the machines have it."""
+    return (value.tag, value.accessed, value.dirty) if isinstance(value, Entry) else value or 0
+
+
+def is_alike(test: Test, case: Case) -> bool:
+    """Whether both readings have the same micro-ops, and as many dependencies, initial and final values."""
+    here = [(op.instruction, op.kind, op.types, op.value) for op in test.ops]
+    there = [(op.g, op.access, op.types, value_of(op.value)) for op in case.ops]
+    read = len(test.dependencies), len(test.initial), len(test.final)
+    return here == there and read == (len(case.dependencies), len(case.initial), len(case.final))
+
+
+def lines_of(machine: ModuleType, path: str) -> list[str] | None:
+    """What a machine says of a test; None where it does not run such tests, or does not read this one."""
+    try:
+        test = read_file(path)
+    except (LookupError, ValueError):
+        return None
+    if not runs(machine, test) or not is_alike(test, case_of(path)):
+        return None
+    try:
+        rows = rows_allowed(machine, test)
+    except NotRun:
+        return None
+    if os.path.splitext(path)[1] == PATTERN:
+        return [*sorted(map(line_of, rows)), "end"]
+    return ["yes" if rows else "no"]
+
+
+def say_one(machine: ModuleType, path: str) -> int:
+    """Says it of one test, and answers the exit status."""
+    lines = lines_of(machine, path)
+    if lines is None:
+        return NOT_RUN
+    print(*lines, sep="\n")
+    return 0
+
+
+def say_all(machine: ModuleType, seconds: int) -> int:
+    """Says it of each test that standard input names."""
+    standing = resource.getrlimit(resource.RLIMIT_CPU)
+    for path in paths_asked():
+        limit_time(seconds, standing)
+        lines = lines_of(machine, path)
+        print(*(["not run"] if lines is None else lines), sep="\n", end="\0", flush=True)
+    return 0
+
+
+def paths_asked() -> Iterator[str]:
+    """The paths that standard input names, as they come."""
+    text = b""
+    while part := os.read(sys.stdin.fileno(), 65_536):
+        *whole, text = (text + part).split(b"\0")
+        yield from map(os.fsdecode, whole)
+
+
+def limit_time(seconds: int, standing: tuple[int, int]) -> None:
+    """Has the system end this process when it takes so many seconds more of a processor, or before by a limit that stands."""
+    used = resource.getrusage(resource.RUSAGE_SELF)
+    most = int(used.ru_utime + used.ru_stime) + 1 + seconds
+    limits = [limit for limit in standing if limit != resource.RLIM_INFINITY]
+    resource.setrlimit(resource.RLIMIT_CPU, (min([most, *limits]), standing[1]))
+
+
+def main(name: str, *words: str) -> int:
+    """Says what the machine allows, and answers the exit status."""
+    machine = import_module(f"tools.agree.machines.{name}")
+    if len(words) == 2 and words[0] == "--within":
+        return say_all(machine, int(words[1]))
+    (path,) = words
+    return say_one(machine, path)
+
+
+if __name__ == "__main__":
+    sys.exit(main(*sys.argv[1:]))

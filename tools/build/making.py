@@ -1,0 +1,186 @@
+"""What both makers of the program share: make_program.py, which proves it, and make_unproved.py, which compiles it without
+its proofs. Each is called so, by script/build:
+
+    make_NAME.py TOP PROGRAM NOTE LOG SOURCES TOOL CRATE..
+
+TOP is a checkout, PROGRAM the file that the program stands in, NOTE the one beside it that says what it is of, LOG the one
+that gets what the toolchain prints. SOURCES is the hash of the sources, TOOL what the toolchain says of itself, and CRATE..
+are the crates that the program is made of.
+
+The status is 0 where PROGRAM was made, and stands for these sources by NOTE; what stood before is kept until then. A signal
+that asks for an end ends all that was started here, and removes the copy.
+"""
+
+from __future__ import annotations
+
+import contextlib
+import hashlib
+import os
+import re
+import shutil
+import subprocess
+import sys
+import tempfile
+import time
+from dataclasses import dataclass, field
+from typing import IO, Callable, Iterator
+
+from tools import TOP
+from tools.build.processes import SIGNALS, Ended, end_by, running
+
+# What `rt` and its tools print that says nothing of why they failed.
+WELL = re.compile(r": proved$|^(statements|library|logic|by-macro) ")
+# the hash that script/build has of the sources
+HASH = 'top=$1; . "$top/script/calls" && hash_sources'
+
+
+class Failed(Exception):
+    """The program is not made."""
+
+    status = 1
+
+
+class NothingMade(Failed):
+    """The toolchain did nothing by the words that it was given, as where its words are others."""
+
+    status = 3
+
+
+@dataclass
+class Job:
+    top: str
+    program: str
+    note: str
+    log: str
+    sources: str
+    tool: str
+    crates: list[str]
+    begun: float = field(default_factory=time.monotonic)
+
+
+def put(text: str) -> None:
+    """Writes to standard error, which nobody need read."""
+    with contextlib.suppress(OSError):
+        os.write(2, text.encode("utf-8", "surrogateescape"))
+
+
+def put_over(text: str) -> None:
+    """Writes in the place of the line on a terminal that says how far the work is."""
+    put(("\r\x1b[K" if os.isatty(2) else "") + text)
+
+
+def say(text: str) -> None:
+    put_over(f"pipecheck: {text}\n")
+
+
+def elapsed(job: Job) -> str:
+    seconds = int(time.monotonic() - job.begun)
+    return f"{seconds // 60}:{seconds % 60:02}"
+
+
+def folder_in(where: str) -> str:
+    try:
+        return tempfile.mkdtemp(prefix="pipecheck-", dir=where)
+    except OSError as error:
+        raise Failed(f"no folder for temporary files (TMPDIR) can be made in {where}: {error.strerror}") from error
+
+
+@contextlib.contextmanager
+def temporary_folder() -> Iterator[str]:
+    """A new folder, by its whole path, that is removed at the end. TMPDIR says where, and no other place is taken."""
+    where = os.path.abspath(os.environ.get("TMPDIR") or "/tmp")
+    made: list[str] = []
+    try:
+        with SIGNALS.held():
+            made.append(folder_in(where))
+        # where rt runs as root, it runs programs as nobody, in a folder below this one
+        os.chmod(made[0], 0o711)
+        yield made[0]
+    finally:
+        with SIGNALS.held():
+            for it in made:
+                shutil.rmtree(it, ignore_errors=True)
+
+
+def copy_crates(top: str, crates: list[str], to: str) -> None:
+    """Makes a repository of these crates alone, without their edits that must fail."""
+    os.makedirs(f"{to}/.git")
+    shutil.copy(f"{top}/HANDLES", to)
+    with open(f"{top}/crates.txt", encoding="utf-8") as given:
+        lines = [line for line in given if re.split("[ :]", line)[0] in crates]
+    with open(f"{to}/crates.txt", "w", encoding="utf-8") as kept:
+        kept.writelines(lines)
+    for name in crates:
+        crate = f"{top}/crates/{name}"
+
+        def left_out(folder: str, _: list[str], crate: str = crate) -> list[str]:
+            return ["out", "must-fail"] if folder == crate else []
+
+        # what a link leads to is what the hash of the sources is of
+        shutil.copytree(crate, f"{to}/crates/{name}", ignore=left_out)
+
+
+def refuse_changes(job: Job) -> None:
+    """Refuses copies that may have more than one state of the sources: they are all made by now."""
+    asked = subprocess.run(
+        ["bash", "-c", HASH, "making", job.top], stdin=subprocess.DEVNULL, capture_output=True, check=False
+    )
+    if asked.returncode != 0 or os.fsdecode(asked.stdout).strip() != job.sources:
+        raise Failed("a source changed while it was copied, so call again")
+
+
+def run_tool(
+    job: Job, words: list[str], folder: str, temporary: str, said: IO[bytes], progress: Callable[[], str]
+) -> int:
+    """Runs a command of the toolchain to its end, with a line on a terminal that says how far it is. What it says goes to
+    a file. Returns its status."""
+    with running(words, folder, temporary, said, said) as call:
+        while True:
+            if os.isatty(2):
+                put(f"\rpipecheck: {progress()}, {elapsed(job)} ")
+            with contextlib.suppress(subprocess.TimeoutExpired):
+                return call.wait(timeout=0.5)
+
+
+def tell_end(log: str) -> None:
+    """Shows the last lines of what the toolchain printed that may say why it failed."""
+    with open(log, encoding="utf-8", errors="replace") as it:
+        lines = [line for line in it if not WELL.search(line.rstrip("\n"))]
+    put_over("".join(lines[-60:]))
+
+
+def put_in_place(job: Job, made: str) -> None:
+    """Has a program that was made stand for its sources. What its note has of its bytes is of neither program while one
+    takes the place of the other. A signal comes before all of it, or after."""
+    new = {job.program: f"{job.program}.new", job.note: f"{job.note}.new"}
+    with SIGNALS.held():
+        try:
+            shutil.copy2(made, new[job.program])
+            with open(made, "rb") as program, open(new[job.note], "w", encoding="utf-8") as note:
+                own = hashlib.sha256(program.read()).hexdigest()
+                note.write(f"{job.sources}\n{job.tool}\n{own}\n")
+            for place, it in new.items():
+                os.replace(it, place)
+        finally:
+            for it in new.values():
+                with contextlib.suppress(OSError):
+                    os.remove(it)
+
+
+def main(make: Callable[[Job], None]) -> int:
+    """Makes the program, and says what hinders it."""
+    top, program, note, log, sources, tool, *crates = sys.argv[1:]
+    job = Job(top, program, note, log, sources, tool, crates)
+    SIGNALS.receive()
+    try:
+        make(job)
+    except Failed as failed:
+        say(f"the program could not be built: {failed}")
+        return failed.status
+    except (OSError, shutil.Error) as error:
+        say(f"the program could not be built: {error}")
+        return 1
+    except Ended as ended:
+        put_over("")
+        end_by(ended.number)
+    return 0

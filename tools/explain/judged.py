@@ -1,0 +1,269 @@
+"""Has the program judge a certificate, or each one in an answer of `core` or of `ask`, and says then each line of it.
+
+    python3 tools judged PROGRAM MODEL TEST [CERTIFICATE [QUERY]]
+
+Without a certificate the program makes it. PIPECHECK names another judge. The exit status is that of the judge, 0 of an answer; 3,
+4, 6, 7 or 8, or that of a signal, where the program has no verdict; 5 where standard output could not be written; and 125 where the
+judge is none, where a text could not be kept, or where this program fails.
+"""
+import os
+import shutil
+import signal
+import sys
+import tempfile
+from typing import Sequence
+
+from tools import TOP
+from tools.explain.files import contents, explain_files, parts_of
+from tools.second.listings import ENDING
+from tools.second.queries import InModel
+from tools.second.scopes import read_model
+from tools.second.standard_output import FAILED, UNREAD, UNWRITTEN, status_of
+from tools.second.tokens import Fault
+from tools.suite.calling import Calls, limited, memory_limit, side_by_side
+from tools.suite.programs import command_of
+from tools.suite.refusing import Interrupted, Refusal
+from tools.suite.telling import tell
+from tools.telling.files import unreadable
+from tools.telling.refusals import place_of, refusal_of, told
+from tools.texts.answers import AnswerRefused, is_answer, read_answer
+from tools.texts.naming import line_and_column
+from tools.texts.origins import TooLarge
+from tools.texts.quoting import quoted
+
+# how long a model, a test or a query may be, and a certificate
+MOST, MOST_OF_CERTIFICATE = 1_048_576, 67_108_864
+ENDING_SIGNALS = (signal.SIGHUP, signal.SIGINT, signal.SIGQUIT, signal.SIGTERM)
+REFUSED, CERTIFICATE_REFUSED = 3, 6
+VERDICTS = {0: b"verified observable", 1: b"verified unobservable"}
+
+
+class Unexplained(Exception):
+    """Nothing is explained: the status, the lines on standard error, and what is written to standard output."""
+
+    def __init__(self, status: int, said: Sequence[str] = (), text: bytes = b"") -> None:
+        super().__init__(status)
+        self.status = status
+        self.said = said
+        self.text = text
+
+
+def unkept(what: str) -> Unexplained:
+    """That a text could not be kept, so that it is judged and explained by nobody."""
+    folder = quoted(os.environ.get("TMPDIR") or "/tmp")
+    return Unexplained(
+        FAILED, [f"pipecheck: {what} could not be kept in {folder}, the folder for temporary files; TMPDIR names another one"]
+    )
+
+
+def folder_for_texts() -> tempfile.TemporaryDirectory[str]:
+    """A new folder for what is kept. Whether there is room in it is seen later."""
+    try:
+        return tempfile.TemporaryDirectory(dir=os.environ.get("TMPDIR") or "/tmp")
+    except OSError as error:
+        raise unkept("the certificate") from error
+
+
+def meaning(status: int, text: bytes, word: str, paths: Sequence[str]) -> Unexplained:
+    """What a call that gave no verdict wrote, and what its status means, of the files as the words name them."""
+    said: list[str] = []
+    if status == REFUSED and all(map(os.path.isfile, paths)):
+        said = list(told(TOP, text.decode("ascii", "replace"), [word, *paths]))
+    elif status == UNREAD:
+        said = list(unreadable(paths))
+    return unkept(f"the answer of {word}") if status == UNWRITTEN else Unexplained(status, said, text)
+
+
+def is_verdict(status: int, text: bytes) -> bool:
+    """Whether a judge's answer is a verdict that agrees with its status, as that of any command need not be."""
+    return status in VERDICTS and text.startswith(VERDICTS[status])
+
+
+class Judge:
+    """The program, or what PIPECHECK names, within its limit of memory; and a folder for what is kept."""
+
+    def __init__(self, program: str, folder: str) -> None:
+        self.calls = Calls()
+        self.folder = folder
+        self.command = [program]
+        value = os.environ.get("PIPECHECK", "")
+        if value:
+            self.command = command_of(value)
+            if shutil.which(self.command[0]) is None:
+                raise Unexplained(FAILED, [f"pipecheck: PIPECHECK is no command: {quoted(value)}"])
+        self.kib = memory_limit(os.environ.get("PIPECHECK_MEMORY", ""))
+
+    def call(self, word: str, paths: Sequence[str]) -> tuple[int, bytes]:
+        """The status of a call, and what it writes. A signal comes to this thread and ends the call."""
+        with tempfile.TemporaryFile(dir=self.folder) as out:
+            command = limited([*self.command, word, *paths], self.kib, None)
+
+            def work() -> int | None:
+                return self.calls.finished(self.calls.started(command, out, None, signal.SIGTERM), None)
+
+            (status,) = side_by_side(self.calls, 1, [work], lambda _, __: None)
+            out.seek(0)
+            return status or 0, out.read()
+
+    def copied(self, name: str, path: str, most: int) -> str:
+        """The path, or where the file can be read only once, as a pipe, that of a copy with the file's ending. Of a file past the
+        limit one byte more is copied."""
+        if not os.path.exists(path) or os.path.isfile(path) or os.path.isdir(path) or not os.access(path, os.R_OK):
+            return path
+        copy = os.path.join(self.folder, name + os.path.splitext(path)[1])
+        try:
+            with open(path, "rb") as source, open(copy, "wb") as target:
+                target.write(source.read(most + 1))
+        except OSError as error:
+            raise unkept(f"the text of {quoted(path)}") from error
+        return copy
+
+    def kept(self, name: str, text: bytes, what: str) -> str:
+        """The path of a file with this text."""
+        path = os.path.join(self.folder, name)
+        try:
+            with open(path, "wb") as file:
+                file.write(text)
+        except OSError as error:
+            raise unkept(what) from error
+        return path
+
+
+def no_judge(status: int) -> Unexplained:
+    """That what was asked is no judge."""
+    return Unexplained(FAILED, [f"pipecheck: no judge: the checker ended with status {status} and not with its verdict"])
+
+
+def is_lifted(path: str) -> bool:
+    """Whether a certificate is a lifted refutation, whose third line says so."""
+    try:
+        with open(path, "rb") as file:
+            return file.read(200).split(b"\n")[2:3] == [b"lifted"]
+    except OSError:
+        return False
+
+
+def judge_answer(judge: Judge, word: str, names: Sequence[str], paths: list[str]) -> int:
+    """Has each certificate of an answer judged in the model that it is of."""
+    # an answer is no certificate, so that a file with a fault is told, and else line 1 is refused
+    status, text = judge.call(word, paths[:3])
+    if status != CERTIFICATE_REFUSED:
+        raise meaning(status, text, word, names[:3])
+    model_text, data = contents(paths[0]), contents(paths[2])
+    if data.startswith(b"ask ") is not (len(paths) == 4):
+        say = "only an answer of ask has a query" if len(paths) == 4 else "an answer of ask is explained beside its query"
+        raise Unexplained(FAILED, [f"pipecheck: {say}: explain MODEL TEST ANSWER QUERY"])
+    model = read_model(model_text)
+    try:
+        query = contents(paths[3]) if len(paths) == 4 else b""
+    except OSError as error:
+        raise Unexplained(UNREAD, list(unreadable(names[3:]))) from error
+    try:
+        parts = list(parts_of(model, model_text, read_answer(data, model), query))
+    except AnswerRefused as refused:
+        raise Unexplained(CERTIFICATE_REFUSED, (), f"{refused}\n".encode("ascii")) from refused
+    except Fault as fault:
+        kind, of, name = ("model", model_text, names[0]) if isinstance(fault, InModel) else ("query", query, names[3])
+        line = f"refused {kind} {fault.word} at {line_and_column(of, fault.place)}"
+        said = place_of(TOP, name, refusal_of(line)) if os.path.isfile(name) else ()
+        raise Unexplained(REFUSED, list(said), f"{line}\n".encode("ascii")) from fault
+    for number, (at, wanted, written, certificate) in enumerate(parts):
+        of_part = judge.kept(f"{number}.model", written, "the parts of the answer")
+        part = judge.kept(f"{number}.certificate", certificate, "the parts of the answer")
+        judge_part(judge, word, [of_part, paths[1], part], at, wanted)
+    return 0
+
+
+def judge_part(judge: Judge, word: str, paths: list[str], at: int, wanted: int) -> None:
+    """Has one certificate of an answer judged, which begins at this line of it."""
+    status, text = judge.call(word, paths)
+    if status == wanted:
+        if not is_verdict(status, text):
+            raise no_judge(status)
+    elif status == REFUSED:
+        said = text.decode("ascii", "replace").rstrip("\n")
+        raise Unexplained(
+            FAILED,
+            [f"pipecheck: the certificate at line {at} of the answer is not judged, since verify does not take its model: {said}"],
+        )
+    elif status == CERTIFICATE_REFUSED:
+        line = int(text.split()[4])
+        raise Unexplained(CERTIFICATE_REFUSED, (), b"answer refused at line %d\n" % (at + max(0, line - 1)))
+    elif status == UNWRITTEN:
+        raise unkept(f"the answer of {word}")
+    else:
+        raise Unexplained(status, ())
+
+
+def explained(judge: Judge, names: Sequence[str]) -> tuple[list[str], int]:
+    """The files that are explained, once the judge has accepted what they show, and its status."""
+    model, test, *more = names
+    check, verify = ("check86", "verify86") if test.endswith(ENDING) else ("check", "verify")
+    paths = [judge.copied("model", model, MOST), judge.copied("test", test, MOST)]
+    if not more:
+        status, text = judge.call(check, paths)
+        if status > 1:
+            raise meaning(status, text, check, names)
+        more = [judge.kept("certificate", text, "the certificate")]
+    paths.append(judge.copied("certificate", more[0], MOST_OF_CERTIFICATE))
+    try:
+        with open(paths[2], "rb") as file:
+            is_of_many, is_readable = is_answer(file.read(5)), True
+    except OSError:
+        is_of_many = is_readable = False
+    if is_of_many:
+        paths += [judge.copied("query", path, MOST) for path in more[1:]]
+        return paths, judge_answer(judge, verify, [model, test, *more], paths)
+    # one that cannot be read is told by the judge
+    if len(more) == 2 and is_readable:
+        raise Unexplained(FAILED, ["pipecheck: only an answer of ask has a query: explain MODEL TEST ANSWER QUERY"])
+    word = "verify-lifted" if verify == "verify" and is_lifted(paths[2]) else verify
+    status, text = judge.call(word, paths)
+    if status > 1:
+        raise meaning(status, text, word, [model, test, more[0]])
+    if not is_verdict(status, text):
+        raise no_judge(status)
+    return paths, status
+
+
+def write(text: bytes) -> None:
+    """Writes to standard output what the program wrote."""
+    print(text.decode("ascii", "surrogateescape"), end="")
+
+
+def main(program: str, *names: str) -> int:
+    """Writes what is said of the certificate, and answers the exit status."""
+    try:
+        with folder_for_texts() as folder:
+            paths, status = explained(Judge(program, folder), names)
+            for line in explain_files(names[0], *paths, *names[3:]):
+                print(line)
+            return status
+    except Unexplained as unexplained:
+        write(unexplained.text)
+        sys.stdout.flush()
+        for line in unexplained.said:
+            tell(line)
+        return unexplained.status
+    except Refusal as refusal:
+        tell(str(refusal).replace("suite: ", "pipecheck: ", 1))
+    except (AnswerRefused, Fault, TooLarge, UnicodeDecodeError) as problem:
+        tell(f"explain: not explained: {problem}")
+    except Interrupted as interrupted:
+        signal.signal(interrupted.number, signal.SIG_DFL)
+        os.kill(os.getpid(), interrupted.number)
+    return FAILED
+
+
+def interrupt(number: int, _: object) -> None:
+    """Ends this program, once."""
+    for other in ENDING_SIGNALS:
+        signal.signal(other, signal.SIG_IGN)
+    raise Interrupted(number)
+
+
+if __name__ == "__main__":
+    for signal_number in ENDING_SIGNALS:
+        if signal.getsignal(signal_number) is not signal.SIG_IGN:
+            signal.signal(signal_number, interrupt)
+    sys.exit(status_of(main, sys.argv[1:]))

@@ -1,0 +1,381 @@
+"""A lifted refutation in the words of the model. The text has to be one that a judge accepted."""
+from dataclasses import dataclass, field, replace
+from typing import Iterator
+
+from tools.explain.branches import branch_ends
+from tools.explain.clashes import MOST_BRANCHES, Closed, clash_heading, clash_reason
+from tools.second.cases import Case
+from tools.second.grounding import Literal
+from tools.second.lifted import ADDING, Fact, LiftedJudge, Said
+from tools.second.models import Arg, Binary, Edges, Expand, Formula, Model, NodeTerm, Nodes, Not, Number, Quantified, Static
+from tools.texts.naming import Fact as NamedFact
+from tools.texts.naming import Names
+from tools.texts.origins import Origin, Taken, first_place
+from tools.texts.wrapping import GAP, indent
+
+# how many characters of a formula, and how many members of a list in it, are shown
+MOST_CHARACTERS = 160
+MOST_MEMBERS = 12
+# how tightly a connective binds
+LEVELS = {"=>": 0, "\\/": 1, "/\\": 2}
+
+
+@dataclass(frozen=True)
+class Noted:
+    """A fact with the names of its variables' values, and with where it comes from: the axiom, by its number too."""
+
+    fact: Fact
+    values: dict[str, str]
+    axiom: int
+    origin: Origin
+
+
+def literal(noted: Noted) -> NamedFact:
+    """The node or the edge of a fact that is one."""
+    assert isinstance(noted.fact, Literal)
+    return noted.fact.start, noted.fact.end, noted.fact.wanted
+
+
+@dataclass(frozen=True)
+class Waiting:
+    """A right side whose left one is open: where its branch begins, its name, how many facts stand before it, it, the
+    level of the split."""
+
+    step: int
+    name: str
+    count: int
+    side: Noted
+    level: int
+
+
+@dataclass(frozen=True)
+class ClosedBy:
+    """A line that closes a branch: its word, and its facts with their numbers."""
+
+    word: str
+    facts: list[tuple[int, Noted]]
+
+
+@dataclass(frozen=True)
+class Closing:
+    """A side of a split with the place of its first step, and the other one with its own; how the side is closed, and
+    why it cannot be."""
+
+    side: Noted
+    at: int
+    other: Noted
+    other_at: int
+    leaves: list[ClosedBy] = field(default_factory=list)
+    reason: str = ""
+
+
+class LiftedRefutation:
+    """The lines of a lifted refutation. The facts of the first open branch are kept with where they come from."""
+
+    def __init__(self, model: Model, case: Case, names: Names, lines: list[str], width: int) -> None:
+        self.model = model
+        self.case = case
+        self.names = names
+        self.steps = lines
+        self.ends = branch_ends(lines, ADDING)
+        self.width = width
+        self.rules = LiftedJudge(model, case)
+        self.facts = [
+            Noted(Said(True, axiom.body, []), {}, number, Origin(axiom, (), None, first_place(axiom.body)))
+            for number, axiom in enumerate(model.axioms)
+        ]
+        self.here = 0
+        self.level = 0
+        self.waiting: list[Waiting] = []
+        self.closed = Closed()
+
+    def lines(self) -> Iterator[str]:
+        """The axioms, and the steps."""
+        yield "The axioms are the first facts:"
+        for number, axiom in enumerate(self.model.axioms):
+            yield f"  {number}: {self.names.axiom(axiom)} at {self.names.place(axiom.at)}"
+        yield ""
+        if sum(step.split(" ", 1)[0] not in ("split", *ADDING) for step in self.steps) > MOST_BRANCHES:
+            other = LiftedRefutation(self.model, self.case, self.names, self.steps, self.width)
+            yield from other.closed.line(self.names, other.walk())
+        yield "Each line adds a fact, or splits a branch, or closes one by what cannot be:"
+        yield from self.walk()
+        yield "Every branch is closed."
+
+    def walk(self) -> Iterator[str]:
+        """The steps. Of a split one side of which the test alone makes false, or a clash closes at once, a line says
+        what the other one adds, which goes on there. Of any other one both branches follow, one level further in."""
+        while self.here < len(self.steps):
+            word, *rest = self.steps[self.here].split(" ")
+            if word in ADDING:
+                noted = self.adding(word, rest)
+                yield f"{self.indent()}{self.steps[self.here]}: {self.added(noted)}{GAP}{self.origin(noted)}"
+                self.here += 1
+            else:
+                yield from self.split() if word == "split" else self.leaf()
+
+    def indent(self) -> str:
+        """What stands before a line."""
+        return indent(self.level, self.width)
+
+    # the lines
+
+    def adding(self, word: str, rest: list[str]) -> Noted:
+        """The fact that a line adds, which is a part of another one."""
+        above = self.facts[int(rest[0])]
+        assert isinstance(above.fact, Said)
+        part = self.rules.part_of(above.fact, word, rest[-1])
+        assert part is not None
+        return self.part(above, part, int(rest[-1]) if word == "member" else 0, rest[-1])
+
+    def split(self) -> Iterator[str]:
+        """A split: one line where the test alone makes a side false, or where no more than a clash closes it."""
+        step = self.steps[self.here]
+        above = self.facts[int(step.split(" ")[1])]
+        left, right = self.sides(above)
+        left_at, right_at = self.here + 1, self.ends[self.here + 1]
+        closed = self.closed_side([Closing(left, left_at, right, right_at), Closing(right, right_at, left, left_at)])
+        if closed is not None:
+            yield f"{self.indent()}{step}: {self.added(closed.other)}, since {closed.reason}{GAP}{self.origin(above)}"
+            self.here = closed.other_at
+            return
+        yield f"{self.indent()}{step}: {self.origin(above)}"
+        self.waiting.append(Waiting(right_at, f"right of {step}", len(self.facts), right, self.level))
+        yield f"{self.indent()}left of {step}: {self.added(left)}"
+        self.level += 1
+        self.here = left_at
+
+    def sides(self, above: Noted) -> tuple[Noted, Noted]:
+        """Both sides of a fact."""
+        assert isinstance(above.fact, Said)
+        sides = self.rules.sides(above.fact)
+        assert sides is not None
+        start, formula = above.fact.start, above.fact.formula
+        name = self.member(formula, start) if isinstance(formula, Quantified) else ""
+        goes_on = isinstance(sides[1], Said) and sides[1].formula is formula
+        second = replace(above, fact=sides[1]) if goes_on else self.part(above, sides[1], 0, "")
+        return self.part(above, sides[0], start, name), second
+
+    def leaf(self) -> Iterator[str]:
+        """A line that closes a branch, and the facts that do. Then the branch that waited last goes on."""
+        step = self.steps[self.here]
+        word, *rest = step.split(" ")
+        facts = [self.facts[int(number)] for number in rest]
+        clash = [] if word == "false" else [literal(noted) for noted in facts]
+        self.closed.add(word, clash, [self.names.axiom(noted.origin.axiom) for noted in facts])
+        if word == "false":
+            yield f"{self.indent()}{step}: {self.falsity(facts[0])}"
+        else:
+            facts = facts[::-1] if word == "absent" else facts
+            yield f"{self.indent()}{step}: {clash_heading(self.names, word, [literal(noted) for noted in facts])}"
+            yield from (f"{self.indent()}  {self.plain(noted)}{GAP}{self.origin(noted)}" for noted in facts)
+        if not self.waiting:
+            self.here = len(self.steps)
+            return
+        next_one = self.waiting.pop()
+        del self.facts[next_one.count :]
+        self.level, self.here = next_one.level, next_one.step
+        yield f"{self.indent()}{next_one.name}: {self.added(next_one.side)}"
+        # what splits the right side itself goes on with the choices of one formula
+        if self.steps[self.here] != f"split {next_one.count}":
+            self.level += 1
+
+    # why a side cannot be
+
+    def closed_side(self, sides: list[Closing]) -> Closing | None:
+        """The first of these sides that the test makes false, or else the first that a clash closes; with the
+        reason."""
+        found = [replace(one, leaves=self.leaves(one.side, one.at)) for one in sides]
+        for one in found:
+            if one.leaves and all(leaf.word == "false" for leaf in one.leaves):
+                return replace(one, reason=self.false_reason(one.side, one.leaves))
+        for one in found:
+            clashes = [leaf for leaf in one.leaves if leaf.word != "false"]
+            if len(clashes) == 1:
+                return replace(one, reason=self.clash_reason(clashes[0]))
+        return None
+
+    def leaves(self, side: Noted, at: int) -> list[ClosedBy]:
+        """How the branches of a side are closed, whose first step stands there; nothing where more is taken apart in
+        them than the side itself."""
+        if not self.is_alone(at):
+            return []
+        first = len(self.facts)
+        waiting: list[tuple[int, Noted]] = []
+        found: list[ClosedBy] = []
+        self.facts.append(side)
+        for place in range(at, self.ends[at]):
+            word, *rest = self.steps[place].split(" ")
+            if word in ADDING:
+                self.facts.append(self.adding(word, rest))
+            elif word == "split":
+                left, right = self.sides(self.facts[int(rest[0])])
+                waiting.append((len(self.facts), right))
+                self.facts.append(left)
+            else:
+                found.append(ClosedBy(word, [(int(number), self.facts[int(number)]) for number in rest]))
+                if waiting:
+                    count, right = waiting.pop()
+                    self.facts[count:] = [right]
+        del self.facts[first:]
+        return found
+
+    def is_alone(self, at: int) -> bool:
+        """Whether the branch that begins there takes apart its own fact and no other one, and is closed by `false` of
+        its parts, but for one clash at most."""
+        first = len(self.facts)
+        # of each fact from that one on whether it is a part of it, and of each right side that waits its place and the
+        # same
+        is_part = [True]
+        waiting: list[tuple[int, bool]] = []
+        clashes = 0
+        for place in range(at, self.ends[at]):
+            word, number = self.steps[place].split(" ")[:2]
+            is_of_part = int(number) >= first and is_part[int(number) - first]
+            if word == "split":
+                waiting.append((len(is_part), is_of_part))
+            if word == "split" or word in ADDING:
+                if not is_of_part:
+                    return False
+                is_part.append(True)
+                continue
+            clashes += word != "false"
+            if clashes > 1 or (word == "false" and not is_of_part):
+                return False
+            if waiting:
+                count, is_of_part = waiting.pop()
+                is_part[count:] = [is_of_part]
+        return True
+
+    def false_reason(self, side: Noted, leaves: list[ClosedBy]) -> str:
+        """What the test makes false: the one fact that closes the side, or the side where several do."""
+        if len(leaves) == 1:
+            return self.falsity(leaves[0].facts[0][1])
+        assert isinstance(side.fact, Said)
+        if side.fact.start:
+            return f"{self.plain(side)}, is false in this test"
+        return f"{self.shown(side)} is {'false' if side.fact.holds else 'true'} in this test"
+
+    def clash_reason(self, leaf: ClosedBy) -> str:
+        """What clashes with a side; the facts that were there before it by their numbers."""
+        facts = leaf.facts[::-1] if leaf.word == "absent" else leaf.facts
+        known = [str(number) for number, _ in facts if number < len(self.facts)]
+        new = [literal(noted) for number, noted in facts if number >= len(self.facts)]
+        numbers = " and ".join([", ".join(known[:-1]), known[-1]] if known[1:] else known)
+        by = f", fact{'s' if known[1:] else ''} {numbers}" if known else ""
+        return clash_reason(self.names, leaf.word, [literal(noted) for _, noted in facts], new) + by
+
+    def falsity(self, noted: Noted) -> str:
+        """Why a fact is false in this test."""
+        assert isinstance(noted.fact, Said)
+        formula = noted.fact.formula
+        if isinstance(formula, Static):
+            return f"{self.formula(formula, noted)} {'does not hold' if noted.fact.holds else 'holds'} in this test"
+        return f"no {formula.name} is left" if isinstance(formula, Quantified) else "no member of the list is left"
+
+    # the facts
+
+    def part(self, above: Noted, part: Fact, place: int, name: str) -> Noted:
+        """A part of a fact: the member of a list at a place, the body of a quantifier at what has this name, or a
+        side."""
+        assert isinstance(above.fact, Said)
+        formula, origin = above.fact.formula, above.origin
+        values = above.values
+        if isinstance(part, Literal):
+            assert isinstance(formula, (Nodes, Edges))
+            label = getattr(formula.members[place], "label", "")
+            return replace(above, fact=part, origin=replace(origin, label=label))
+        if isinstance(formula, Quantified):
+            values = {**values, formula.name: name}
+            taken = Taken(formula.name, formula.over_microops, part.env[-1][1])
+            origin = replace(origin, taken=(*origin.taken, taken))
+        elif isinstance(formula, Expand):
+            parameters = [parameter.name for parameter in self.rules.macros[formula.macro.name].parameters]
+            values = {**values, **dict(zip(parameters, [self.arg(arg, above) for arg in formula.args]))}
+            origin = replace(origin, macro=formula.macro.name)
+        return Noted(part, values, above.axiom, replace(origin, at=first_place(part.formula)))
+
+    def member(self, formula: Quantified, place: int) -> str:
+        """The name of the value at a place of a range."""
+        return self.names.microop(place) if formula.over_microops else str(place)
+
+    # how they are written
+
+    def added(self, noted: Noted) -> str:
+        """A fact, which the branch gets, with its number."""
+        self.facts.append(noted)
+        return f"fact {len(self.facts) - 1}, {self.plain(noted)}"
+
+    def plain(self, noted: Noted) -> str:
+        """A fact."""
+        fact = noted.fact
+        if isinstance(fact, Literal):
+            return self.names.fact(literal(noted))
+        is_whole = fact.holds or not isinstance(fact.formula, (Binary, Quantified))
+        text = self.shown(noted)
+        signed = text if fact.holds else f"not {text}" if is_whole else f"not ({text})"
+        return signed + (self.start(fact) if fact.start else "")
+
+    def shown(self, noted: Noted) -> str:
+        """The formula of a fact, cut short where it is long."""
+        assert isinstance(noted.fact, Said)
+        text = self.formula(noted.fact.formula, noted)
+        return text if len(text) <= MOST_CHARACTERS else text[:MOST_CHARACTERS].rsplit(" ", 1)[0] + " .."
+
+    def start(self, fact: Said) -> str:
+        """From which member on a fact speaks of some member."""
+        formula = fact.formula
+        name = formula.name if isinstance(formula, Quantified) else "member"
+        if fact.start == self.rules.members(fact):
+            return f", with no {name} left"
+        return f", from {name} {self.member(formula, fact.start) if isinstance(formula, Quantified) else fact.start} on"
+
+    def origin(self, noted: Noted) -> str:
+        """Where a fact comes from."""
+        origin = noted.origin
+        values = [self.names.microop(one.value) if one.is_microop else f"core {one.value}" for one in origin.taken]
+        taken = [f"{one.name} = {value}" for one, value in zip(origin.taken, values)]
+        given = f" with {', '.join(taken[:-1])}{' and ' if taken[:-1] else ''}{taken[-1]}" if taken else ""
+        macro = f", in macro {origin.macro} at {self.names.place(origin.at)}" if origin.macro is not None else ""
+        label = f'"{origin.label}" ' if origin.label else ""
+        return f"{label}from axiom {noted.axiom}{given}{macro}"
+
+    def arg(self, arg: Arg, noted: Noted) -> str:
+        """An argument: a core, or a variable by its value where it has one."""
+        return str(arg.value) if isinstance(arg, Number) else noted.values.get(arg.name, arg.name)
+
+    def term(self, term: NodeTerm, noted: Noted) -> str:
+        """A node where its variables have values, and otherwise its term."""
+        assert isinstance(noted.fact, Said)
+        names = [term.op.name] + ([] if term.core is None or isinstance(term.core, Number) else [term.core.name])
+        if all(name in noted.values for name in names):
+            return self.names.node(self.rules.evaluator.node(term, noted.fact.env))
+        stage = term.stage.name if term.core is None else f"({self.arg(term.core, noted)}, {term.stage.name})"
+        return f"({self.arg(term.op, noted)}, {stage})"
+
+    def formula(self, formula: Formula, noted: Noted, level: int = 0, is_last: bool = True) -> str:
+        """A formula with the values of its variables in place of them, in brackets where something looser stands
+        there than may."""
+        match formula:
+            case Not(operand):
+                return f"~{self.formula(operand, noted, 3, False)}"
+            case Binary(connective, left, right):
+                here = LEVELS[connective]
+                text = f"{self.formula(left, noted, here + 1, False)} {connective} {self.formula(right, noted, here, is_last)}"
+                return f"({text})" if here < level else text
+            case Quantified(_, universal, over_microops, name, body):
+                words = f"{'forall' if universal else 'exists'} {'microop' if over_microops else 'core'} {name}, "
+                hidden = replace(noted, values={one: value for one, value in noted.values.items() if one != name})
+                text = words + self.formula(body, hidden)
+                return text if is_last else f"({text})"
+            case Expand(_, macro, args):
+                return " ".join(["ExpandMacro", macro.name, *(self.arg(arg, noted) for arg in args)])
+            case Static(predicate, args):
+                return " ".join([predicate.name, *(self.arg(arg, noted) for arg in args)])
+            case Nodes(members):
+                parts = [f"{self.term(term, noted)} is there" for term in members[:MOST_MEMBERS]]
+            case Edges(members):
+                shown = members[:MOST_MEMBERS]
+                parts = [f"{self.term(edge.start, noted)} before {self.term(edge.end, noted)}" for edge in shown]
+        more = [".."] if len(members) > MOST_MEMBERS else []
+        return parts[0] if len(members) == 1 else f"[{'; '.join(parts + more)}]"

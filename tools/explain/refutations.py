@@ -1,0 +1,291 @@
+"""A refutation in the words of the model. The text has to be one that a judge accepted."""
+from dataclasses import dataclass
+from typing import Iterator
+
+from tools.explain.branches import branch_ends
+from tools.explain.clashes import MOST_BRANCHES, Closed, clash_heading, clash_reason, is_long
+from tools.second.judging import VERSION_2, Signed
+from tools.second.positions import Inner, Leaf
+from tools.texts.naming import Fact, Names
+from tools.texts.origins import Origin, TracedPositions
+from tools.texts.wrapping import GAP, indent
+
+# how many parts of a side are shown
+MOST_PARTS = 12
+
+# what a side of a split asserts
+Side = list[Signed]
+
+
+@dataclass(frozen=True)
+class Source:
+    """What asserted a fact of the present branch: a position, and the split whose side has it, by its name; without one
+    it holds on every branch."""
+
+    position: int
+    side: str
+
+
+@dataclass(frozen=True)
+class Waiting:
+    """A right side whose left one is open: where its branch begins, its name, what it asserts, how much of the trail is
+    its own, the level of the split."""
+
+    step: int
+    name: str
+    side: Side
+    mark: int
+    level: int
+
+
+@dataclass(frozen=True)
+class Group:
+    """The splits that stand below one heading, the last of them by its name."""
+
+    heading: str
+    last: str
+
+
+def split_of(position: int, is_denied: bool) -> str:
+    """The step that splits a position."""
+    return f"split {'~' if is_denied else ''}{position}"
+
+
+class Refutation:
+    """The lines of a refutation. What is asserted on the present branch is kept with what asserted it."""
+
+    def __init__(self, names: Names, positions: TracedPositions, lines: list[str], width: int) -> None:
+        self.names = names
+        self.positions = positions
+        self.width = width
+        self.has_signs = lines[:1] == [VERSION_2]
+        self.written = lines
+        self.steps = lines[1:] if self.has_signs else lines
+        self.ends = branch_ends(self.steps)
+        self.facts: dict[Fact, Source] = {}
+        # the facts in the order in which they came, to be taken back
+        self.trail: list[Fact] = []
+        self.here = 0
+        self.level = 0
+        self.waiting: list[Waiting] = []
+        # where the last line was of a split one of whose sides closes at once
+        self.group: Group | None = None
+        self.closed = Closed()
+
+    def lines(self) -> Iterator[str]:
+        """What the refutation is, and its steps."""
+        if self.branches > MOST_BRANCHES:
+            other = Refutation(self.names, self.positions, self.written, self.width)
+            yield from other.closed.line(self.names, other.walk())
+        if any(step.startswith("split ") for step in self.steps):
+            yield "Each split is a choice that the model leaves, and each branch ends in what cannot be:"
+        else:
+            yield "The model leaves no choice, and what it asks for cannot be:"
+        yield from self.walk()
+        yield "Every branch is closed."
+
+    def walk(self) -> Iterator[str]:
+        """The steps. Of a split one of whose sides closes at once a line says what the other one gives, which goes on
+        there. Of any other one both branches follow, one level further in."""
+        if self.positions.constant is None:
+            self.add([(0, False)], "")
+        while self.here < len(self.steps):
+            yield from self.split() if self.steps[self.here].startswith("split ") else self.leaf()
+
+    @property
+    def branches(self) -> int:
+        """How many branches there are: one more for each split both sides of which go on."""
+        splits = [place for place, step in enumerate(self.steps) if step.startswith("split ")]
+        return 1 + sum(self.closed_side(place + 1, self.ends[place + 1]) is None for place in splits)
+
+    def indent(self) -> str:
+        """What stands before a line."""
+        return indent(self.level, self.width)
+
+    # the steps
+
+    def split(self) -> Iterator[str]:
+        """A split: one line where a side of it closes at once."""
+        step = self.steps[self.here]
+        left, right = self.sides_of(step.split(" ")[1])
+        left_at, right_at = self.here + 1, self.ends[self.here + 1]
+        closed = self.closed_side(left_at, right_at)
+        if closed == "left":
+            yield from self.forced(step, left, left_at, right)
+            self.here = right_at
+        elif closed == "right":
+            yield from self.forced(step, right, right_at, left)
+            self.here = left_at
+        else:
+            yield f"{self.indent()}{step}: {self.names.origin(self.origin_of(step))}"
+            self.waiting.append(Waiting(right_at, f"right of {step}", right, len(self.trail), self.level))
+            yield from self.begin(f"left of {step}", left)
+            self.level += 1
+            self.here = left_at
+
+    def closed_side(self, left_at: int, right_at: int) -> str | None:
+        """The side of a split that is closed by its first step. Where both are it is the one that is closed by fewer
+        nodes, so that the other clash is seen whole."""
+        steps = {"left": self.steps[left_at], "right": self.steps[right_at]}
+        closed = [side for side, step in steps.items() if not step.startswith("split ")]
+        return min(closed, key=lambda side: steps[side].count(" ")) if closed else None
+
+    def forced(self, step: str, closed: Side, closed_at: int, other: Side) -> Iterator[str]:
+        """The line of a split of which one side, closed by the step there, leaves the other. Those that come from one
+        formula stand below one heading."""
+        heading = self.names.formula(self.origin_of(step))
+        last = self.group.last if self.group is not None and self.group.heading == heading else ""
+        if not last:
+            yield f"{self.indent()}{heading}:"
+        said, (reason, *facts) = self.said_of(self.unknown(other)), self.reason(closed, closed_at, last)
+        yield f"{self.indent()}  {step}{self.names.inside(self.origin_of(step))}: {said}, since {reason}"
+        yield from (f"{self.indent()}    {fact}" for fact in facts)
+        self.group = Group(heading, step)
+        self.add(other, step)
+
+    def begin(self, name: str, side: Side) -> Iterator[str]:
+        """The first line of a branch that is a side of a split by this name."""
+        yield f"{self.indent()}{name}: {self.said_of(side)}"
+        self.group = None
+        self.add(side, name)
+
+    def leaf(self) -> Iterator[str]:
+        """What clashes at the end of a branch, each fact with where it comes from. Then the branch that waited last
+        goes on."""
+        word, *written = self.steps[self.here].split(" ")
+        facts = [] if word == "false" else self.clash(word, written)
+        origins = (self.positions.origins[self.facts[fact].position] for fact in facts)
+        self.closed.add(word, facts, [self.names.axiom(origin.axiom) for origin in origins if origin is not None])
+        yield from (self.indent() + line for line in self.clash_lines(word, written))
+        if not self.waiting:
+            self.here = len(self.steps)
+            return
+        next_one = self.waiting.pop()
+        self.take_back(next_one.mark)
+        self.level, self.here = next_one.level, next_one.step
+        yield from self.begin(next_one.name, next_one.side)
+        # what splits the right side itself goes on with the choices of one formula
+        if self.steps[self.here] != split_of(*next_one.side[-1]):
+            self.level += 1
+
+    def origin_of(self, step: str) -> Origin | None:
+        """Where the position that a step splits comes from."""
+        return self.positions.origins[int(step.split(" ")[1].lstrip("~"))]
+
+    def sides_of(self, word: str) -> tuple[Side, Side]:
+        """The left and the right side of a split. In version 2 the right one has, too, that the left one is false."""
+        is_denied = word.startswith("~")
+        row = self.positions.rows[int(word.lstrip("~"))]
+        assert isinstance(row, Inner)
+        not_left = [(row.left, not is_denied)] if self.has_signs else []
+        return [(row.left, is_denied)], [*not_left, (row.right, is_denied)]
+
+    # the facts of the present branch
+
+    def add(self, side: Side, name: str) -> None:
+        """Asserts what a side of this name asserts."""
+        waiting = side[::-1]
+        while waiting:
+            here, is_denied = waiting.pop()
+            row = self.positions.rows[here]
+            if isinstance(row, Leaf):
+                fact = self.fact(row, is_denied)
+                if fact not in self.facts:
+                    self.facts[fact] = Source(here, name)
+                    self.trail.append(fact)
+            elif row.is_disjunction is is_denied:
+                waiting += [(row.right, is_denied), (row.left, is_denied)]
+
+    def take_back(self, mark: int) -> None:
+        """Forgets what came after a mark."""
+        for fact in self.trail[mark:]:
+            del self.facts[fact]
+        del self.trail[mark:]
+
+    def fact(self, row: Leaf, is_denied: bool) -> Fact:
+        """What a literal says, or its opposite."""
+        end = None if row.end is None else self.positions.nodes[row.end]
+        return self.positions.nodes[row.start], end, row.wanted is not is_denied
+
+    def clash(self, word: str, written: list[str]) -> list[Fact]:
+        """The facts that close a branch; the denied one of a path and of an absent node last."""
+        nodes = [node for node in map(self.names.nodes.read, written) if node is not None]
+        if word == "absent":
+            there = next(fact for fact in self.facts if fact[2] and nodes[0] in fact[:2])
+            return [there, (nodes[0], None, False)]
+        chain = nodes + nodes[:1] if word == "cycle" else nodes
+        edges: list[Fact] = [(start, end, True) for start, end in zip(chain, chain[1:])]
+        return edges if word == "cycle" else [*edges, (nodes[0], nodes[-1], False)]
+
+    def unknown(self, side: Side) -> Side:
+        """What of a side is no fact of the present branch; all of it where nothing else is."""
+        rows = self.positions.rows
+        return [
+            (position, is_denied)
+            for position, is_denied in side
+            if not (isinstance(row := rows[position], Leaf) and self.fact(row, is_denied) in self.facts)
+        ] or side
+
+    # words
+
+    def said_of(self, side: Side) -> str:
+        """What a side says."""
+        return "; ".join(self.said(position, is_denied) for position, is_denied in side)
+
+    def said(self, position: int, is_denied: bool) -> str:
+        """A position in words, its members in one row as far as they are of one kind."""
+        row = self.positions.rows[position]
+        if isinstance(row, Leaf):
+            return self.names.fact(self.fact(row, is_denied))
+        is_or = row.is_disjunction is not is_denied
+        parts: list[str] = []
+        waiting = [row.right, row.left]
+        while waiting:
+            here = waiting.pop()
+            member = self.positions.rows[here]
+            if len(parts) == MOST_PARTS:
+                return (" or " if is_or else " and ").join(parts) + ", and more of this kind"
+            if isinstance(member, Leaf):
+                parts.append(self.names.fact(self.fact(member, is_denied)))
+            elif (member.is_disjunction is not is_denied) is is_or:
+                waiting += [member.right, member.left]
+            else:
+                parts.append(f"({self.said(here, is_denied)})")
+        return (" or " if is_or else " and ").join(parts)
+
+    def source(self, fact: Fact) -> str:
+        """Where a fact of the present branch comes from."""
+        source = self.facts[fact]
+        origin = self.positions.origins[source.position]
+        return self.names.of_side(origin, source.side) if source.side else self.names.origin(origin)
+
+    def reason(self, side: Side, at: int, last: str) -> list[str]:
+        """Why a side cannot be, which the step there closes, and where the facts come from that were there before it:
+        in one line, or each in its own where they are many. What the line above gives, which is of the split of this
+        name, needs no word."""
+        word, *written = self.steps[at].split(" ")
+        mark = len(self.trail)
+        self.add(side, "")
+        facts = self.clash(word, written)
+        new = [fact for fact in facts if fact in self.trail[mark:]]
+        known = [fact for fact in facts if fact not in new]
+        self.take_back(mark)
+        text = clash_reason(self.names, word, facts, new)
+        if is_long(facts):
+            return [f"{text}:", *map(self.fact_line, known)]
+        if not known or (last and all(self.facts[fact].side == last for fact in known)):
+            return [text]
+        return [text + GAP + "; ".join(map(self.source, known))]
+
+    def fact_line(self, fact: Fact) -> str:
+        """A fact with where it comes from."""
+        return f"{self.names.fact(fact)}{GAP}{self.source(fact)}"
+
+    def clash_lines(self, word: str, written: list[str]) -> Iterator[str]:
+        """What clashes, and each of its facts with where it comes from."""
+        if word == "false":
+            yield "false: the constants of the axioms alone make them false for this test"
+            return
+        facts = self.clash(word, written)
+        yield f"{word}: {clash_heading(self.names, word, facts)}"
+        yield from (f"  {self.fact_line(fact)}" for fact in facts)

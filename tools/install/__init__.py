@@ -1,0 +1,1 @@
+"""How an installation is made, renewed and taken away."""

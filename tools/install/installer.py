@@ -1,0 +1,345 @@
+"""Puts pipecheck under a prefix, updates what stands there, or takes it away. `install` calls it.
+
+    python3 tools installer judge PREFIX                       whether it may be installed there; nothing is changed
+    python3 tools installer install PREFIX PROGRAM VERSION     VERSION is the text of the file `version`
+    python3 tools installer uninstall PREFIX
+
+installed.py says how an installation stands. An update makes the other tree, and one rename of the link puts it in use.
+The list of a tree stands before anything that it lists is made, and goes after all of it. So what was ended halfway is
+known, and the next call takes it away. To take away needs no room on the disk: nothing is written for it.
+"""
+import fcntl
+import io
+import os
+import shutil
+import subprocess
+import sys
+from collections.abc import Iterator
+from contextlib import ExitStack, contextmanager, suppress
+
+import tools
+from tools.build.processes import SIGNALS, Ended, end_by
+from tools.install.installed import FOLDERS, IN_USE, LINKS, LIST, TREES, Listing, Prefix, Refused, is_below
+
+
+TOP = tools.TOP
+
+# what a tree has of the checkout, and what of that it has not: what builds and installs, maps, and what Python keeps
+COPIED = ("README.md", "CONTRIBUTING.md", "NEWS.md", "commands.txt", "docs", "editors", "examples", "pipecheck", "script",
+          "tools")
+# what builds, and what says what the crates and their definitions are
+LEFT_OUT = {"script/build", "script/keep_module", "script/manual", "tools/build", "tools/install", "tools/pages"}
+LEFT_OUT_NAMES = {"__pycache__", ".gitignore"}
+
+
+class Failed(Exception):
+    """A step failed, and why."""
+
+
+def write_new(path: str, text: str) -> None:
+    """A file with this text, in place of what has the name; no link is followed."""
+    with suppress(FileNotFoundError):
+        os.remove(path)
+    with open(path, "x", encoding="utf-8", errors="surrogateescape") as file:
+        file.write(text)
+
+
+def pass_over_gone(_: object, __: str, problem: tuple[object, BaseException, object]) -> None:
+    """Raises why something could not be taken away, but where another call took it away."""
+    if not isinstance(problem[1], FileNotFoundError):
+        raise problem[1]
+
+
+def remove(path: str) -> bool:
+    """Takes away a file, a link or a folder, and says whether there was one."""
+    if os.path.isdir(path) and not os.path.islink(path):
+        shutil.rmtree(path, onerror=pass_over_gone)
+    elif os.path.lexists(path):
+        os.remove(path)
+    else:
+        return False
+    return True
+
+
+def copy(source: str, target: str) -> None:
+    """A file, or a folder with all that is not left out; what may be run stays so."""
+    if os.path.isdir(source):
+        os.makedirs(target, exist_ok=True)
+        for name in sorted(os.listdir(source)):
+            path = os.path.join(source, name)
+            if name not in LEFT_OUT_NAMES and path.removeprefix(f"{TOP}/") not in LEFT_OUT:
+                copy(path, os.path.join(target, name))
+    else:
+        shutil.copyfile(source, target)
+        os.chmod(target, 0o755 if os.access(source, os.X_OK) else 0o644)
+
+
+def manual(name: str) -> str:
+    """The text of a man page."""
+    done = subprocess.run([os.path.join(TOP, "script", "manual"), name], stdout=subprocess.PIPE, check=False)
+    if done.returncode != 0:
+        raise Failed(f"the man page {name}(1) could not be made")
+    return done.stdout.decode("utf-8")
+
+
+class Installation(Prefix):
+    """A prefix that is changed."""
+
+    def __init__(self, path: str) -> None:
+        super().__init__(path)
+        self.locks = ExitStack()
+        self.locked: list[str] = []
+
+    def refuse(self) -> None:
+        """Refuses where nothing can be installed."""
+        for name in COPIED:
+            folder = os.path.join(TOP, name)
+            if f"{self.path}/".startswith(f"{folder}/"):
+                raise Refused(f"{self.path} is in {folder}, all of which is installed: name a folder outside of it")
+        self.refuse_foreign()
+
+    # what is made
+
+    def put_list(self, tree: str, listing: Listing) -> None:
+        """Puts the list of a tree in its place by one rename, with the folders on the way that are not there."""
+        text = listing.text(tree, self.path)
+        if os.path.isdir(self.at(tree)):
+            path = os.path.join(self.at(tree), LIST)
+            write_new(f"{path}.part", text)
+            os.replace(f"{path}.part", path)
+            return
+        first = next(name for name in (*self.around, ".", "lib", tree) if not os.path.isdir(self.at(name)))
+        inner = os.path.join(self.part(first), os.path.relpath(self.at(tree), self.at(first)))
+        os.makedirs(inner)
+        write_new(os.path.join(inner, LIST), text)
+        os.rename(self.part(first), self.at(first))
+
+    def fill(self, tree: str, program: str, version: str) -> None:
+        """Makes all of a tree but its list."""
+        folder = self.at(tree)
+        self.empty(tree)
+        for name in COPIED:
+            os.makedirs(os.path.dirname(os.path.join(folder, name)), exist_ok=True)
+            copy(os.path.join(TOP, name), os.path.join(folder, name))
+        copy(program, os.path.join(folder, "pipecheck_cli"))
+        write_new(os.path.join(folder, "version"), version + "\n")
+        os.mkdir(os.path.join(folder, "man"))
+        for name in ("pipecheck", "pipecheck-suite"):
+            write_new(os.path.join(folder, "man", f"{name}.1"), manual(name))
+
+    def put_link(self, name: str, end: str) -> None:
+        """Puts a link in its place by one rename; its end is a path from the prefix."""
+        path, text = self.at(name), os.path.relpath(end, os.path.dirname(name))
+        if os.path.islink(path) and os.readlink(path) == text:
+            return
+        os.makedirs(os.path.dirname(path), exist_ok=True)
+        with suppress(FileNotFoundError):
+            os.remove(self.part(name))
+        os.symlink(text, self.part(name))
+        os.replace(self.part(name), path)
+
+    def put_in_use(self, tree: str) -> None:
+        """Has the links lead to the tree. One rename decides, but where the former layout stands: there each link leads
+        to the tree of its own, and the former one makes room."""
+        is_former = os.path.isdir(self.at(IN_USE)) and not os.path.islink(self.at(IN_USE))
+        way = tree if is_former or any(self.led_to(name) == tree for name in LINKS) else IN_USE
+        for name, file in LINKS.items():
+            self.put_link(name, f"{way}/{file}")
+        if is_former:
+            other = next(name for name in TREES if name != tree)
+            self.take_tree(other, Listing())
+            os.rename(self.at(IN_USE), self.at(other))
+        self.put_link(IN_USE, tree)
+        for name, file in LINKS.items():
+            self.put_link(name, f"{IN_USE}/{file}")
+
+    # what is taken away
+
+    def take_file(self, name: str, known: Listing) -> None:
+        """Takes away a link, or a file of the former layout; what is of another is left."""
+        if self.is_followed(name):
+            print(f"install: {self.at(name)} stands behind a link: it is left as it is", file=sys.stderr)
+            return
+        with suppress(FileNotFoundError):
+            os.remove(self.part(name))
+        if self.is_ours(name, known):
+            os.remove(self.at(name))
+        elif os.path.lexists(self.at(name)):
+            print(f"install: {self.at(name)} is not of an installation: it is left as it is", file=sys.stderr)
+
+    def empty(self, tree: str) -> None:
+        """Takes away all of a tree but its list."""
+        for name in os.listdir(self.at(tree)):
+            if name != LIST:
+                remove(os.path.join(self.at(tree), name))
+
+    def take_tree(self, tree: str, listing: Listing) -> None:
+        """Takes away a tree, with the folders around it that the list has and that hold nothing else. Its list goes by
+        one rename with all of these, after what gives the disk room for it."""
+        if tree not in self.trees():
+            return
+        self.empty(tree)
+        whole = [tree]
+        for folder in ("lib", ".", *reversed(self.around)):
+            if folder not in listing.folders or not self.has_locked(folder, False):
+                break
+            if os.listdir(self.at(folder)) != [os.path.basename(self.at(whole[-1]))]:
+                break
+            whole.append(folder)
+        while True:
+            first = whole.pop()
+            try:
+                os.rename(self.at(first), self.part(first))
+                break
+            except OSError:
+                # as where the folder around the prefix may not be written
+                if not whole:
+                    raise
+        remove(self.part(first))
+
+    def take_parts(self) -> bool:
+        """Takes away what a call that was ended had not given its name, and says whether there was something."""
+        return any([remove(self.part(name)) for name in (*self.around, ".", "lib", IN_USE, *TREES)])
+
+    def take_all_but(self, kept: str | None, stays: Listing) -> None:
+        """Takes away what the lists have and is not to stay, and all trees but the kept one, if any is kept."""
+        known = self.known()
+        # the last one has all of it to the end: each install lists what it found listed
+        others = sorted((tree for tree in self.trees() if tree != kept), key=lambda it: len(self.listing(it).folders))
+        for name in sorted(known.files - stays.files):
+            self.take_file(name, known)
+        inner = [name for name in known.folders - stays.folders - {".", "lib"} if is_below(name)]
+        for folder in sorted(inner, key=lambda name: -name.count("/")):
+            if not self.is_followed(f"{folder}/."):
+                with suppress(OSError):
+                    os.rmdir(self.at(folder))
+        if kept is None and os.path.islink(self.at(IN_USE)) and self.led_to(IN_USE):
+            os.remove(self.at(IN_USE))
+        for tree in others:
+            self.take_tree(tree, known)
+
+    # the three calls
+
+    def install(self, program: str, version: str) -> None:
+        """Installs or updates."""
+        with self.alone():
+            self.refuse()
+            self.take_parts()
+            for tree in TREES:
+                if any(self.led_to(name) == tree for name in LINKS):
+                    # a call was ended while it left the former layout
+                    self.put_in_use(tree)
+            in_use = self.in_use()
+            fresh = next(tree for tree in TREES if tree != in_use)
+            made = frozenset(name for name in (*self.around, *FOLDERS) if not os.path.isdir(self.at(name)))
+            known = self.known() | Listing(frozenset(LINKS), made)
+            try:
+                self.put_list(fresh, known)
+                self.fill(fresh, program, version)
+                self.put_in_use(fresh)
+            except BaseException:
+                if not self.serves(fresh):
+                    with SIGNALS.held(), suppress(OSError):
+                        self.take_parts()
+                        self.take_all_but(in_use, self.listing(in_use) if in_use else Listing())
+                raise
+            stays = Listing(frozenset(LINKS), known.folders)
+            self.take_all_but(fresh, stays)
+            if stays != known:
+                self.put_list(fresh, stays)
+
+    def uninstall(self) -> None:
+        """Takes away what is installed, and what an install that was ended left."""
+        with self.alone():
+            had_parts = self.take_parts()
+            if not self.trees():
+                if not had_parts:
+                    raise Refused(f"nothing is installed under {self.path}")
+                return
+            self.take_all_but(None, Listing())
+
+    # one call at a time
+
+    @contextmanager
+    def alone(self) -> Iterator[None]:
+        """One call at a time works on a prefix: the nearest folder around it is locked."""
+        with self.locks:
+            nearest = ""
+            while nearest != self.nearest():
+                # the call that was waited for may have made a nearer one, or taken this one away
+                nearest = self.nearest()
+                if not self.has_locked(nearest, True):
+                    nearest = ""
+            yield
+
+    def nearest(self) -> str:
+        """The nearest folder around the prefix that is there."""
+        return next((name for name in reversed(self.around) if os.path.isdir(self.at(name))), ".")
+
+    def has_locked(self, name: str, waits: bool) -> bool:
+        """Locks a folder until the call ends, and says whether it did. One that may not be read, or is of another
+        machine, may not be locked, and counts as locked."""
+        if name in self.locked:
+            return True
+        try:
+            folder = os.open(self.at(name), os.O_RDONLY)
+            self.locks.callback(os.close, folder)
+            fcntl.flock(folder, fcntl.LOCK_EX | fcntl.LOCK_NB)
+        except BlockingIOError:
+            if not waits:
+                return False
+            print(f"install: another call works in {self.at(name)}: waiting for it", file=sys.stderr)
+            fcntl.flock(folder, fcntl.LOCK_EX)
+        except OSError:
+            return True
+        if not self.is_at(folder, name):
+            return False
+        self.locked.append(name)
+        return True
+
+    def is_at(self, folder: int, name: str) -> bool:
+        """Whether an open folder still has its name."""
+        with suppress(OSError):
+            return os.path.samestat(os.fstat(folder), os.stat(self.at(name)))
+        return False
+
+
+def tell_installed(prefix: Prefix) -> None:
+    """Says what is there now."""
+    names = "pipecheck, pipecheck-suite, their man pages, completion for bash, zsh and fish"
+    print(f"installed under {prefix.path}: {names}")
+    if prefix.at("bin") not in [os.path.realpath(folder) for folder in os.environ.get("PATH", "").split(":")]:
+        print(f"{prefix.at('bin')} is not in PATH")
+
+
+def main(work: str, path: str, *words: str) -> int:
+    """Does one of the three, and says what hinders it."""
+    try:
+        prefix = Installation(path)
+        if work == "judge":
+            prefix.refuse()
+        elif work == "install":
+            prefix.install(*words)
+            tell_installed(prefix)
+        else:
+            prefix.uninstall()
+            print(f"removed from {prefix.path}")
+    except (Refused, Failed) as problem:
+        print(f"install: {problem}", file=sys.stderr)
+    except OSError as error:
+        print(f"install: {error.filename2 or error.filename or path}: {error.strerror}", file=sys.stderr)
+    except Ended as ended:
+        end_by(ended.number)
+    else:
+        return 0
+    return 1
+
+
+if __name__ == "__main__":
+    os.umask(0o022)
+    for stream in (sys.stdout, sys.stderr):
+        # a name need not be UTF-8
+        if isinstance(stream, io.TextIOWrapper):
+            stream.reconfigure(errors="surrogateescape")
+    SIGNALS.receive()
+    sys.exit(main(*sys.argv[1:]))

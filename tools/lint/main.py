@@ -1,0 +1,123 @@
+"""Lists what in a model, and in tests and queries that are to be asked of it, may change the question without a word.
+
+    python3 tools lint MODEL [TEST..] [QUERY..]
+
+Each slip is a line `FILE:LINE:COLUMN: KIND: ..` on standard output, and so is a refused file, with the fault's word.
+The exit status is 0 where there is no slip, 1 where there are some, 3 where a file is refused, 4 where one cannot be
+read, 5 where standard output could not be written, and 125 where this program fails.
+"""
+import os
+import re
+import sys
+
+from tools import TOP
+from tools.lint.lines import line_of
+from tools.lint.linting import QueryFile, TestFile, read_query_file, read_test, slips
+from tools.second.models import Model
+from tools.second.queries import InModel
+from tools.second.scopes import read_model
+from tools.second.standard_output import UNREAD, status_of
+from tools.second.tokens import Fault
+from tools.texts.expecting import sentence_of
+from tools.texts.quoting import shown
+
+LIMIT = 1_048_576
+# how the name of a query ends; any other file is a test, a listing or a pattern
+QUERY = ".query"
+PAGE = os.path.join(TOP, "docs", "faults.md")
+
+
+class Unreadable(Exception):
+    """A file cannot be read."""
+
+
+def contents(path: str) -> bytes:
+    """The bytes of a file, with one more than the limit where there are more."""
+    try:
+        with open(path, "rb") as file:
+            return file.read(LIMIT + 1)
+    except OSError as error:
+        raise Unreadable from error
+
+
+def sentence(kind: str, word: str) -> str:
+    """What docs/faults.md says of a fault's word; nothing where the page is missing."""
+    try:
+        with open(PAGE, encoding="utf-8") as file:
+            text = file.read()
+    except OSError:
+        return ""
+    table = text.partition(f"| word of a {kind} |")[2].partition("\n\n")[0]
+    found = re.search(rf"^\| [^|]*`{re.escape(word)}`[^|]* \| (.*) \|$", table, re.MULTILINE)
+    return found.group(1) if found else ""
+
+
+def is_test(text: bytes) -> bool:
+    """Whether a text has the form of a test."""
+    return re.search(rb'^[ \t]*Litmus2?[ \t]+"', text, re.MULTILINE) is not None
+
+
+class Files:
+    """The files that are read, by their paths; and whether one was refused."""
+
+    def __init__(self) -> None:
+        self.texts: dict[str, bytes] = {}
+        self.is_refused = False
+
+    def read(self, kind: str, path: str) -> Model | TestFile | None:
+        """A model or a test; None where it is refused, which is told."""
+        text = self.texts[path] = contents(path)
+        try:
+            if len(text) > LIMIT:
+                raise Fault("too-large", 0)
+            return read_model(text) if kind == "model" else read_test(path, text)
+        except Fault as fault:
+            self.tell(kind, path, fault)
+            return None
+
+    def read_query(self, path: str, model_path: str, model: Model) -> QueryFile | None:
+        """A query beside its model; None where it is refused, which is told: of the model where the fault is there."""
+        text = self.texts[path] = contents(path)
+        try:
+            if len(text) > LIMIT:
+                raise Fault("too-large", 0)
+            return read_query_file(path, text, model)
+        except Fault as fault:
+            self.tell("model", model_path if isinstance(fault, InModel) else path, fault)
+            return None
+
+    def tell(self, kind: str, path: str, fault: Fault) -> None:
+        """The line of a fault."""
+        self.is_refused = True
+        print(line_of(path, self.texts[path], fault.place, f"{fault.word}: {sentence(kind, fault.word)}"))
+        expected = sentence_of(fault)
+        if expected:
+            print(f"pipecheck: {expected}", file=sys.stderr)
+        if fault.word == "syntax" and kind == "model" and is_test(self.texts[path]):
+            print(f"pipecheck: {shown(path)} is a test, and stands for the model: lint MODEL [TEST..] [QUERY..]", file=sys.stderr)
+
+
+def main(model_path: str, *paths: str) -> int:
+    """Writes the lines and answers the exit status."""
+    files = Files()
+    try:
+        model = files.read("model", model_path)
+        found = [files.read("test", path) for path in paths if not path.endswith(QUERY)]
+        tests = [test for test in found if isinstance(test, TestFile)]
+        asked = [path for path in paths if path.endswith(QUERY)]
+        read = [files.read_query(path, model_path, model) for path in asked] if isinstance(model, Model) else []
+        queries = [query for query in read if query is not None]
+    except Unreadable:
+        return UNREAD
+    count = 0
+    if isinstance(model, Model):
+        for slip in slips(model_path, files.texts[model_path], model, tests, queries):
+            print(line_of(slip.path, files.texts[slip.path], slip.at, f"{slip.kind}: {slip.sentence}"))
+            count += 1
+    if files.is_refused:
+        return 3
+    return 1 if count else 0
+
+
+if __name__ == "__main__":
+    sys.exit(status_of(main, sys.argv[1:]))

@@ -1,0 +1,240 @@
+"""Nodes that a world may have for nothing.
+
+An axiom *gives* a node where it can't be true without it, whichever side of an `or` is taken. It *asks for* each node
+that it names. It *denies* one by `~NodeExists`, or by a premise that names it and a conclusion that more nodes and more
+order do not make true. A node that some axiom asks for, none gives and none denies is free: a world has it or not, as
+it likes.
+"""
+from dataclasses import dataclass
+from typing import Iterator
+
+from tools.lint.places import ANY, OWN, Place, Places
+from tools.lint.slips import Slip, TestFile
+from tools.lint.truth import OutOfSteps, Steps
+from tools.second.cases import Case, Op
+from tools.second.grounding import Environment, holds, value
+from tools.second.guards import Guards
+from tools.second.models import Axiom, Binary, Edges, Expand, Formula, Model, NodeTerm, Nodes, Not, Quantified, Static
+from tools.texts.quoting import shown
+
+Node = tuple[int, int, int]
+
+# A model that needs more steps over all tests is not looked at further.
+STEPS = 1_500_000
+
+
+class FreeNodes:
+    """Finds the free nodes of one model."""
+
+    def __init__(self, path: str, model: Model, axioms: list[Axiom], from_outside: dict[str, frozenset[str]]) -> None:
+        self.path = path
+        self.axioms = axioms
+        self.macros = model.macros
+        self.stages = {stage.name.name: stage.number.value for stage in model.stages}
+        self.from_outside = from_outside
+        places = Places(self.macros, from_outside)
+        self.places = [places.of(axiom.body, {}) for axiom in axioms]
+        self.guards = Guards()
+        self.steps = Steps(STEPS)
+
+    def of_test(self, test: TestFile) -> Iterator[Slip]:
+        """A line for each free node in a test."""
+        for op, term in self.found(test.case, self.steps):
+            yield self.slip(term, f"the {op.access.lower()} {op.g}.{op.n} of {shown(test.path)}")
+
+    def of_made(self, cases: list[Case]) -> Iterator[Slip]:
+        """A line for each stage of a free node in one of these cases, which have no names."""
+        told: set[str] = set()
+        steps = Steps(STEPS)
+        for case in cases:
+            for op, term in self.found(case, steps):
+                if term.stage.name not in told:
+                    told.add(term.stage.name)
+                    yield self.slip(term, f"every {op.access.lower()}")
+
+    def found(self, case: Case, steps: Steps) -> list[tuple[Op, NodeTerm]]:
+        """The micro-ops of the free nodes in a case, each with the first term that names the node."""
+        try:
+            return NodeUses(self, case, steps).free_nodes()
+        except OutOfSteps:
+            return []
+
+    def slip(self, term: NodeTerm, micro_op: str) -> Slip:
+        """One line about a node."""
+        stage = term.stage.name
+        free = "none denies it: a run has this node or not, as it likes"
+        sentence = f"no axiom gives stage {stage} to {micro_op}, and {free}"
+        return Slip(self.path, term.stage.at, "free-node", stage, sentence)
+
+
+@dataclass(frozen=True)
+class Use:
+    """What a formula does to nodes where nodes and edges decide it. Sets of nodes are numbers with a bit for each."""
+
+    given: int = 0
+    asked: int = 0
+    denied: int = 0
+    # in a premise with no conclusion so far; in one with a conclusion that order can make true
+    bare: int = 0
+    priced: int = 0
+    # whether nodes and order alone make it true, and nothing that is missing
+    is_positive: bool = True
+
+
+def both(left: Use, right: Use) -> Use:
+    """The use of two formulas that both hold."""
+    return Use(
+        left.given | right.given,
+        left.asked | right.asked,
+        left.denied | right.denied,
+        left.bare | right.bare,
+        left.priced | right.priced,
+        left.is_positive and right.is_positive,
+    )
+
+
+def either(left: Use, right: Use) -> Use:
+    """The use of two formulas of which one holds."""
+    priced, denied = left.priced | right.priced, left.denied | right.denied
+    for one, other in ((left, right), (right, left)):
+        if other.is_positive:
+            priced |= one.bare
+        else:
+            denied |= one.bare | one.priced
+    is_positive = left.is_positive and right.is_positive
+    return Use(left.given & right.given, left.asked | right.asked, denied, 0, priced, is_positive)
+
+
+class NodeUses:
+    """The uses of nodes by a model in one test. A node is known by a number, and by the term that named it first."""
+
+    def __init__(self, model: FreeNodes, case: Case, steps: Steps) -> None:
+        self.model = model
+        self.case = case
+        self.steps = steps
+        self.numbers: dict[Node, int] = {}
+        self.terms: list[NodeTerm] = []
+        # expansions of one macro with the same values
+        self.known: dict[tuple[object, ...], Use | bool] = {}
+        # places whose nodes are given
+        self.full: set[Place] = set()
+
+    def free_nodes(self) -> list[tuple[Op, NodeTerm]]:
+        """The micro-ops of the nodes that are free in this test, each with the first term that names the node."""
+        whole = Use()
+        for axiom, places in zip(self.model.axioms, self.model.places):
+            # what names no other node than those that axioms before it give makes none free
+            if places <= self.full or all(self.is_full(place, whole.given) for place in places):
+                continue
+            # one that the test makes True or False asks for no node
+            use = self.use(axiom.body, {}, True, False)
+            if isinstance(use, Use):
+                whole = both(whole, use)
+        free = whole.asked & ~(whole.given | whole.bare | whole.denied)
+        nodes = ((node, number) for node, number in self.numbers.items() if free >> number & 1)
+        return [(self.case.ops[op], self.terms[number]) for (op, _, _), number in nodes]
+
+    def is_full(self, place: Place, given: int) -> bool:
+        """Whether each node at a place is among those that are given."""
+        if place not in self.full:
+            for number, op in enumerate(self.case.ops):
+                cores = [op.core] if place.core == OWN else self.case.cores if place.core == ANY else [place.core]
+                for core in cores if op.access == place.access else ():
+                    node = number, core, self.model.stages[place.stage]
+                    if node not in self.numbers or not given >> self.numbers[node] & 1:
+                        return False
+            self.full.add(place)
+        return True
+
+    def use(self, formula: Formula, env: Environment, wanted: bool, in_premise: bool) -> Use | bool:
+        """The use of a formula, or of its denial where it is not wanted; its truth where the test decides it. A premise
+        ends at `~`."""
+        if isinstance(formula, Static):
+            return self.holds(formula, env) is wanted
+        self.steps.take()
+        if isinstance(formula, Not):
+            return self.use(formula.operand, env, not wanted, False)
+        if isinstance(formula, Binary):
+            is_conjunction = (formula.connective == "/\\") is wanted
+            is_implication = formula.connective == "=>"
+            left = self.use(formula.left, env, wanted is not is_implication, in_premise or is_implication)
+            if left is not is_conjunction and isinstance(left, bool):
+                return left
+            return joined(is_conjunction, left, self.use(formula.right, env, wanted, in_premise))
+        if isinstance(formula, Quantified):
+            return self.quantified(formula, env, wanted, in_premise)
+        if isinstance(formula, Expand):
+            return self.expansion(formula, env, wanted, in_premise)
+        if isinstance(formula, Nodes):
+            uses = [self.node_use(term, env, wanted, in_premise) for term in formula.members]
+        else:
+            uses = [self.edge_use(edge.start, edge.end, env, wanted) for edge in formula.members]
+        whole: Use | bool = wanted
+        for use in uses:
+            whole = joined(wanted, whole, use)
+        return whole
+
+    def holds(self, formula: Static, env: Environment) -> bool:
+        """Whether a predicate holds."""
+        self.steps.take()
+        return holds(self.case, formula, env)
+
+    def quantified(self, formula: Quantified, env: Environment, wanted: bool, in_premise: bool) -> Use | bool:
+        """The use of the bodies for all values that no guard settles."""
+        is_conjunction = formula.universal is wanted
+        whole: Use | bool = is_conjunction
+        guards = self.model.guards.of(formula)
+        # what is found for one value is found before the next one takes its place
+        inside = dict(env)
+        for number in range(len(self.case.ops)) if formula.over_microops else self.case.cores:
+            inside[formula.name] = number
+            if any(self.holds(guard.predicate, inside) is guard.value for guard in guards):
+                continue
+            whole = joined(is_conjunction, whole, self.use(formula.body, inside, wanted, in_premise))
+            if whole is (not is_conjunction):
+                break
+        return whole
+
+    def expansion(self, formula: Expand, env: Environment, wanted: bool, in_premise: bool) -> Use | bool:
+        """The use of a macro's body, found once for the same values."""
+        macro = self.model.macros[formula.macro.name]
+        values = tuple(value(arg, env) for arg in formula.args)
+        outside = tuple((name, env[name]) for name in sorted(self.model.from_outside[formula.macro.name]))
+        key = (formula.macro.name, wanted, in_premise, values, outside)
+        if key not in self.known:
+            bound = {parameter.name: number for parameter, number in zip(macro.parameters, values)}
+            self.known[key] = self.use(macro.body, {**env, **bound}, wanted, in_premise)
+        return self.known[key]
+
+    def node_use(self, term: NodeTerm, env: Environment, wanted: bool, in_premise: bool) -> Use:
+        """The use of one node."""
+        bit = self.bit_of(term, env)
+        if wanted:
+            return Use(given=bit, asked=bit)
+        if in_premise:
+            return Use(asked=bit, bare=bit, is_positive=False)
+        return Use(asked=bit, denied=bit, is_positive=False)
+
+    def edge_use(self, start: NodeTerm, end: NodeTerm, env: Environment, wanted: bool) -> Use:
+        """The use of one edge. The absence of an edge denies none of its nodes."""
+        bits = self.bit_of(start, env) | self.bit_of(end, env)
+        return Use(given=bits, asked=bits) if wanted else Use(asked=bits, is_positive=False)
+
+    def bit_of(self, term: NodeTerm, env: Environment) -> int:
+        """The bit of the node that a term names."""
+        op = env[term.op.name]
+        core = self.case.ops[op].core if term.core is None else value(term.core, env)
+        node = op, core, self.model.stages[term.stage.name]
+        if node not in self.numbers:
+            self.numbers[node] = len(self.terms)
+            self.terms.append(term)
+        return 1 << self.numbers[node]
+
+
+def joined(is_conjunction: bool, left: Use | bool, right: Use | bool) -> Use | bool:
+    """Two uses as one, with constants folded."""
+    if isinstance(left, bool):
+        return right if left is is_conjunction else left
+    if isinstance(right, bool):
+        return left if right is is_conjunction else right
+    return both(left, right) if is_conjunction else either(left, right)

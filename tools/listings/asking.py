@@ -1,0 +1,122 @@
+"""What a model shows of a program: sweeps of the built program, one for each combination of values at the end."""
+import os
+import tempfile
+from dataclasses import dataclass
+from itertools import product
+from math import prod
+from typing import Iterable, Iterator, Mapping, NamedTuple, Sequence
+
+from tools.listings.conditions import Variable
+from tools.listings.programs import Loaded, Program
+from tools.listings.writing import pattern_of
+from tools.second.cases import Location
+from tools.second.patterns import MOST_ROWS
+from tools.second.standard_output import FAILED
+from tools.suite.pairs import OBSERVABLE, Checker
+
+# how many sweeps there are of a test at most
+MOST_SWEEPS = 4_096
+
+
+class Unasked(Exception):
+    """A test is not asked of the model, and why."""
+
+
+class Sweep(NamedTuple):
+    """What one sweep asks: what some reads get, and the values at the end."""
+
+    reads: Mapping[int, int]
+    finals: Mapping[Location, int]
+
+
+@dataclass(frozen=True)
+class Question:
+    """What is asked of a program: the values of these variables at the end."""
+
+    program: Program
+    variables: Sequence[Variable]
+
+    def judge(self) -> None:
+        """Refuses a variable that the listing has not."""
+        for variable in self.variables:
+            if variable.thread is None and variable.name not in self.program.locations:
+                raise Unasked(f"the listing has no location {variable.name}")
+            if variable.thread is not None and variable.thread >= self.program.threads:
+                raise Unasked(f"the listing has no thread {variable.thread}")
+
+    @property
+    def choices(self) -> list[list[int]]:
+        """What each read may get: the value at the start, and what is written there."""
+        found = []
+        for place in self.program.reads:
+            location = self.program.ops[place].pa
+            assert isinstance(location, Location)
+            start = self.program.initial.get(location, 0)
+            found.append(list(dict.fromkeys([start, *self.program.writes_to(location.name)])))
+        return found
+
+    def sweeps(self) -> list[Sweep]:
+        """The sweeps: for each combination of the values at the end, and of what so many of the first reads get that the
+        others have no more combinations than one sweep takes."""
+        reads, choices = self.program.reads, self.choices
+        closed = 0
+        while prod(map(len, choices[closed:])) > MOST_ROWS:
+            closed += 1
+        names = dict.fromkeys(variable.name for variable in self.variables if variable.thread is None)
+        written = {name: values for name in names if (values := self.program.writes_to(name))}
+        sides = [*choices[:closed], *written.values()]
+        if prod(map(len, sides)) > MOST_SWEEPS:
+            raise Unasked(f"it takes more than {MOST_SWEEPS} sweeps")
+        locations = [self.program.locations[name] for name in written]
+        return [
+            Sweep(dict(zip(reads[:closed], values)), dict(zip(locations, values[closed:])))
+            for values in product(*sides)
+        ]
+
+    def states(self, sweep: Sweep, rows: Iterable[tuple[int, ...]]) -> Iterator[tuple[int, ...]]:
+        """The states of the rows that are observable in a sweep."""
+        opened = [place for place in self.program.reads if place not in sweep.reads]
+        for row in rows:
+            reads = {**sweep.reads, **dict(zip(opened, row))}
+            yield tuple(self.value(variable, reads, sweep.finals) for variable in self.variables)
+
+    def value(self, variable: Variable, reads: Mapping[int, int], finals: Mapping[Location, int]) -> int:
+        """The value of a variable at the end."""
+        if variable.thread is None:
+            location = self.program.locations[variable.name]
+            return finals.get(location, self.program.initial.get(location, 0))
+        held = self.program.registers.get(variable, 0)
+        return reads[held.op] if isinstance(held, Loaded) else held
+
+
+@dataclass(frozen=True)
+class Swept:
+    """The values of the open reads in each row that is observable, or the status of a sweep that has no answer."""
+
+    rows: frozenset[tuple[int, ...]] = frozenset()
+    failed: int | None = None
+
+
+class Asker:
+    """The built program with a model, and a folder for patterns."""
+
+    def __init__(self, checker: Checker, model: str, folder: str) -> None:
+        self.checker = checker
+        self.model = model
+        self.folder = folder
+
+    def swept(self, program: Program, sweep: Sweep) -> Swept:
+        """What a sweep answers."""
+        with tempfile.TemporaryDirectory(dir=self.folder) as folder:
+            place = os.path.join(folder, "asked.pattern")
+            with open(place, "w", encoding="ascii") as file:
+                file.write(pattern_of(program, sweep.reads, sweep.finals))
+            with open(os.path.join(folder, "rows"), "w+b") as out:
+                status = self.checker.status(["sweep", self.model, place], out)
+                out.seek(0)
+                lines = out.read().decode("latin-1").splitlines()
+        rows = [line.split(" ") for line in lines if line.startswith("row ")]
+        is_whole = status == 0 and lines[:1] == [f"sweep {len(rows)}"] and lines[-1] == "end"
+        if not is_whole:
+            return Swept(failed=FAILED if status is None else status)
+        return Swept(frozenset(tuple(map(int, values)) for _, *values, verdict in rows if verdict == OBSERVABLE))

@@ -1,0 +1,108 @@
+"""A test of a log beside what a model shows of the listing of the same name."""
+from dataclasses import dataclass, field, replace
+from typing import Collection, Iterator, Sequence
+
+from tools.listings.asking import Question
+from tools.listings.conditions import Condition, Variable
+from tools.listings.logs import Result, State
+from tools.listings.programs import Program
+from tools.listings.reading import register_name
+
+BUG = "BUG: the machine does what the model forbids"
+ANSWERS = {True: "Ok", False: "No"}
+
+
+@dataclass(frozen=True)
+class Words:
+    """What is said of a state: that both have it, that the log alone has it, or that the model alone shows it."""
+
+    both: str
+    log_alone: str
+    model_alone: str
+
+
+MACHINE = Words("shown by both", BUG, "shown by the model and not seen")
+MEMORY_MODEL = Words("shown by both", "herd allows what the model forbids", "the model shows what herd forbids")
+
+
+@dataclass
+class Comparison:
+    """A result of a log with the program of its listing, and the states that the model shows."""
+
+    result: Result
+    program: Program
+    shown: set[State] = field(default_factory=set)
+    # the status of a sweep that has no answer
+    failed: int | None = None
+
+    @property
+    def variables(self) -> list[Variable]:
+        """Those of the states of the log, by the names that the listing has; where it has no state, those of the
+        condition."""
+        if not self.result.states:
+            return self.program.condition.variables
+        return [plain(variable, self.program.is_wide) for variable in self.result.variables]
+
+    @property
+    def question(self) -> Question:
+        """The values of the log's variables, and after them those that the condition asks for, too."""
+        return Question(self.program, list(dict.fromkeys([*self.variables, *self.program.condition.variables])))
+
+    @property
+    def projected(self) -> set[State]:
+        """What the model shows of the log's variables."""
+        count = len(self.variables)
+        return {state[:count] for state in self.shown}
+
+    def counts(self) -> tuple[int, int, int]:
+        """How many states both have, the log alone, and the model alone."""
+        seen, shown = set(self.result.states), self.projected
+        return len(seen & shown), len(seen - shown), len(shown - seen)
+
+    def lines(self) -> Iterator[str]:
+        """A line for each state, and one for the condition."""
+        words = MACHINE if self.result.is_counted else MEMORY_MODEL
+        shown = self.projected
+        found = []
+        for state, times in self.result.states.items():
+            said = words.both if state in shown else words.log_alone
+            count = f", {times} {'time' if times == 1 else 'times'}" if self.result.is_counted else ""
+            found.append((self.text(state), said + count))
+        found += [(self.text(state), words.model_alone) for state in sorted(shown - set(self.result.states))]
+        width = max((len(text) for text, _ in found), default=0)
+        yield from (f"{self.result.name}: {text.ljust(width)}  {said}" for text, said in found)
+        yield f"{self.result.name}: {self.answers()}"
+
+    def text(self, state: State) -> str:
+        """A state as the log spells it."""
+        names = self.result.spelled if self.result.states else map(str, self.variables)
+        return " ".join(f"{name}={value};" for name, value in zip(names, state))
+
+    def met_by_log(self, quantifier: str) -> bool | None:
+        """Whether the states of the log meet the condition of the listing, with this quantifier; None where they lack a
+        variable of it."""
+        condition = replace(self.program.condition, quantifier=quantifier)
+        has_all = set(condition.variables) <= set(self.variables)
+        return is_met(condition, self.variables, self.result.states) if has_all else None
+
+    @property
+    def is_of_another_listing(self) -> bool:
+        """Whether the log says to its condition what its states do not say to that of the listing."""
+        return len(self.result.answers) == 1 and self.met_by_log(self.result.quantifier) not in self.result.answers
+
+    def answers(self) -> str:
+        """What the model and the log say to the condition of the listing."""
+        condition = self.program.condition
+        said = f"{condition.quantifier}: {ANSWERS[is_met(condition, self.question.variables, self.shown)]} in the model"
+        in_log = self.met_by_log(condition.quantifier)
+        return said if in_log is None else f"{said}, {ANSWERS[in_log]} in the log"
+
+
+def plain(variable: Variable, is_wide: bool) -> Variable:
+    """A variable of a log as the listing names it."""
+    return variable if variable.thread is None else Variable(variable.thread, register_name(variable.name, is_wide))
+
+
+def is_met(condition: Condition, variables: Sequence[Variable], states: Collection[State]) -> bool:
+    """Whether a condition is met by states of these variables."""
+    return condition.is_met([dict(zip(variables, state)) for state in states])

@@ -1,0 +1,329 @@
+"""Herd's listings for X86 and X86_64 as they are written: bytes to threads of instructions, and a condition."""
+import re
+from dataclasses import dataclass
+from enum import Enum
+from typing import NamedTuple
+
+from tools.listings.beyond import Beyond, Notes
+from tools.listings.conditions import BINDING, CONSTANTS, NEGATIONS, SIDES, Condition, Equation, Variable
+from tools.second.listings import BLANKS, ListingReader
+from tools.second.tokens import Fault, Token, tokens
+
+FIRST_LINE = re.compile(rb"(X86|X86_64) +([^ \t\r\n]+)[ \t\r]*(?:\n|\Z)")
+# the pieces of a listing, with more symbols
+PIECE = re.compile(
+    rb"""(?P<blank>[ \t\r\n]+)
+       | (?P<comment>\(\*.*?\*\))
+       | (?P<name>[A-Za-z][A-Za-z0-9_]*)
+       | (?P<number>[0-9]+)
+       | (?P<symbol>/\\|\\/|=>|\((?!\*)|[{};|\[\],$:=)~%])""",
+    re.VERBOSE | re.DOTALL,
+)
+# a word with the size of what it moves, as it may be spelled
+MOVE = re.compile("MOV[LQ]?", re.IGNORECASE)
+EXCHANGE = re.compile("XCHG[LQ]?", re.IGNORECASE)
+# registers that are parts of one, and those that have a number
+LETTERED = re.compile("[ER]([A-D]X|[SD]I|[SB]P)")
+NUMBERED = re.compile("(R[0-9]+)[DWB]?")
+
+
+class Kind(Enum):
+    """What an operand is."""
+
+    NUMBER = "number"
+    LOCATION = "location"
+    REGISTER = "register"
+
+
+class Operand(NamedTuple):
+    """An operand, by the token that says which. A marked one is spelled as where the source stands first."""
+
+    kind: Kind
+    token: Token
+    is_marked: bool
+
+
+@dataclass(frozen=True)
+class Instruction:
+    """A fence without operands, or what is moved or exchanged: the operand that is written, and the other one."""
+
+    word: Token
+    target: Operand | None = None
+    source: Operand | None = None
+    is_exchange: bool = False
+
+
+class Row(NamedTuple):
+    """The cells of a line, and the `;` after them."""
+
+    cells: tuple[Instruction | None, ...]
+    end: Token
+
+
+@dataclass(frozen=True)
+class Written:
+    """A listing as it is written. Where its tokens begin stands beside it, for the comments before them."""
+
+    # whether it is of X86_64
+    is_wide: bool
+    title: str
+    start: int
+    # values at the start
+    starts: tuple[Equation, ...]
+    head: tuple[Token, ...]
+    rows: tuple[Row, ...]
+    condition: Condition
+
+
+def read_written(data: bytes, notes: Notes) -> Written:
+    """The listing that the bytes say, or their first fault. What `check86` does not read is noted."""
+    is_wide, title, start = behind_header(data, notes)
+    return HerdReader(tokens(data, PIECE, start), is_wide, notes).written(title, start)
+
+
+def behind_header(data: bytes, notes: Notes) -> tuple[bool, str, int]:
+    """Whether the listing is of X86_64, its name, and the place of the first line that begins with `{`."""
+    first = FIRST_LINE.match(data)
+    if first is None:
+        raise Fault("syntax", 0)
+    is_wide = first[1] == b"X86_64"
+    if is_wide:
+        notes.note(Beyond.ARCHITECTURE, 0)
+    at = first.end()
+    while at < len(data):
+        end = data.find(b"\n", at)
+        line = data[at : len(data) if end < 0 else end]
+        rest = line.lstrip(BLANKS)
+        place = at + len(line) - len(rest)
+        closing = data.find(b"*)", place + 2) if rest.startswith(b"(*") else -1
+        if closing >= 0:
+            notes.note(Beyond.HEADER, place)
+            at = closing + 2
+            continue
+        if rest.startswith(b"{"):
+            return is_wide, first[2].decode("latin-1"), at
+        if rest and not line.startswith(b'"') and b"=" not in line:
+            raise Fault("syntax", place)
+        at += len(line) + 1
+    raise Fault("syntax", len(data))
+
+
+class HerdReader(ListingReader):
+    """Reads what stands after the header."""
+
+    def __init__(self, all_tokens: list[Token], is_wide: bool, notes: Notes) -> None:
+        super().__init__(all_tokens)
+        self.is_wide = is_wide
+        self.notes = notes
+
+    @property
+    def later(self) -> Token | None:
+        """The token behind the next one."""
+        place = self.next_index + 1
+        return self.all_tokens[place] if place < len(self.all_tokens) else None
+
+    def sees_after(self, *pieces: str) -> bool:
+        """Whether the token behind the next one is one of these symbols."""
+        later = self.later
+        return later is not None and later.kind == "symbol" and later.piece in pieces
+
+    def written(self, title: str, start: int) -> Written:
+        """The whole of it."""
+        starts = self.first_block()
+        head = [self.expect_kind("name")]
+        while self.sees("|"):
+            self.take()
+            head.append(self.expect_kind("name"))
+        self.expect(";")
+        rows = []
+        while not self.sees("~", "exists", "forall", "locations"):
+            rows.append(self.line())
+        while self.sees("locations"):
+            self.pass_locations()
+        condition = self.condition()
+        self.expect_kind("end")
+        return Written(self.is_wide, title, start, tuple(starts), tuple(head), tuple(rows), condition)
+
+    # the first block
+
+    def first_block(self) -> list[Equation]:
+        """The values at the start."""
+        found = []
+        self.expect("{")
+        while not self.sees("}"):
+            found.append(self.start_value())
+            if not self.sees("}"):
+                self.expect(";")
+        self.take()
+        return found
+
+    def start_value(self) -> Equation:
+        """The value of a location, or of a register, at the start; a type may stand before it."""
+        first = self.next
+        while self.next.kind == "name" and not self.sees_after("=", ";", "}"):
+            self.take()
+        if self.next.at != first.at:
+            self.notes.note(Beyond.TYPE, first.at)
+        token = self.next
+        variable = self.variable()
+        if variable.thread is not None:
+            self.notes.note(Beyond.START, token.at)
+        elif not self.sees("="):
+            if not self.sees(";", "}"):
+                raise self.refuse()
+            self.notes.note(Beyond.UNSET, token.at)
+            return Equation(variable, 0, token)
+        self.expect("=")
+        return Equation(variable, self.number(), token)
+
+    # the threads
+
+    def line(self) -> Row:
+        """A line of cells."""
+        cells = [self.instruction()]
+        while self.sees("|"):
+            self.take()
+            cells.append(self.instruction())
+        return Row(tuple(cells), self.expect(";"))
+
+    def instruction(self) -> Instruction | None:
+        """A cell, which may be empty."""
+        word = self.next
+        if word.kind != "name":
+            return None
+        if word.piece.upper() == "MFENCE":
+            self.take()
+            if word.piece != "MFENCE":
+                self.notes.note(Beyond.SPELLING, word.at)
+            return Instruction(word)
+        if word.piece.upper() == "LOCK":
+            if self.later is None or EXCHANGE.fullmatch(self.later.piece) is None:
+                return None
+            self.take()
+        is_exchange = EXCHANGE.fullmatch(self.next.piece) is not None
+        if not is_exchange and MOVE.fullmatch(self.next.piece) is None:
+            return None
+        return self.moved(word, self.take(), is_exchange)
+
+    def moved(self, first: Token, word: Token, is_exchange: bool) -> Instruction:
+        """What stands behind the word of an instruction. Where operands are marked, or a number is first, so is the
+        source."""
+        one = self.operand()
+        self.expect(",")
+        other = self.operand()
+        is_turned = one.kind is Kind.NUMBER or one.is_marked or other.is_marked
+        target, source = (other, one) if is_turned else (one, other)
+        kinds = target.kind, source.kind
+        if is_exchange:
+            if kinds == (Kind.REGISTER, Kind.LOCATION):
+                target, source = source, target
+            elif kinds != (Kind.LOCATION, Kind.REGISTER):
+                raise Fault("syntax", other.token.at)
+            self.notes.note(Beyond.EXCHANGE, first.at)
+        elif target.kind is Kind.NUMBER or source.kind is target.kind:
+            raise Fault("syntax", other.token.at)
+        elif is_turned or word.piece != "MOV":
+            self.notes.note(Beyond.SPELLING, first.at)
+        return Instruction(first, target, source, is_exchange)
+
+    def operand(self) -> Operand:
+        """A number, a location or a register."""
+        if self.sees("$"):
+            self.take()
+            return Operand(Kind.NUMBER, self.expect_kind("number"), False)
+        if self.sees("["):
+            return Operand(Kind.LOCATION, self.in_brackets(), False)
+        if self.sees("("):
+            self.take()
+            name = self.expect_kind("name")
+            self.expect(")")
+            return Operand(Kind.LOCATION, name, True)
+        is_marked = self.sees("%")
+        if is_marked:
+            self.take()
+        return Operand(Kind.REGISTER, self.register(), is_marked)
+
+    def register(self) -> Token:
+        """A register by the name that all its parts have."""
+        token = self.expect_kind("name")
+        return Token(token.kind, register_name(token.piece, self.is_wide), token.at)
+
+    # what stands behind them
+
+    def pass_locations(self) -> None:
+        """What herd is to print beside the condition's."""
+        self.notes.note(Beyond.LOCATIONS, self.take().at)
+        self.expect("[")
+        while not self.sees("]"):
+            self.variable()
+            if not self.sees("]"):
+                self.expect(";")
+        self.take()
+
+    def condition(self) -> Condition:
+        """The quantifier and the formula."""
+        first = self.next
+        quantifier = "forall" if self.sees("forall") else "exists"
+        if self.sees("~"):
+            self.take()
+            quantifier = "~exists"
+        self.expect(quantifier.lstrip("~"))
+        return Condition(quantifier, tuple(self.formula()), first)
+
+    def formula(self) -> list[Equation | Token]:
+        """Equations, constants and operators, each behind what it is of; what binds as strongly is read from the left."""
+        found: list[Equation | Token] = []
+        waiting: list[Token] = []
+        depth = 0
+        while True:
+            while self.sees("(") or self.sees_word(*NEGATIONS):
+                depth += self.sees("(")
+                waiting.append(self.take())
+            found.append(self.take() if self.sees_word(*CONSTANTS) else self.condition_equation())
+            while depth and self.sees(")"):
+                self.take()
+                depth -= 1
+                while waiting[-1].piece != "(":
+                    found.append(waiting.pop())
+                waiting.pop()
+            if not self.sees(*SIDES):
+                break
+            while waiting and BINDING.get(waiting[-1].piece, 0) >= BINDING[self.next.piece]:
+                found.append(waiting.pop())
+            waiting.append(self.take())
+        if depth:
+            raise self.refuse()
+        return [*found, *reversed(waiting)]
+
+    def sees_word(self, *words: str) -> bool:
+        """Whether one of these words comes next, and no location that is named so."""
+        return self.sees(*words) and not self.sees_after("=")
+
+    def condition_equation(self) -> Equation:
+        """One equation."""
+        token = self.next
+        variable = self.variable()
+        self.expect("=")
+        return Equation(variable, self.number(), token)
+
+    def variable(self) -> Variable:
+        """A register of a thread, or a location."""
+        if self.next.kind != "number":
+            return Variable(None, (self.in_brackets() if self.sees("[") else self.expect_kind("name")).piece)
+        thread = self.number()
+        self.expect(":")
+        if self.sees("%"):
+            self.take()
+        return Variable(thread, self.register().piece)
+
+
+def register_name(name: str, is_wide: bool) -> str:
+    """The name of a register in capitals; in X86_64 the parts of a register have the name of the whole."""
+    upper = name.upper()
+    if not is_wide:
+        return upper
+    found = NUMBERED.fullmatch(upper)
+    if found is not None:
+        return found[1]
+    found = LETTERED.fullmatch(upper)
+    return upper if found is None else "R" + found[1]

@@ -1,0 +1,200 @@
+"""Names the order that a model lacks, of an outcome that it shows. The program says all verdicts.
+
+    python3 tools mend MODEL TEST
+
+The exit status is 0 where an order is named that forbids the outcome and keeps what else the program does, 1 where there
+is none or the model does not show the outcome, 3 where a file is refused, 4 where one cannot be read, 5 where standard
+output could not be written, 7 where memory was refused, and 125 where this program fails.
+"""
+import os
+import signal
+import sys
+import tempfile
+from types import FrameType
+from typing import Iterator
+
+from tools import TOP
+from tools.mend.allowed import outcomes_allowed
+from tools.mend.asking import Questions, Unanswered, answer_of
+from tools.mend.copies import Names, Outcome, program_of
+from tools.mend.orders import Found, Search
+from tools.mend.suite_tests import SuiteTests
+from tools.mend.telling import MOST_CHOICES, MOST_SHOWN, MOST_STRONGER, TITLE, Telling
+from tools.second.listings import ENDING
+from tools.second.scopes import read_model
+from tools.second.standard_output import FAILED, UNREAD, status_of
+from tools.suite.allowing import Machines
+from tools.suite.calling import Calls, side_by_side
+from tools.suite.pairs import Checker
+from tools.suite.programs import checker_of
+from tools.suite.refusing import Interrupted, Refusal
+from tools.texts.address_names import case_with_names
+from tools.texts.memory_models import memory_model_of
+from tools.texts.naming import Names as ModelNames
+from tools.texts.wrapping import width_of_output, within
+
+LIMIT = 1_048_576
+# how long one call of the program may take, in seconds
+SECONDS = 60.0
+ENDING_SIGNALS = (signal.SIGHUP, signal.SIGINT, signal.SIGQUIT, signal.SIGTERM)
+# of `check`, and those of a call without an answer that stand for themselves
+SHOWN, NOT_SHOWN, REFUSED, NO_MEMORY = 0, 1, 3, 7
+
+
+class Said(Exception):
+    """The program says the answer itself: its status, and what it wrote."""
+
+    def __init__(self, status: int, text: str) -> None:
+        super().__init__(text)
+        self.status = status
+        self.text = text
+
+
+def contents(path: str) -> bytes:
+    """The bytes of a file, with one more than the limit where there are more."""
+    with open(path, "rb") as file:
+        return file.read(LIMIT + 1)
+
+
+def checked(questions_of: Checker, model_path: str, test_path: str) -> None:
+    """Has the program check the files; what is no verdict, and that nothing is to mend, is all that is said."""
+    word = "check86" if test_path.endswith(ENDING) else "check"
+    try:
+        said = answer_of(questions_of, word, model_path, test_path, statuses=(SHOWN, NOT_SHOWN))
+    except Unanswered as unanswered:
+        if unanswered.status in (REFUSED, NO_MEMORY):
+            raise Said(unanswered.status, unanswered.said.decode("ascii", "replace")) from unanswered
+        raise
+    if said.startswith(b"unobservable"):
+        raise Said(1, "The model does not show this outcome: there is nothing to mend. `core` says what forbids it.\n")
+
+
+class Mending:
+    """A model and a test whose outcome it shows."""
+
+    def __init__(self, checker: Checker, folder: str, model_text: bytes, test_path: str, test_text: bytes) -> None:
+        model = read_model(model_text)
+        case = case_with_names(test_path, test_text)
+        self.checker = checker
+        self.program = program_of(case)
+        self.questions = Questions(checker, folder, model, model_text, self.program, Names(model_text, test_text))
+        self.machines = Machines(TOP)
+        self.memory_model = memory_model_of(model_text).name
+        self.telling = Telling(ModelNames(model, case, model_text), self.program, self.memory_model)
+
+    def lines(self) -> tuple[list[str], int]:
+        """What is said, and the status."""
+        shown = list(self.questions.shown(self.questions.model_path))
+        stated = self.program.stated
+        others = [outcome for outcome in shown if outcome != stated]
+        allowed = None
+        if self.memory_model in self.machines.names:
+            allowed = outcomes_allowed(self.questions, self.machines, self.memory_model)
+        kept = others if allowed is None else [outcome for outcome in others if outcome in allowed]
+        is_allowed = None if allowed is None else stated in allowed
+        heading = [*self.telling.heading(is_allowed, len(others), len(kept)), ""]
+        if not kept:
+            return [*heading, "So no order can be told from one that forbids the whole program: take a test with more."], 1
+        found = Search(self.questions, stated, kept).found()
+        lines = [*heading, *self.orders(found, kept)]
+        is_mended = bool(found.choices) or any(not order.lost for order in found.orders)
+        return [*lines, f"The program was asked {self.questions.count} times."], 0 if is_mended else 1
+
+    def orders(self, found: Found, kept: list[Outcome]) -> Iterator[str]:
+        """The orders, the first of them with their axioms, and then those that order more."""
+        if found.choices:
+            yield "No order of two nodes forbids it and keeps all of these. These choices do:"
+        elif not found.orders:
+            yield "No order of two nodes forbids it and keeps some other outcome."
+        elif found.orders[0].lost:
+            yield "No order forbids it and keeps all of these. The ones that lose the fewest:"
+        else:
+            yield "Each of these orders forbids it and keeps all of these; the nearest first:"
+        yield ""
+        is_counted = bool(found.orders or found.choices)
+        tests = SuiteTests(self.checker, TOP, self.memory_model, self.questions.model_path) if is_counted else None
+        for choice in found.choices[:MOST_CHOICES]:
+            yield from self.telling.choice(choice)
+            yield from self.axiom(choice.axiom(self.questions.model, TITLE), tests, kept)
+            yield ""
+        for order in found.orders[:MOST_SHOWN]:
+            yield self.telling.order(order)
+            yield from self.telling.lost(order)
+            if order.relation is not None:
+                yield from self.axiom(order.relation.axiom(self.questions.model, TITLE), tests, kept)
+            yield ""
+        more = [*found.orders[MOST_SHOWN:], *found.stronger]
+        if more:
+            yield "These do it as well, and most of them order more:"
+            yield from (f"    {self.telling.order(order)}" for order in more[:MOST_STRONGER])
+            if len(more) > MOST_STRONGER:
+                yield f"    and {len(more) - MOST_STRONGER} more"
+            yield ""
+
+    def axiom(self, lines: list[str], tests: SuiteTests | None, kept: list[Outcome]) -> Iterator[str]:
+        """An axiom, with what it does to the program and to the shipped tests."""
+        path = self.questions.model_with("\n".join(lines))
+        shown = set(self.questions.shown(path))
+        counts = tests.counts(path) if tests is not None and tests.is_known else None
+        yield from self.telling.axiom(lines, sum(outcome in shown for outcome in kept), len(kept), counts)
+
+
+def answer(model_path: str, test_path: str) -> tuple[list[str], int]:
+    """What is said of the files, and the status."""
+    model_text, test_text = contents(model_path), contents(test_path)
+    calls = Calls()
+    checker = checker_of(os.environ, TOP, SECONDS, calls)
+    with tempfile.TemporaryDirectory() as folder:
+        paths = os.path.join(folder, "given.uspec"), os.path.join(folder, f"given{os.path.splitext(test_path)[1]}")
+        for path, text in zip(paths, (model_text, test_text)):
+            with open(path, "wb") as file:
+                file.write(text)
+
+        def work() -> tuple[list[str], int]:
+            checked(checker, *paths)
+            return Mending(checker, folder, model_text, test_path, test_text).lines()
+
+        # a signal comes to this thread, and ends the calls of the other one
+        (said,) = side_by_side(calls, 1, [work], lambda _, __: None)
+    return said
+
+
+def main(model_path: str, test_path: str) -> int:
+    """Writes what is said of the files, and answers the exit status."""
+    try:
+        lines, status = answer(model_path, test_path)
+    except Said as said:
+        print(said.text, end="")
+        return said.status
+    except (Refusal, Unanswered) as problem:
+        print(f"pipecheck: {str(problem).removeprefix('suite: ')}", file=sys.stderr)
+        return FAILED
+    except OSError as error:
+        return UNREAD if error.filename in (model_path, test_path) else unkept(error)
+    except Interrupted as interrupted:
+        signal.signal(interrupted.number, signal.SIG_DFL)
+        os.kill(os.getpid(), interrupted.number)
+        return FAILED
+    for line in within(lines, width_of_output()):
+        print(line)
+    return status
+
+
+def unkept(error: OSError) -> int:
+    """That a temporary file could not be made."""
+    print(f"pipecheck: mend: {error.strerror}; TMPDIR names another folder for temporary files", file=sys.stderr)
+    return FAILED
+
+
+def interrupt(number: int, _: FrameType | None) -> None:
+    """Ends this program, once."""
+    for other in ENDING_SIGNALS:
+        signal.signal(other, signal.SIG_IGN)
+    raise Interrupted(number)
+
+
+if __name__ == "__main__":
+    for signal_number in ENDING_SIGNALS:
+        if signal.getsignal(signal_number) is not signal.SIG_IGN:
+            signal.signal(signal_number, interrupt)
+    sys.exit(status_of(main, sys.argv[1:]))

@@ -1,0 +1,169 @@
+"""What two nodes have to do with each other, in the words of the model: so that what is said of one pair can be said of
+all pairs like it.
+"""
+from dataclasses import dataclass
+from typing import Iterator
+
+from tools.lint.asked import Asked
+from tools.mend.worlds import Edge
+from tools.second.cases import Case
+from tools.second.grounding import Node
+from tools.second.models import Axiom, Edges, Formula, Macro, Model, NodeTerm, Nodes, Number
+from tools.second.predicates import MICROOP, PREDICATES
+from tools.second.scopes import parts
+
+# the micro-ops of an edge, as variables, and the core of the other one
+FIRST, SECOND, CORE = "i", "j", "c"
+# the core of a node, where it is no number: that of its micro-op, and that of the other one
+OWN, OTHERS = -1, -2
+CONJUNCTION = " /\\ "
+
+
+@dataclass(frozen=True)
+class Premise:
+    """A static predicate with its arguments, or its denial."""
+
+    predicate: str
+    args: tuple[str, ...]
+    is_wanted: bool = True
+
+    @property
+    def text(self) -> str:
+        """The premise as a model writes it."""
+        return ("" if self.is_wanted else "~") + " ".join([self.predicate, *self.args])
+
+    def holds(self, case: Case, first: int, second: int) -> bool:
+        """Whether it holds of two micro-ops."""
+        takes, test = PREDICATES[self.predicate]
+        ops = {FIRST: first, SECOND: second}
+        args = (ops[arg] if kind == MICROOP else arg for kind, arg in zip(takes, self.args))
+        return test(case, *args) is self.is_wanted
+
+
+@dataclass(frozen=True)
+class Place:
+    """The stage of a node by its number, and the core."""
+
+    stage: int
+    core: int
+
+    def node(self, case: Case, op: int, other: int) -> Node:
+        """The node of a micro-op there."""
+        cores = {OWN: case.ops[op].core, OTHERS: case.ops[other].core}
+        return op, cores.get(self.core, self.core), self.stage
+
+
+@dataclass(frozen=True)
+class Relation:
+    """All pairs of nodes in two places whose micro-ops, which may be one, meet the premises."""
+
+    premises: tuple[Premise, ...]
+    start: Place
+    end: Place
+    is_of_one: bool
+
+    def edges(self, case: Case) -> Iterator[Edge]:
+        """These pairs in a test."""
+        count = range(len(case.ops))
+        for first in count:
+            for second in [first] if self.is_of_one else count:
+                if (self.is_of_one or first != second) and all(it.holds(case, first, second) for it in self.premises):
+                    yield self.start.node(case, first, second), self.end.node(case, second, first)
+
+    def axiom(self, model: Model, title: str) -> list[str]:
+        """The axiom that has the first node of each pair before the second, in lines."""
+        stages = {stage.number.value: stage.name.name for stage in model.stages}
+        second = FIRST if self.is_of_one else SECOND
+        variables = [f'forall microops "{name}",' for name in dict.fromkeys((FIRST, second))]
+        given = [premise.text for premise in self.premises]
+        for place, other in ((self.start, second), (self.end, FIRST)):
+            if place.core == OTHERS:
+                variables += [f'forall cores "{CORE}",']
+                given.append(f"OnCore {CORE} {other}")
+        ends = ", ".join(
+            f"({op}, {stages[place.stage]})" if place.core == OWN
+            else f"({op}, ({CORE if place.core == OTHERS else place.core}, {stages[place.stage]}))"
+            for op, place in ((FIRST, self.start), (second, self.end))
+        )
+        return [
+            f'Axiom "{title}": {" ".join(variables)}',
+            f"  {CONJUNCTION.join(given)} =>",
+            f'  AddEdge ({ends}, "{title}").',
+        ]
+
+
+class Relations:
+    """The relations of pairs of nodes in a test."""
+
+    def __init__(self, model: Model, case: Case) -> None:
+        self.case = case
+        self.asked = Asked(model)
+        # of each stage the cores at which the model names nodes of it
+        self.cores: dict[str, set[int]] = {}
+        for item in model.items:
+            for node in nodes_of(item):
+                core = node.core.value if isinstance(node.core, Number) else OWN if node.core is None else OTHERS
+                self.cores.setdefault(node.stage.name, set()).add(core)
+        self.stages = {stage.number.value: stage.name.name for stage in model.stages}
+
+    def of(self, edge: Edge, case: Case | None = None) -> Relation | None:
+        """The relation of two nodes; in a test that states what reads get, with what they get. There is none where a
+        node stands at a core that the model does not name in such a way."""
+        (first, _, _), (second, _, _) = edge
+        start, end = self.place(edge[0], second), self.place(edge[1], first)
+        if start is None or end is None or start.core == end.core == OTHERS:
+            return None
+        premises = [*self.kinds(first, FIRST)]
+        if first != second:
+            premises += [*self.kinds(second, SECOND), *self.between(first, second)]
+        if case is not None:
+            premises += self.values(case, first, second)
+        return Relation(tuple(premises), start, end, first == second)
+
+    def place(self, node: Node, other: int) -> Place | None:
+        """Where a node stands."""
+        op, core, stage = node
+        named = self.cores.get(self.stages[stage], set())
+        if core == self.case.ops[op].core and (OWN in named or core not in named):
+            return Place(stage, OWN)
+        if core in named:
+            return Place(stage, core)
+        return Place(stage, OTHERS) if OTHERS in named and core == self.case.ops[other].core else None
+
+    def kinds(self, op: int, name: str) -> Iterator[Premise]:
+        """What a micro-op is."""
+        yield Premise(f"IsAny{self.case.ops[op].access}", (name,))
+        yield from (Premise("AccessType", (word, name)) for word in sorted(self.case.ops[op].types & self.asked.types.keys()))
+
+    def between(self, first: int, second: int) -> Iterator[Premise]:
+        """How two micro-ops stand to each other."""
+        both = FIRST, SECOND
+        ways = [Premise("ProgramOrder", both), Premise("ProgramOrder", both[::-1]), Premise("SameInstruction", both)]
+        ways += [Premise("SameCore", both), Premise("SameCore", both, False)]
+        yield next(way for way in ways if way.holds(self.case, first, second))
+        asked = [Premise("SamePhysicalAddress", both)]
+        asked += [Premise("HasDependency", (kind, *both)) for kind in sorted(self.asked.kinds)]
+        yield from (premise for premise in asked if premise.holds(self.case, first, second))
+
+    def values(self, case: Case, first: int, second: int) -> Iterator[Premise]:
+        """What the reads among them get."""
+        for op, name in dict(((first, FIRST), (second, SECOND))).items():
+            initial = Premise("DataFromInitialStateAtPA", (name if op == first else SECOND,))
+            if case.ops[op].access == "Read" and initial.holds(case, first, second):
+                yield initial
+        if first != second and Premise("SamePhysicalAddress", (FIRST, SECOND)).holds(case, first, second):
+            same = Premise("SameData", (FIRST, SECOND))
+            yield same if same.holds(case, first, second) else Premise("SameData", (FIRST, SECOND), False)
+
+
+def nodes_of(item: Axiom | Macro) -> Iterator[NodeTerm]:
+    """The nodes that an axiom or a macro names itself."""
+    waiting: list[Formula] = [item.body]
+    while waiting:
+        formula = waiting.pop()
+        waiting += parts(formula)
+        if isinstance(formula, Nodes):
+            yield from formula.members
+        elif isinstance(formula, Edges):
+            for edge in formula.members:
+                yield from (edge.start, edge.end)

@@ -1,0 +1,1 @@
+"""What the pages have of the crates and of the definitions that have to be believed."""

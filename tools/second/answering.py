@@ -1,0 +1,271 @@
+"""The answer as the program is to word it: a search that makes the program's choices, down to the certificate.
+
+`searching.py` decides by a way of its own. This module is there for the text: which graph of several is written, and
+which refutation. The choices are these.
+
+1. Asserting a position asserts its literals in preorder. A disjunction becomes pending until it is split on this
+   branch. The first clash closes the branch.
+2. An edge clashes where its first end is denied; where its second end is; where it closes a cycle; where it joins the
+   ends of a denied edge, the first denied one of several. A chain is a shortest one, and of several, read from their
+   start, the one with the lowest node number where they first differ.
+3. A pending disjunction is a candidate where the world of the asserted literals does not make it true. The first
+   candidate in position order is split that has a closed side. Until the first failure a side is closed where asserting
+   it in trial gives a clash, and from then on where one of its literals would clash by itself. Where no side is closed,
+   the first candidate is split before any failure, and after one the first with no alternative that is not as good as
+   closed, else the first with one (`closing.py`), and else the one that failures ask for (`conflicts.py`): of those
+   that failed last, the one with the fewest alternatives that are not closed, of several the one that failed most often,
+   of several the first. A failure that is replayed comes before all of this. The left member is searched first. Without
+   a candidate the outcome is observable.
+
+In version 2 positions have signs, as in `judging.py`. The right side of a split asserts first that the left member does not
+hold, and rule 3 asks it so. A denied conjunction is a choice as a disjunction is one, and a candidate where the world makes
+it true. A candidate both of whose sides are closed comes before one with one such side.
+"""
+from dataclasses import dataclass
+
+from tools.second.closing import Alternatives
+from tools.second.conflicts import Failures
+from tools.second.judging import Signed
+from tools.second.positions import Inner, Leaf, Positions
+
+
+@dataclass(frozen=True)
+class Clash:
+    """The line that closes a branch: `cycle`, `path` or `absent` with its nodes."""
+
+    word: str
+    nodes: list[int]
+
+
+@dataclass(frozen=True)
+class Graph:
+    """The present nodes by number, and the asserted edges in the order of first assertion."""
+
+    nodes: list[int]
+    edges: list[tuple[int, int]]
+
+
+Step = Signed | Clash
+
+
+def answer(positions: Positions, version: int = 1) -> Graph | list[Step]:
+    """The graph of an observable outcome, or the steps of a refutation: signed positions of splits, and clashes. The steps
+    of a tree that is False are none."""
+    if positions.constant is not None:
+        return Graph([], []) if positions.constant else []
+    steps: list[Step] = []
+    # the right sides of the splits above, the nearest one last
+    waiting: list[tuple[Branch, list[Signed]]] = []
+    failures = Failures()
+    branch = Branch(positions, version)
+    clash = branch.assert_side([(0, False)], 0)
+    while True:
+        if clash is not None:
+            steps.append(clash)
+            if not waiting:
+                return steps
+            failures.learn(branch.levels_of(clash))
+            branch, side = waiting.pop()
+            clash = branch.assert_side(side, failures.level)
+            continue
+        chosen = branch.choice(failures)
+        if chosen is None:
+            return branch.graph()
+        steps.append(chosen)
+        failures.split(chosen, branch.pending.pop(chosen))
+        left, right = branch.sides(chosen)
+        waiting.append((branch.copy(), right))
+        clash = branch.assert_side(left, failures.level)
+
+
+class Branch:
+    """What is asserted on a branch, at which levels, and the order that it generates; sets of nodes are bit sets."""
+
+    def __init__(self, positions: Positions, version: int) -> None:
+        self.positions = positions
+        self.version = version
+        self.alternatives = Alternatives(positions)
+        self.after = [0] * len(positions.nodes)
+        self.before = [0] * len(positions.nodes)
+        self.present = 0
+        self.absent = 0
+        # denied edges and edges with the levels at which they were asserted first, and nodes with the level of what says
+        # first whether they are there
+        self.denied: dict[tuple[int, int], int] = {}
+        self.edges: dict[tuple[int, int], int] = {}
+        self.told: dict[int, int] = {}
+        self.pending: dict[Signed, int] = {}
+
+    def copy(self) -> "Branch":
+        """A branch that begins with all of this one."""
+        other = Branch(self.positions, self.version)
+        other.alternatives = self.alternatives
+        other.after, other.before = self.after[:], self.before[:]
+        other.present, other.absent = self.present, self.absent
+        other.denied, other.edges, other.told = dict(self.denied), dict(self.edges), dict(self.told)
+        other.pending = dict(self.pending)
+        return other
+
+    def graph(self) -> Graph:
+        """The world of the asserted literals."""
+        nodes = [k for k in range(len(self.after)) if self.present >> k & 1]
+        return Graph(nodes, list(self.edges))
+
+    def sides(self, choice: Signed) -> tuple[list[Signed], list[Signed]]:
+        """What the left and the right side of a split assert, in this order."""
+        position, is_denied = choice
+        row = self.positions.rows[position]
+        assert isinstance(row, Inner)
+        not_left = [(row.left, not is_denied)] if self.version == 2 else []
+        return [(row.left, is_denied)], [*not_left, (row.right, is_denied)]
+
+    def assert_side(self, side: list[Signed], level: int) -> Clash | None:
+        """Asserts all that these positions assert, in preorder, at this level, up to the first clash."""
+        waiting = side[::-1]
+        while waiting:
+            here, is_denied = waiting.pop()
+            row = self.positions.rows[here]
+            if isinstance(row, Leaf):
+                clash = self.assert_literal(Leaf(row.start, row.end, row.wanted is not is_denied), level)
+                if clash is not None:
+                    return clash
+            elif row.is_disjunction is not is_denied:
+                self.pending[here, is_denied] = level
+            else:
+                waiting += [(row.right, is_denied), (row.left, is_denied)]
+        return None
+
+    def assert_literal(self, leaf: Leaf, level: int) -> Clash | None:
+        """Asserts a literal, where it does not clash."""
+        if leaf.end is None:
+            return self.assert_node(leaf, level)
+        clash = self.clash_of_edge(leaf.start, leaf.end, leaf.wanted)
+        if clash is None and leaf.wanted:
+            self.join(leaf.start, leaf.end, level)
+        elif clash is None:
+            self.denied.setdefault((leaf.start, leaf.end), level)
+        return clash
+
+    def assert_node(self, leaf: Leaf, level: int) -> Clash | None:
+        """Asserts that a node is there, or that it is not."""
+        against = self.absent if leaf.wanted else self.present
+        if against >> leaf.start & 1:
+            return Clash("absent", [leaf.start])
+        self.told.setdefault(leaf.start, level)
+        if leaf.wanted:
+            self.present |= 1 << leaf.start
+        else:
+            self.absent |= 1 << leaf.start
+        return None
+
+    def clash_of_edge(self, start: int, end: int, wanted: bool) -> Clash | None:
+        """The first of the clashes of an edge, or the one of a denied edge."""
+        if not wanted:
+            is_joined = self.after[start] >> end & 1
+            return Clash("path", self.chain(start, end)) if is_joined else None
+        for node in (start, end):
+            if self.absent >> node & 1:
+                return Clash("absent", [node])
+        if start == end or self.after[end] >> start & 1:
+            return Clash("cycle", self.chain(end, start))
+        earlier, later = self.before[start] | 1 << start, self.after[end] | 1 << end
+        for first, last in self.denied:
+            if earlier >> first & 1 and later >> last & 1:
+                return Clash("path", self.chain(first, start) + self.chain(end, last))
+        return None
+
+    def levels_of(self, clash: Clash) -> set[int]:
+        """The levels of the literals that clash, but for that of the one that was not asserted."""
+        if clash.word == "absent":
+            return {self.told[clash.nodes[0]]} if clash.nodes[0] in self.told else set()
+        chain = list(zip(clash.nodes, clash.nodes[1:]))
+        ends = clash.nodes[0], clash.nodes[-1]
+        if clash.word == "path":
+            return {self.edges[edge] for edge in chain if edge in self.edges} | {self.denied.get(ends, 0)}
+        return {self.edges[edge] for edge in [*chain, ends[::-1]] if edge in self.edges}
+
+    def join(self, start: int, end: int, level: int) -> None:
+        """Puts the end, and all after it, after the start and all before it."""
+        self.edges.setdefault((start, end), level)
+        self.told.setdefault(start, level)
+        self.told.setdefault(end, level)
+        self.present |= 1 << start | 1 << end
+        earlier, later = self.before[start] | 1 << start, self.after[end] | 1 << end
+        for node in range(len(self.after)):
+            if earlier >> node & 1:
+                self.after[node] |= later
+            if later >> node & 1:
+                self.before[node] |= earlier
+
+    def chain(self, start: int, end: int) -> list[int]:
+        """The shortest chain of edges that rule 2 takes; one node where both ends are one."""
+        distance = {end: 0}
+        waiting = [end]
+        for here in waiting:
+            for first, last in self.edges:
+                if last == here and first not in distance:
+                    distance[first] = distance[here] + 1
+                    waiting.append(first)
+        chain = [start]
+        while chain[-1] != end:
+            nearer = distance[chain[-1]] - 1
+            chain.append(min(b for a, b in self.edges if a == chain[-1] and distance.get(b) == nearer))
+        return chain
+
+    def is_true(self, position: int) -> bool:
+        """Whether the world of the asserted literals makes a position true."""
+        row = self.positions.rows[position]
+        while isinstance(row, Inner):
+            if self.is_true(row.left) is row.is_disjunction:
+                return row.is_disjunction
+            row = self.positions.rows[row.right]
+        if row.end is None:
+            return bool(self.present >> row.start & 1) is row.wanted
+        return bool(self.after[row.start] >> row.end & 1) is row.wanted
+
+    def would_clash(self, leaf: Leaf) -> bool:
+        """Whether a literal would close the branch."""
+        if leaf.end is None:
+            return bool((self.absent if leaf.wanted else self.present) >> leaf.start & 1)
+        if not leaf.wanted:
+            return bool(self.after[leaf.start] >> leaf.end & 1)
+        if self.comes_to(leaf.end, leaf.start) or self.absent & (1 << leaf.start | 1 << leaf.end):
+            return True
+        return any(self.comes_to(first, leaf.start) and self.comes_to(leaf.end, last) for first, last in self.denied)
+
+    def comes_to(self, start: int, end: int) -> bool:
+        """Whether both nodes are one, or a chain leads from the first to the second."""
+        return start == end or bool(self.after[start] >> end & 1)
+
+    def is_closed(self, side: list[Signed], has_failed: bool) -> bool:
+        """Whether a side is closed at once."""
+        if has_failed:
+            return any(self.alternatives.is_closed(self, place) for place in side)
+        return self.copy().assert_side(side, 0) is not None
+
+    def is_candidate(self, choice: Signed) -> bool:
+        """Whether a pending choice is not decided by the world of the asserted literals."""
+        return choice in self.pending and self.is_true(choice[0]) is choice[1]
+
+    def choice(self, failures: Failures) -> Signed | None:
+        """The choice that is split next; None where none is a candidate."""
+        if failures.guide is not None and self.is_candidate(failures.guide.choice):
+            return failures.guide.choice
+        candidates = [choice for choice in sorted(self.pending) if self.is_candidate(choice)]
+        one_sided = None
+        for choice in candidates:
+            closed = [self.is_closed(side, failures.count > 0) for side in self.sides(choice)]
+            if all(closed) or (self.version == 1 and any(closed)):
+                return choice
+            if any(closed) and one_sided is None:
+                one_sided = choice
+        if one_sided is not None or not candidates:
+            return one_sided
+        return self.choice_by_failures(candidates, failures) if failures.count else candidates[0]
+
+    def choice_by_failures(self, candidates: list[Signed], failures: Failures) -> Signed:
+        """Which of the candidates is split, none of which has a closed side, where something has failed."""
+        forced = self.alternatives.forced(self, candidates)
+        if forced is not None:
+            return forced
+        return min(failures.newest(candidates), key=lambda it: (self.alternatives.open_count(self, it), -failures.number(it)))

@@ -1,0 +1,346 @@
+"""Tokens to what a litmus test says, by docs/tests.md."""
+from dataclasses import dataclass, field
+
+from tools.second.tokens import Fault, Reader, Token, tokens
+
+GREATEST_CORE = 63
+MOST_OPS = 64
+GREATEST_MARK = 1
+# stands for the number of a read that a pattern leaves open
+OPEN = "Any"
+
+
+@dataclass(frozen=True)
+class Page:
+    """An address: a tag, and an index inside the page."""
+
+    tag: int
+    index: int
+
+    def __str__(self) -> str:
+        return f"PA {self.tag} {self.index}"
+
+
+@dataclass(frozen=True)
+class Location(Page):
+    """An address that a listing names."""
+
+    name: str = field(default="", compare=False)
+
+    def __str__(self) -> str:
+        return self.name
+
+
+@dataclass(frozen=True)
+class EntryAddress:
+    """The address of the page-table entry of a virtual tag."""
+
+    tag: int
+
+    def __str__(self) -> str:
+        return f"Entry {self.tag}"
+
+
+@dataclass(frozen=True)
+class Entry:
+    """What a page-table entry holds: the physical tag that it maps to, its accessed mark and its dirty mark."""
+
+    tag: int
+    accessed: int
+    dirty: int
+
+    def __str__(self) -> str:
+        return f"Maps {self.tag} {self.accessed} {self.dirty}"
+
+
+# a physical address, and what is read or written there
+Address = Page | EntryAddress
+Value = int | Entry
+
+
+@dataclass(frozen=True)
+class Op:
+    """A micro-op. A fence has no addresses and no value."""
+
+    g: int
+    n: int
+    core: int
+    thread: int
+    access: str
+    types: frozenset[str]
+    va: Page | None = None
+    pa: Address | None = None
+    value: Value | None = None
+
+
+@dataclass
+class Case:
+    """What a test says. Micro-ops stand in test order and are named by their places in it."""
+
+    title: str
+    ops: list[Op] = field(default_factory=list)
+    dependencies: set[tuple[str, int, int]] = field(default_factory=set)
+    initial: dict[Address, Value] = field(default_factory=dict)
+    final: dict[Address, Value] = field(default_factory=dict)
+    expectation: str = "unstated"
+    # what comments call addresses, where that was looked for
+    names: dict[Address, str] = field(default_factory=dict, compare=False)
+
+    @property
+    def cores(self) -> range:
+        """The cores from 0 to the greatest one in use."""
+        return range(1 + max((op.core for op in self.ops), default=-1))
+
+    def initial_at(self, address: Address) -> Value:
+        """The value at the start: without a line 0 at a page, and at the entry of a tag that very tag without marks."""
+        default: Value = 0 if isinstance(address, Page) else Entry(address.tag, 0, 0)
+        return self.initial.get(address, default)
+
+    def find(self, g: int, n: int) -> int | None:
+        """The place of a micro-op, where the test has it so far."""
+        for k, op in enumerate(self.ops):
+            if (op.g, op.n) == (g, n):
+                return k
+        return None
+
+
+def read_case(data: bytes) -> Case:
+    """The case that the bytes say, or their first fault."""
+    return read_items(data)[0]
+
+
+def read_items(data: bytes, takes_open: bool = False) -> "tuple[Case, list[Item]]":
+    """The case, with its items as they are written. The whole grammar is judged before any item. A pattern takes open
+    reads, too."""
+    reader = CaseReader(tokens(data), takes_open)
+    title, items = reader.items()
+    case = Case(title)
+    for item in items:
+        item.add_to(case)
+    return case, items
+
+
+@dataclass(frozen=True)
+class MarkAt:
+    """A mark of an entry, with its place."""
+
+    mark: int
+    at: int
+
+
+def judge_marks(marks: tuple[MarkAt, ...]) -> None:
+    """The marks of an item are 0 or 1, the accessed one first. It is the last that is asked of the item."""
+    for mark in marks:
+        if mark.mark > GREATEST_MARK:
+            raise Fault("mark-value", mark.at)
+
+
+@dataclass(frozen=True)
+class OpItem:
+    """A `Microop`, with the places where its faults stand, and of what a reader may want to see."""
+
+    op: Op
+    at: int
+    g_at: int
+    core_at: int
+    thread_at: int
+    # each type name with its place
+    types_at: tuple[tuple[str, int], ...] = ()
+    pa_at: int = 0
+    value_at: int = 0
+    marks: tuple[MarkAt, ...] = ()
+    # whether a pattern leaves the value open; it is 0 then
+    is_open: bool = False
+
+    def add_to(self, case: Case) -> None:
+        """Judges the micro-op by the earlier ones and puts it last."""
+        if self.op.core > GREATEST_CORE:
+            raise Fault("core-number", self.core_at)
+        if len(case.ops) == MOST_OPS:
+            raise Fault("too-many-ops", self.at)
+        for earlier in case.ops:
+            if earlier.g == self.op.g and earlier.core != self.op.core:
+                raise Fault("split-instruction", self.core_at)
+            if earlier.g == self.op.g and earlier.thread != self.op.thread:
+                raise Fault("split-instruction", self.thread_at)
+        if case.find(self.op.g, self.op.n) is not None:
+            raise Fault("duplicate-op", self.g_at)
+        judge_marks(self.marks)
+        case.ops.append(self.op)
+
+
+@dataclass(frozen=True)
+class DependencyItem:
+    """A `Relationship`; each end is g, n and the place of g."""
+
+    kind: str
+    ends: tuple[tuple[int, int, int], tuple[int, int, int]]
+    at: int = 0
+
+    def add_to(self, case: Case) -> None:
+        """Judges the ends, the first one first."""
+        found = []
+        for g, n, at in self.ends:
+            op = case.find(g, n)
+            if op is None:
+                raise Fault("op-unknown", at)
+            found.append(op)
+        case.dependencies.add((self.kind, found[0], found[1]))
+
+
+@dataclass(frozen=True)
+class ValueItem:
+    """An `Init` or a `Final`."""
+
+    word: str
+    at: int
+    pa: Address
+    value: Value
+    marks: tuple[MarkAt, ...] = ()
+
+    def add_to(self, case: Case) -> None:
+        """A second value at one address is a fault."""
+        values, fault = {"Init": (case.initial, "again-initial"), "Final": (case.final, "again-final")}[self.word]
+        if self.pa in values:
+            raise Fault(fault, self.at)
+        judge_marks(self.marks)
+        values[self.pa] = self.value
+
+
+@dataclass(frozen=True)
+class ExpectationItem:
+    """`Permitted` or `Forbidden`."""
+
+    word: str
+    at: int
+
+    def add_to(self, case: Case) -> None:
+        """A second one is a fault."""
+        if case.expectation != "unstated":
+            raise Fault("again-expectation", self.at)
+        case.expectation = self.word.lower()
+
+
+Item = OpItem | DependencyItem | ValueItem | ExpectationItem
+
+
+class CaseReader(Reader):
+    """Reads tests. None of their words is reserved: its place says what it is. A file that begins with `Litmus2` may have
+    page-table entries as addresses and values, one that begins with `Litmus` may not. Where open reads are taken, a read may
+    have `Any` for its number."""
+
+    def __init__(self, all_tokens: list[Token], takes_open: bool = False) -> None:
+        super().__init__(all_tokens)
+        self.takes_open = takes_open
+        self.has_entries = False
+
+    def items(self) -> tuple[str, list[Item]]:
+        """The title and the items of the whole file."""
+        self.has_entries = self.expect("Litmus", "Litmus2").piece == "Litmus2"
+        title = self.expect_kind("text").content
+        self.expect(".")
+        found = []
+        while self.next.kind != "end":
+            found.append(self.item())
+            self.expect(".")
+        return title, found
+
+    def item(self) -> Item:
+        """One item without its dot."""
+        first = self.expect("Microop", "Relationship", "Init", "Final", "Permitted", "Forbidden")
+        if first.piece == "Microop":
+            return self.microop(first)
+        if first.piece == "Relationship":
+            kind = self.expect_kind("name")
+            start = self.op_name()
+            self.expect("->")
+            return DependencyItem(kind.piece, (start, self.op_name()), kind.at)
+        if first.piece in ("Init", "Final"):
+            address = self.address()
+            if self.has_entries and self.sees("("):
+                self.take()
+                self.expect("Maps")
+                entry, marks = self.entry()
+                return ValueItem(first.piece, first.at, address, entry, marks)
+            return ValueItem(first.piece, first.at, address, self.number())
+        return ExpectationItem(first.piece, first.at)
+
+    def op_name(self) -> tuple[int, int, int]:
+        """g, n and the place of g."""
+        at = self.next.at
+        g = self.number()
+        return g, self.number(), at
+
+    def page(self, word: str) -> Page:
+        """A page after its word, in brackets."""
+        self.expect("(")
+        self.expect(word)
+        tag = self.number()
+        index = self.number()
+        self.expect(")")
+        return Page(tag, index)
+
+    def address(self) -> Address:
+        """A physical address, in brackets."""
+        self.expect("(")
+        word = self.expect("PA", "Entry") if self.has_entries else self.expect("PA")
+        tag = self.number()
+        address: Address = EntryAddress(tag) if word.piece == "Entry" else Page(tag, self.number())
+        self.expect(")")
+        return address
+
+    def entry(self) -> tuple[Entry, tuple[MarkAt, ...]]:
+        """An entry after its word, up to its bracket, and its marks with their places."""
+        tag = self.number()
+        marks = []
+        for _ in range(2):
+            at = self.next.at
+            marks.append(MarkAt(self.number(), at))
+        self.expect(")")
+        return Entry(tag, marks[0].mark, marks[1].mark), tuple(marks)
+
+    def types(self) -> tuple[tuple[str, int], ...]:
+        """All names that follow, with their places."""
+        found = []
+        while self.sees_kind("name"):
+            token = self.take()
+            found.append((token.piece, token.at))
+        return tuple(found)
+
+    def microop(self, first: Token) -> OpItem:
+        """A micro-op, after its first word."""
+        g_at = self.next.at
+        g = self.number()
+        core_at = self.next.at
+        core = self.number()
+        thread_at = self.next.at
+        thread = self.number()
+        n = self.number()
+        self.expect("(")
+        access = self.expect("Read", "Write", "Fence").piece
+        types_at = self.types()
+        types = frozenset(name for name, _ in types_at)
+        pa_at = value_at = 0
+        is_open = False
+        marks: tuple[MarkAt, ...] = ()
+        if access == "Fence":
+            op = Op(g, n, core, thread, access, types)
+        else:
+            va = self.page("VA")
+            pa_at = self.next.at
+            pa = self.address()
+            self.expect("(")
+            word = self.expect("Data", "Maps") if self.has_entries else self.expect("Data")
+            value_at = self.next.at
+            value: Value
+            if word.piece == "Maps":
+                value, marks = self.entry()
+            else:
+                is_open = self.takes_open and access == "Read" and self.sees(OPEN)
+                value = 0 if is_open else self.number()
+                if is_open:
+                    self.take()
+                self.expect(")")
+            op = Op(g, n, core, thread, access, types, va, pa, value)
+        self.expect(")")
+        return OpItem(op, first.at, g_at, core_at, thread_at, types_at, pa_at, value_at, marks, is_open)

@@ -1,0 +1,314 @@
+"""Herd's X86 listings: bytes to the case that a listing says, by docs/tests.md."""
+import re
+from dataclasses import dataclass
+
+from tools.second.cases import GREATEST_CORE, MOST_OPS, Case, ExpectationItem, Item, Location, Op, OpItem, ValueItem, read_items
+from tools.second.patterns import ENDING as PATTERN_ENDING
+from tools.second.patterns import read_pattern_items
+from tools.second.tokens import Fault, Reader, Token, tokens
+
+# the ending of a file that is read as a listing where no command says how
+ENDING = ".litmus"
+BLANKS = b" \t\r"
+FIRST_LINE = re.compile(rb"X86 +([^ \t\r\n]+)[ \t\r]*(?:\n|\Z)")
+PIECE = re.compile(
+    rb"""(?P<blank>[ \t\r\n]+)
+       | (?P<comment>\(\*.*?\*\))
+       | (?P<name>[A-Za-z][A-Za-z0-9_]*)
+       | (?P<number>[0-9]+)
+       | (?P<symbol>/\\|\((?!\*)|[{};|\[\],$:=)~])""",
+    re.VERBOSE | re.DOTALL,
+)
+
+
+@dataclass(frozen=True)
+class Instruction:
+    """What stands in a cell: its word, and of a store or a load the location; a store has a number, a load a register."""
+
+    word: Token
+    location: Token | None = None
+    number: Token | None = None
+    register: Token | None = None
+
+
+@dataclass(frozen=True)
+class Row:
+    """The cells of a line, and the `;` after them."""
+
+    cells: tuple[Instruction | None, ...]
+    end: Token
+
+
+@dataclass(frozen=True)
+class Equation:
+    """A name with a number: of a location, or of a register where there is a thread."""
+
+    name: Token
+    number: Token
+    thread: Token | None = None
+
+
+@dataclass(frozen=True)
+class Listing:
+    """A listing as it is written, after its header."""
+
+    inits: tuple[Equation, ...]
+    head: tuple[Token, ...]
+    rows: tuple[Row, ...]
+    # `~`, or else `exists`
+    condition: Token
+    equations: tuple[Equation, ...]
+
+
+def read_listing(data: bytes) -> Case:
+    """The case that the bytes say, or their first fault."""
+    return read_listing_items(data)[0]
+
+
+def read_file_items(path: str, data: bytes) -> "tuple[Case, list[Item]]":
+    """The case of a file, with its items: a listing, a pattern or a test, as its ending says. Open reads have 0."""
+    if path.endswith(PATTERN_ENDING):
+        pattern, items = read_pattern_items(data)
+        return pattern.case, items
+    return read_listing_items(data) if path.endswith(ENDING) else read_items(data)
+
+
+def read_listing_items(data: bytes) -> "tuple[Case, list[Item]]":
+    """The case, with the items that a test would have in its place. They stand where the listing says them."""
+    title, start = behind_header(data)
+    listing = ListingReader(tokens(data, PIECE, start)).listing()
+    items = Judge(listing).items()
+    case = Case(title)
+    for item in items:
+        item.add_to(case)
+    return case, items
+
+
+def behind_header(data: bytes) -> tuple[str, int]:
+    """The name of the listing, and the place of the first line that begins with `{`, whatever blanks stand before it."""
+    first = FIRST_LINE.match(data)
+    if first is None:
+        raise Fault("syntax", 0)
+    at = data.find(b"\n") + 1 or len(data)
+    while at < len(data):
+        end = data.find(b"\n", at)
+        line = data[at : len(data) if end < 0 else end]
+        rest = line.lstrip(BLANKS)
+        if rest.startswith(b"{"):
+            return first.group(1).decode("latin-1"), at
+        if rest and not line.startswith(b'"') and b"=" not in line:
+            raise Fault("syntax", at + len(line) - len(rest))
+        at += len(line) + 1
+    raise Fault("syntax", len(data))
+
+
+class ListingReader(Reader):
+    """Reads what stands after the header. No word is reserved: its place says what it is."""
+
+    def listing(self) -> Listing:
+        """The whole of it."""
+        inits = self.inits()
+        head = [self.expect_kind("name")]
+        while self.sees("|"):
+            self.take()
+            head.append(self.expect_kind("name"))
+        self.expect(";")
+        rows = []
+        while not self.sees("~", "exists"):
+            rows.append(self.row())
+        condition = self.next
+        if self.sees("~"):
+            self.take()
+        self.expect("exists")
+        equations = self.equations()
+        self.expect_kind("end")
+        return Listing(tuple(inits), tuple(head), tuple(rows), condition, tuple(equations))
+
+    def inits(self) -> list[Equation]:
+        """The first block."""
+        found = []
+        self.expect("{")
+        while not self.sees("}"):
+            found.append(self.of_location())
+            if not self.sees("}"):
+                self.expect(";")
+        self.take()
+        return found
+
+    def row(self) -> Row:
+        """A line of cells."""
+        cells = [self.cell()]
+        while self.sees("|"):
+            self.take()
+            cells.append(self.cell())
+        return Row(tuple(cells), self.expect(";"))
+
+    def cell(self) -> Instruction | None:
+        """A cell, which may be empty."""
+        if self.sees("MFENCE"):
+            return Instruction(self.take())
+        if not self.sees("MOV"):
+            return None
+        word = self.take()
+        if self.sees("["):
+            location = self.in_brackets()
+            self.expect(",")
+            self.expect("$")
+            return Instruction(word, location, number=self.expect_kind("number"))
+        register = self.expect_kind("name")
+        self.expect(",")
+        return Instruction(word, self.in_brackets(), register=register)
+
+    def equations(self) -> list[Equation]:
+        """The equations of the condition, with or without brackets."""
+        is_bracketed = self.sees("(")
+        if is_bracketed:
+            self.take()
+        found = [self.equation()]
+        while self.sees("/\\"):
+            self.take()
+            found.append(self.equation())
+        if is_bracketed:
+            self.expect(")")
+        return found
+
+    def equation(self) -> Equation:
+        """One equation."""
+        if self.next.kind != "number":
+            return self.of_location()
+        thread = self.take()
+        self.expect(":")
+        name = self.expect_kind("name")
+        self.expect("=")
+        return Equation(name, self.expect_kind("number"), thread)
+
+    def of_location(self) -> Equation:
+        """An equation of a location."""
+        name = self.in_brackets() if self.sees("[") else self.expect_kind("name")
+        self.expect("=")
+        return Equation(name, self.expect_kind("number"))
+
+    def in_brackets(self) -> Token:
+        """A name in brackets."""
+        self.expect("[")
+        name = self.expect_kind("name")
+        self.expect("]")
+        return name
+
+
+# a thread, and a register of it
+Register = tuple[int, str]
+
+
+class Judge:
+    """Judges a listing in the order of its text, and makes the items of its case."""
+
+    def __init__(self, listing: Listing) -> None:
+        self.listing = listing
+        self.locations: dict[str, Location] = {}
+        self.inits: dict[Location, Equation] = {}
+        self.finals: dict[Location, Equation] = {}
+        # each load by its register, in the order of the text
+        self.loads: dict[Register, Token] = {}
+        self.values: dict[Register, Token] = {}
+
+    def items(self) -> list[Item]:
+        """The items, or the first fault."""
+        for init in self.listing.inits:
+            self.judge_state(init, self.inits, "again-initial")
+        self.judge_head()
+        self.judge_rows()
+        for equation in self.listing.equations:
+            if equation.thread is None:
+                self.judge_state(equation, self.finals, "again-final")
+            else:
+                self.judge_register(equation, equation.thread)
+        for register, token in self.loads.items():
+            if register not in self.values:
+                raise Fault("x86-open", token.at)
+        return [*self.states("Init", self.inits), *self.ops(), *self.states("Final", self.finals), *self.expectations()]
+
+    def location(self, name: Token) -> Location:
+        """The location of a name. Locations are numbered as they are named first."""
+        number = len(self.locations)
+        return self.locations.setdefault(name.piece, Location(number, 0, name.piece))
+
+    def judge_state(self, equation: Equation, known: dict[Location, Equation], fault: str) -> None:
+        """A location has one value at the start, and one at the end."""
+        location = self.location(equation.name)
+        if location in known:
+            raise Fault(fault, equation.name.at)
+        known[location] = equation
+
+    def judge_head(self) -> None:
+        """The names of the columns."""
+        for number, name in enumerate(self.listing.head):
+            if number > GREATEST_CORE:
+                raise Fault("core-number", name.at)
+            if name.piece != f"P{number}":
+                raise Fault("x86-column", name.at)
+
+    def judge_rows(self) -> None:
+        """The instructions, and how many cells a line has."""
+        count = 0
+        for row in self.listing.rows:
+            for column, one in enumerate(row.cells):
+                if one is None:
+                    continue
+                if count == MOST_OPS:
+                    raise Fault("too-many-ops", one.word.at)
+                count += 1
+                self.judge_instruction(column, one)
+            if len(row.cells) != len(self.listing.head):
+                raise Fault("x86-column", row.end.at)
+
+    def judge_instruction(self, column: int, one: Instruction) -> None:
+        """A thread loads a register once."""
+        if one.register is not None:
+            if (column, one.register.piece) in self.loads:
+                raise Fault("x86-reload", one.register.at)
+            self.loads[column, one.register.piece] = one.register
+        if one.location is not None:
+            self.location(one.location)
+
+    def judge_register(self, equation: Equation, thread: Token) -> None:
+        """A register that its thread loads has one value."""
+        register = int(thread.piece), equation.name.piece
+        if register not in self.loads:
+            raise Fault("x86-unloaded", thread.at)
+        if register in self.values:
+            raise Fault("x86-again", thread.at)
+        self.values[register] = equation.number
+
+    def states(self, word: str, known: dict[Location, Equation]) -> list[Item]:
+        """The values at the start, or at the end."""
+        return [ValueItem(word, one.name.at, location, int(one.number.piece)) for location, one in known.items()]
+
+    def ops(self) -> list[Item]:
+        """The micro-ops, column by column."""
+        found: list[Item] = []
+        for column in range(len(self.listing.head)):
+            for row in self.listing.rows:
+                one = row.cells[column]
+                if one is not None:
+                    found.append(self.op(len(found), column, one))
+        return found
+
+    def op(self, g: int, column: int, one: Instruction) -> OpItem:
+        """A micro-op."""
+        at = one.word.at
+        if one.location is None:
+            fence = Op(g, 0, column, column, "Fence", frozenset({one.word.piece}))
+            return OpItem(fence, at, at, at, at, ((one.word.piece, at),))
+        access, value = "Write", one.number
+        if one.register is not None:
+            access, value = "Read", self.values[column, one.register.piece]
+        assert value is not None
+        place = self.location(one.location)
+        op = Op(g, 0, column, column, access, frozenset(), place, place, int(value.piece))
+        return OpItem(op, at, at, at, at, (), one.location.at, value.at)
+
+    def expectations(self) -> list[Item]:
+        """What the listing states of its outcome."""
+        word = self.listing.condition
+        return [ExpectationItem("Forbidden", word.at)] if word.piece == "~" else []

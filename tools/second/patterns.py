@@ -1,0 +1,91 @@
+"""Patterns: tests in which reads may be open, each of which stands for one test for every combination of what the open
+reads may get; and the sweep, which says of each combination whether it is observable."""
+from dataclasses import dataclass, replace
+from itertools import product
+from typing import Iterator
+
+from tools.second.cases import Case, Entry, Item, OpItem, Value, read_items
+from tools.second.evaluating import false_axioms
+from tools.second.grounding import ground
+from tools.second.models import Model
+from tools.second.searching import search
+from tools.second.tokens import Fault
+
+MOST_ROWS = 4096
+# the ending of a file that is read as a pattern where no command says how
+ENDING = ".pattern"
+
+
+@dataclass(frozen=True)
+class Pattern:
+    """A case in which the open reads have 0, and of each open read its place in test order and what it may get."""
+
+    case: Case
+    opens: tuple[int, ...]
+    choices: tuple[tuple[Value, ...], ...]
+
+    def rows(self) -> Iterator[tuple[Value, ...]]:
+        """All combinations, the last open read changing fastest."""
+        return product(*self.choices)
+
+    def row_case(self, row: tuple[Value, ...]) -> Case:
+        """The case in which the open reads get these values."""
+        ops = self.case.ops[:]
+        for place, value in zip(self.opens, row):
+            ops[place] = replace(ops[place], value=value)
+        return replace(self.case, ops=ops)
+
+
+def values_at(case: Case, place: int) -> tuple[Value, ...]:
+    """What a read may get: the value at the start at its physical address, then those of the writes there in test order,
+    each once."""
+    address = case.ops[place].pa
+    assert address is not None
+    written = [op.value for op in case.ops if op.access == "Write" and op.pa == address]
+    return tuple(dict.fromkeys([case.initial_at(address), *(value for value in written if value is not None)]))
+
+
+def read_pattern(data: bytes) -> Pattern:
+    """The pattern that the bytes say, or their first fault."""
+    return read_pattern_items(data)[0]
+
+
+def read_pattern_items(data: bytes) -> tuple[Pattern, list[Item]]:
+    """The pattern, with its items as they are written. That it has too many rows is judged last."""
+    case, items = read_items(data, takes_open=True)
+    ops = [item for item in items if isinstance(item, OpItem)]
+    opens = [place for place, item in enumerate(ops) if item.is_open]
+    choices = [values_at(case, place) for place in opens]
+    count = 1
+    for place, values in zip(opens, choices):
+        count *= len(values)
+        if count > MOST_ROWS:
+            raise Fault("too-many-rows", ops[place].value_at)
+    return Pattern(case, tuple(opens), tuple(choices)), items
+
+
+def is_observable(model: Model, case: Case) -> bool:
+    """Whether some world makes every axiom true; the witness is judged again by the written axioms."""
+    witness = search(ground(model, case))
+    if witness is not None and false_axioms(model, case, witness.nodes, witness.edges):
+        raise AssertionError("the witness makes an axiom false")
+    return witness is not None
+
+
+def sweep(model: Model, pattern: Pattern) -> list[tuple[tuple[Value, ...], bool]]:
+    """Each row, and whether it is observable."""
+    return [(row, is_observable(model, pattern.row_case(row))) for row in pattern.rows()]
+
+
+def value_text(value: Value) -> str:
+    """A number, or the three parts of an entry."""
+    return f"Maps:{value.tag}:{value.accessed}:{value.dirty}" if isinstance(value, Entry) else str(value)
+
+
+def sweep_text(rows: list[tuple[tuple[Value, ...], bool]]) -> str:
+    """The text of a sweep."""
+    verdicts = {True: "observable", False: "unobservable"}
+    lines = [f"sweep {len(rows)}"]
+    lines += [" ".join(["row", *map(value_text, row), verdicts[is_seen]]) for row, is_seen in rows]
+    seen = sum(is_seen for _, is_seen in rows)
+    return "\n".join([*lines, f"observable {seen}", f"unobservable {len(rows) - seen}", "end", ""])

@@ -1,0 +1,47 @@
+"""A formula that is asked of a model, in a file of its own, with the faults that it may have."""
+from dataclasses import replace
+
+from tools.second.models import Axiom, Expand, Formula, Model, ModelReader, Not
+from tools.second.scopes import NameJudge, Scope, judge_macros, judge_sizes, value_sort, widened
+from tools.second.tokens import Fault, tokens
+
+
+class InModel(Fault):
+    """A fault that a query meets in the body of a macro: its place is in the model's file."""
+
+
+def with_axiom(model: Model, formula: Formula) -> Model:
+    """The model with one axiom more, after its last item."""
+    return replace(model, items=(*model.items, Axiom(0, "", formula)))
+
+
+def read_query(data: bytes, model: Model) -> Formula:
+    """The formula that the bytes say, or their first fault. What is judged of macros, sizes and names is the formula's
+    denial as the last axiom of a model that has no fault itself."""
+    reader = ModelReader(tokens(data))
+    formula = reader.formula()
+    reader.expect_kind("end")
+    asked = with_axiom(model, Not(formula))
+    judge_macros(asked)
+    judge_sizes(asked)
+    QueryJudge(model).formula(formula, ())
+    return formula
+
+
+class QueryJudge(NameJudge):
+    """Judges the names of a query, outside before inside and left before right, as those of an axiom."""
+
+    def __init__(self, model: Model) -> None:
+        super().__init__(model)
+        self.bodies = NameJudge(model)
+
+    def expansion(self, formula: Expand, scope: Scope) -> None:
+        """The arguments, then the number of variables, then the macro's body, which stands in the model."""
+        macro = self.macros[formula.macro.name]
+        sorts = [value_sort(arg, scope) for arg in formula.args]
+        bound = tuple((parameter.name, sort) for parameter, sort in zip(macro.parameters, sorts))
+        inside = widened(scope, bound, formula.at)
+        try:
+            self.bodies.formula(macro.body, inside)
+        except Fault as fault:
+            raise InModel(fault.word, fault.place) from fault

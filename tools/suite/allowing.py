@@ -1,0 +1,122 @@
+"""What memory models allow: the rows of a table, and the machines of tools/agree."""
+import math
+import os
+import re
+from typing import NamedTuple
+
+from tools.suite.calling import PYTHON
+from tools.suite.files import File
+from tools.suite.refusing import Refusal
+from tools.texts.memory_models import FORM, memory_model_of
+from tools.texts.quoting import quoted, shown
+
+# a file of tools/agree/machines that is a machine
+MACHINE = re.compile(r"^def outcomes\(", re.MULTILINE)
+COLUMNS = ("memory model", "test", "allowed")
+DIGEST = "sha256"
+
+
+class Row(NamedTuple):
+    """Whether a memory model allows the outcome of a test, and the hash of the test, which may be missing."""
+
+    is_allowed: bool
+    digest: str
+
+
+class Rows:
+    """The rows of a table. They go by the name of a test alone where the table is named on purpose, and otherwise by
+    its bytes too: a test of one's own that is named as a shipped one is not that test."""
+
+    def __init__(self, path: str, by_name: bool) -> None:
+        self.by_name = by_name
+        self.rows: dict[tuple[str, str], Row] = {}
+        try:
+            with open(path, encoding="utf-8", errors="surrogateescape") as file:
+                lines = [line.split("\t") for line in file.read().splitlines()]
+        except OSError as error:
+            raise Refusal(f"the table {shown(path)} cannot be read") from error
+        head = [*COLUMNS]
+        if lines and lines[0][:1] == [COLUMNS[0]]:
+            head = lines.pop(0)
+        missing = [name for name in COLUMNS if name not in head]
+        if missing:
+            raise Refusal(f"the table {shown(path)} has no column {missing[0]}")
+        for cells in lines:
+            row = dict(zip(head, cells))
+            if row.get("allowed") not in ("yes", "no"):
+                raise Refusal(f"the table {shown(path)} has a row without yes or no: {quoted(chr(9).join(cells))}")
+            self.rows[row[COLUMNS[0]].lower(), row[COLUMNS[1]]] = Row(row["allowed"] == "yes", row.get(DIGEST, ""))
+
+    @property
+    def memory_models(self) -> set[str]:
+        """The memory models that have a row."""
+        return {name for name, _ in self.rows}
+
+    def has(self, test: File) -> bool:
+        """Whether a row of any memory model is of this test."""
+        return any(self.allowed(name, test) is not None for name in self.memory_models)
+
+    def allowed(self, memory_model: str, test: File) -> bool | None:
+        """What the row of a test says; None where the test has none."""
+        row = self.rows.get((memory_model, test.name))
+        return row.is_allowed if row is not None and (self.by_name or row.digest == test.digest != "") else None
+
+
+class Machines:
+    """The machines of a checkout, or of an installed copy, each a file by the name of its memory model."""
+
+    def __init__(self, top: str) -> None:
+        self.tools = os.path.join(top, "tools")
+        self.folder = os.path.join(self.tools, "agree", "machines")
+        self.names: set[str] = set()
+        try:
+            files = os.listdir(self.folder)
+        except OSError:
+            return
+        for file in files:
+            name, ending = os.path.splitext(file)
+            if ending == ".py":
+                with open(os.path.join(self.folder, file), encoding="utf-8") as source:
+                    if MACHINE.search(source.read()):
+                        self.names.add(name)
+
+    @property
+    def is_there(self) -> bool:
+        """Whether there are any."""
+        return bool(self.names)
+
+    def command(self, name: str, *words: str) -> list[str]:
+        """What says what the machine of this name allows of a test, which the word names."""
+        return [*PYTHON, self.tools, "verdicts", name, *words]
+
+    def command_of_many(self, name: str, seconds: float) -> list[str]:
+        """What says it of test after test, each within these seconds."""
+        return self.command(name, "--within", str(math.ceil(seconds) + 1))
+
+
+class MemoryModels:
+    """The memory models that models name, and which of them are known."""
+
+    def __init__(self, rows: Rows, machines: Machines) -> None:
+        self.known = rows.memory_models | machines.names
+
+    def name(self, model: File) -> str | None:
+        """The known memory model that a model names."""
+        named = memory_model_of(model.text or b"")
+        return named.name if named.name in self.known else None
+
+    def fault(self, model: File) -> str:
+        """Why a model names no memory model that is known, as a line."""
+        text = model.text or b""
+        named = memory_model_of(text)
+        sentence = named.fault or f"no row and no machine has the memory model {named.name}"
+        before = text[: named.at].split(b"\n")
+        place = f"{shown(model.path)}:{len(before)}:{len(before[-1]) + 1}"
+        return f"{place}: unnamed: {sentence}; known are {listed(sorted(self.known))}, named once by a comment {FORM}"
+
+
+def listed(names: list[str]) -> str:
+    """Names as a part of a sentence."""
+    if len(names) < 2:
+        return "".join(names) or "none"
+    return ", ".join(names[:-1]) + " and " + names[-1]

@@ -1,0 +1,252 @@
+"""Calls of programs, side by side, within limits; and how all of them are ended.
+
+Each call is a process group of its own, so that what it started ends with it. Threads make the calls, and the main
+thread alone gets signals: so no signal comes between the start of a call and the note that it runs.
+"""
+import math
+import os
+import queue
+import resource
+import signal
+import subprocess
+import sys
+import threading
+from contextlib import suppress
+from typing import IO, Callable, Sequence, TypeVar
+
+from tools.suite.refusing import Refusal
+from tools.texts.quoting import quoted
+
+# What the limits need is done by a shell that becomes the program. Where a limit of file size is passed, a write fails,
+# in place of a signal that ends the program. The limit of processor time is for a call whose suite was ended by force.
+LIMITED = 'trap "" XFSZ; ulimit -S -t "$0" && ulimit -S -v "$1" || exit 125; shift; exec "$@"'
+MOST_DIGITS = 11
+# Python as the suite starts it: no variable of the environment, and nothing that is installed beside it, changes it
+PYTHON = (sys.executable, "-E", "-S", "-B")
+# how long what cleans up after itself may take to end
+GRACE = 10.0
+
+# how long the main thread waits before it looks whether there was a signal
+PATIENCE = 1.0
+
+Answer = TypeVar("Answer")
+# a task that ended, by its number, and how where it failed
+Ended = tuple[int, "BaseException | None"]
+Process = subprocess.Popen[bytes]
+
+
+class Stopped(Exception):
+    """The suite ends, and this call with it."""
+
+
+def memory_limit(value: str) -> int | None:
+    """The address space of a call in KiB by PIPECHECK_MEMORY, as script/calls has it: so many MiB, or what the
+    machine has free. None is no limit, or one that stands already and is as low."""
+    if value == "none":
+        return None
+    if value == "":
+        kib = free_memory()
+    elif value.isascii() and value.isdigit() and len(value) <= MOST_DIGITS:
+        kib = int(value) * 1024
+    else:
+        # the words of script/calls
+        raise Refusal(f"PIPECHECK_MEMORY is a number of MiB, or none, and not {quoted(value)}", "pipecheck")
+    standing = standing_limit(resource.RLIMIT_AS)
+    return kib if kib is not None and (standing is None or standing > kib * 1024) else None
+
+
+def free_memory() -> int | None:
+    """What the machine has free, in KiB; None where it does not say so."""
+    with suppress(OSError, ValueError), open("/proc/meminfo", encoding="ascii") as file:
+        for line in file:
+            if line.startswith("MemAvailable:"):
+                return int(line.split()[1])
+    return None
+
+
+def standing_limit(kind: int) -> int | None:
+    """The limit of this kind that stands already."""
+    soft, _ = resource.getrlimit(kind)
+    return None if soft == resource.RLIM_INFINITY else soft
+
+
+class Calls:
+    """The calls that run now."""
+
+    def __init__(self) -> None:
+        self.lock = threading.Lock()
+        # each with the signal that ends it
+        self.running: dict[Process, signal.Signals] = {}
+        self.late: set[Process] = set()
+        self.is_stopped = False
+
+    def status(
+        self, command: Sequence[str], kib: int | None, seconds: float, out: IO[bytes], said: IO[bytes] | None = None
+    ) -> int | None:
+        """Calls a program within these limits and has it write to a file; its standard error goes to another one, or is
+        not seen. The status, as a shell has it; None where it is not done in time."""
+        under_limits = limited(command, kib, seconds)
+        return self.finished(self.started(under_limits, out, said or subprocess.DEVNULL, signal.SIGKILL), seconds)
+
+    def status_of_build(self, command: Sequence[str], out: IO[bytes]) -> int:
+        """Calls what builds the program, without limits. It may clean up when it is ended."""
+        status = self.finished(self.started(command, out, None, signal.SIGTERM), None)
+        return 1 if status is None else status
+
+    def opened(self, command: Sequence[str], kib: int | None, said: IO[bytes]) -> Process:
+        """Starts a program that is asked by its standard input, and answers by its standard output. It has a limit of
+        address space, and one of time of its own."""
+        under_limits = limited(command, kib, None)
+        return self.started(under_limits, subprocess.PIPE, said, signal.SIGKILL, subprocess.PIPE)
+
+    def started(
+        self,
+        command: Sequence[str],
+        out: IO[bytes] | int,
+        said: IO[bytes] | int | None,
+        ending: signal.Signals,
+        asked: int = subprocess.DEVNULL,
+    ) -> Process:
+        """Starts a call and notes that it runs, at one moment."""
+        with self.lock:
+            if self.is_stopped:
+                raise Stopped
+            process = subprocess.Popen(  # pylint: disable=consider-using-with
+                command, stdin=asked, stdout=out, stderr=said, start_new_session=True
+            )
+            self.running[process] = ending
+            return process
+
+    def finished(self, process: Process, seconds: float | None) -> int | None:
+        """Waits until a call ends, or ends it. What it left behind in its group ends, too."""
+        timer = None if seconds is None else threading.Timer(seconds, self.end_late, [process])
+        if timer is not None:
+            timer.daemon = True
+            start([timer])
+        # it is not reaped yet, so that the number of its group stays its own
+        os.waitid(os.P_PID, process.pid, os.WEXITED | os.WNOWAIT)
+        if timer is not None:
+            timer.cancel()
+        with self.lock:
+            del self.running[process]
+            end_group(process, signal.SIGKILL)
+            status = process.wait()
+            is_late = process in self.late
+            self.late.discard(process)
+            if self.is_stopped:
+                raise Stopped
+        if is_late:
+            return None
+        return status if status >= 0 else 128 - status
+
+    def end_late(self, process: Process) -> None:
+        """Ends a call that is not done in time."""
+        with self.lock:
+            if process in self.running:
+                self.late.add(process)
+                end_group(process, signal.SIGKILL)
+
+    def stop(self) -> None:
+        """Ends all calls, and has none begin any more."""
+        with self.lock:
+            self.is_stopped = True
+            for process, ending in self.running.items():
+                end_group(process, ending)
+
+    def end_all(self) -> None:
+        """Ends what has not ended though it was asked to."""
+        with self.lock:
+            for process in self.running:
+                end_group(process, signal.SIGKILL)
+
+
+def limited(command: Sequence[str], kib: int | None, seconds: float | None) -> list[str]:
+    """The command under a limit of address space, and of the processor time that it may take on all processors."""
+    # the shell would take a dash for an option
+    first = os.path.join(".", command[0]) if command[0].startswith("-") else command[0]
+    standing = standing_limit(resource.RLIMIT_AS)
+    space = kib if kib is not None else "unlimited" if standing is None else standing // 1024
+    return ["/bin/sh", "-c", LIMITED, str(processor_limit(seconds)), str(space), first, *command[1:]]
+
+
+def processor_limit(seconds: float | None) -> int | str:
+    """The processor time in seconds of a call that may last so long. A limit that stands is never raised."""
+    standing = standing_limit(resource.RLIMIT_CPU)
+    if seconds is None:
+        return "unlimited" if standing is None else standing
+    most = math.ceil(seconds) * len(os.sched_getaffinity(0)) + 1
+    return most if standing is None else min(most, standing)
+
+
+def end_group(process: Process, number: signal.Signals) -> None:
+    """Sends a signal to a call and to all that it started."""
+    with suppress(ProcessLookupError, PermissionError):
+        os.killpg(process.pid, number)
+
+
+def side_by_side(
+    calls: Calls, jobs: int, tasks: Sequence[Callable[[], Answer]], tell: Callable[[int, Answer], None]
+) -> list[Answer]:
+    """The answers of tasks, at most so many of which run at once. Each is told with its number as it comes. Where a
+    signal or a failure comes, the calls of the others end."""
+    answers: dict[int, Answer] = {}
+    ended: queue.SimpleQueue[Ended] = queue.SimpleQueue()
+    waiting = iter(enumerate(tasks))
+    taking = threading.Lock()
+
+    def work() -> None:
+        while not calls.is_stopped:
+            with taking:
+                place, task = next(waiting, (-1, None))
+            if task is None:
+                return
+            try:
+                answers[place] = task()
+                ended.put((place, None))
+            except Stopped:
+                return
+            except BaseException as error:  # pylint: disable=broad-exception-caught
+                ended.put((place, error))
+
+    threads = [threading.Thread(target=work) for _ in range(min(jobs, len(tasks)))]
+    try:
+        start(threads)
+        for _ in tasks:
+            place, error = next_of(ended)
+            if error is not None:
+                raise error
+            tell(place, answers[place])
+    except BaseException:
+        calls.stop()
+        join(threads, GRACE)
+        calls.end_all()
+        raise
+    finally:
+        join(threads, None)
+    return [answers[place] for place in range(len(tasks))]
+
+
+def next_of(ended: "queue.SimpleQueue[Ended]") -> Ended:
+    """The next task that ended. Python does not see a signal that comes just before it waits until it waits no more, so it never
+    waits long."""
+    while True:
+        with suppress(queue.Empty):
+            return ended.get(timeout=PATIENCE)
+
+
+def start(threads: Sequence[threading.Thread]) -> None:
+    """Starts threads, as many as the system gives."""
+    for place, thread in enumerate(threads):
+        try:
+            thread.start()
+        except RuntimeError as error:
+            if place == 0:
+                raise Refusal("the system gives no thread: memory, or the number of processes, is limited") from error
+            return
+
+
+def join(threads: Sequence[threading.Thread], seconds: float | None) -> None:
+    """Waits for threads that were started, at most so long for each."""
+    for thread in threads:
+        if thread.ident is not None:
+            thread.join(seconds)

@@ -1,0 +1,207 @@
+"""The folder of a suite: certificates, the rows of the last table, and what an interrupted suite has got so far.
+
+Each file is written under another name first and then takes the place of the old one: so no link is followed, and what
+stood before stands until the new one is whole.
+"""
+import fcntl
+import json
+import os
+import stat
+from contextlib import contextmanager, suppress
+from typing import IO, Iterator, Mapping
+
+from tools.suite.files import CELLS, PART, File, digest_of
+from tools.suite.pairs import STATED_WORDS, STATUSES, Found
+from tools.suite.refusing import Refusal
+from tools.suite.telling import tell
+from tools.texts.quoting import shown
+
+CERTIFICATE, ROWS, ANSWER = ".certificate", ".rows", ".answer"
+# other files of such a folder may end in .part, too
+PARTS = (CERTIFICATE + PART, ROWS + PART, ANSWER + PART)
+# no model has a name that begins with a dot
+LOCK = ".lock"
+STATE = ".state"
+
+
+@contextmanager
+def new_file(place: str) -> Iterator[tuple[IO[bytes], str]]:
+    """A file that is written beside a place, with its path. Only what `take_place` moves there is left of it."""
+    part = place + PART
+    with suppress(FileNotFoundError):
+        os.unlink(part)
+    handle = os.open(part, os.O_RDWR | os.O_CREAT | os.O_EXCL | os.O_CLOEXEC, 0o666)
+    try:
+        with os.fdopen(handle, "w+b") as file:
+            yield file, part
+    finally:
+        with suppress(OSError):
+            os.unlink(part)
+
+
+def take_place(place: str) -> None:
+    """Has the new file take the place of the old one."""
+    os.replace(place + PART, place)
+
+
+def write_anew(place: str, text: bytes) -> None:
+    """Writes a whole file."""
+    with new_file(place) as (file, _):
+        file.write(text)
+        file.flush()
+        take_place(place)
+
+
+class Folder:
+    """The folder that one suite at a time writes into."""
+
+    def __init__(self, path: str) -> None:
+        self.path = path
+        try:
+            os.makedirs(path, exist_ok=True)
+            flags = os.O_RDWR | os.O_CREAT | os.O_NOFOLLOW | os.O_CLOEXEC
+            # the lock is held until the suite ends
+            self.lock = os.open(os.path.join(path, LOCK), flags, 0o666)
+        except OSError as error:
+            raise Refusal(f"the folder {shown(path)} cannot be written") from error
+
+    @property
+    def cells(self) -> str:
+        """Where the rows of the last table are."""
+        return os.path.join(self.path, CELLS)
+
+    def wait_in_turn(self) -> None:
+        """Waits for another suite that writes here."""
+        try:
+            fcntl.flock(self.lock, fcntl.LOCK_EX | fcntl.LOCK_NB)
+        except BlockingIOError:
+            tell(f"suite: another suite writes into {shown(self.path)}: waiting for it")
+            fcntl.flock(self.lock, fcntl.LOCK_EX)
+
+    def make_room(self, model: File) -> None:
+        """Makes the folder of a model's certificates. A link to another folder is none."""
+        path = os.path.join(self.path, model.name)
+        try:
+            is_own = not os.path.islink(path)
+            if is_own:
+                os.makedirs(path, exist_ok=True)
+                remove_parts(path)
+        except OSError:
+            is_own = False
+        if not is_own or not os.access(path, os.W_OK):
+            raise Refusal(f"the folder {shown(path)} cannot be written")
+
+    def place(self, model: File, test: File) -> str:
+        """Where the certificate of a pair is kept, or the text of a sweep or of an answer."""
+        ending = ROWS if test.is_pattern else ANSWER if test.is_query else CERTIFICATE
+        return os.path.join(self.path, model.name, test.base + ending)
+
+    def write_cells(self, cells: Mapping[tuple[str, str], str]) -> None:
+        """Keeps the rows of a table: model, test and cell."""
+        text = "".join("\t".join((*pair, cell)) + "\n" for pair, cell in cells.items())
+        write_anew(self.cells, os.fsencode(text))
+
+
+class State:
+    """What an interrupted suite has got: verdicts with the hashes of all that they come from. It holds for the same
+    bytes of model, test, program and certificate alone."""
+
+    def __init__(self, folder: Folder, program: str) -> None:
+        self.place = os.path.join(folder.path, STATE)
+        self.folder = folder
+        # the hash of the program; empty where its bytes are not known, and then nothing is kept
+        self.program = program
+        self.pairs: dict[str, dict[str, str]] = {}
+
+    def read(self) -> None:
+        """Takes in what an interrupted suite left."""
+        try:
+            found = json.loads(contents_of_any_length(self.place))
+            pairs = found["pairs"] if found["program"] == self.program != "" else {}
+            self.pairs = {name: pair for name, pair in pairs.items() if is_texts(pair)}
+        except FileNotFoundError:
+            self.pairs = {}
+        except (OSError, ValueError, KeyError, TypeError, AttributeError, RecursionError):
+            self.pairs = {}
+            tell(f"suite: {shown(self.place)} is spoilt: it is made anew")
+
+    def found(self, model: File, test: File) -> Found | None:
+        """The verdict of a pair, where it is known for these bytes and the certificate of then is there."""
+        pair = self.pairs.get(self.key(model, test))
+        if pair is None or "" in (model.digest, test.digest):
+            return None
+        certificate = contents_of_place(self.folder.place(model, test))
+        found = Found(verdict_of(certificate), pair.get("stated", ""))
+        is_same = pair == {**self.origin(model, test, certificate), "verdict": found.verdict, "stated": found.stated}
+        return found if is_same and found.stated in STATED_WORDS else None
+
+    def note(self, model: File, test: File, found: Found) -> None:
+        """Notes a verdict whose certificate is kept."""
+        certificate = contents_of_place(self.folder.place(model, test))
+        if self.program != "" and verdict_of(certificate) == found.verdict != "":
+            origin = self.origin(model, test, certificate)
+            self.pairs[self.key(model, test)] = {**origin, "verdict": found.verdict, "stated": found.stated}
+
+    def key(self, model: File, test: File) -> str:
+        """A pair by the place of its certificate."""
+        return f"{model.name}/{test.base}"
+
+    def origin(self, model: File, test: File, certificate: bytes | None) -> dict[str, str]:
+        """What a verdict comes from."""
+        return {
+            "model": model.digest,
+            "test": test.digest,
+            "words": f"{test.kind.check} {test.kind.verify}",
+            "certificate": digest_of(certificate) if certificate is not None else "none",
+        }
+
+    def write(self) -> bool:
+        """Keeps what is noted, and answers whether there is something. Where that fails the next suite begins anew."""
+        if not self.pairs:
+            return False
+        try:
+            write_anew(self.place, json.dumps({"program": self.program, "pairs": self.pairs}).encode("ascii"))
+        except OSError:
+            return False
+        return True
+
+    def clear(self) -> None:
+        """A suite that is done leaves nothing to go on from."""
+        with suppress(OSError):
+            os.unlink(self.place)
+
+
+def remove_parts(folder: str) -> None:
+    """Removes what a suite that was ended by force left half written."""
+    for name in os.listdir(folder):
+        if name.endswith(PARTS):
+            with suppress(OSError):
+                os.unlink(os.path.join(folder, name))
+
+
+def is_texts(pair: object) -> bool:
+    """Whether a part of a state is what this module writes."""
+    return isinstance(pair, dict) and all(isinstance(text, str) for text in (*pair.keys(), *pair.values()))
+
+
+def verdict_of(certificate: bytes | None) -> str:
+    """The verdict that the first line of a certificate says; empty where it says none."""
+    first = (certificate or b"").split(b"\n", 1)[0].decode("ascii", "replace")
+    return first if first in STATUSES else ""
+
+
+def contents_of_place(place: str) -> bytes | None:
+    """The bytes of a certificate; None where there is none."""
+    try:
+        return contents_of_any_length(place)
+    except OSError:
+        return None
+
+
+def contents_of_any_length(place: str) -> bytes:
+    """The bytes of a file of the suite's own; no link is followed, and no pipe is waited for."""
+    handle = os.open(place, os.O_RDONLY | os.O_NOFOLLOW | os.O_NONBLOCK | os.O_CLOEXEC)
+    with os.fdopen(handle, "rb") as file:
+        if not stat.S_ISREG(os.fstat(handle).st_mode):
+            raise OSError(f"{place} is no file")
+        return file.read()

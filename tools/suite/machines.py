@@ -1,0 +1,152 @@
+"""What the machines of memory models say of tests. A process of a machine runs one test after another."""
+import os
+import select
+import subprocess
+import tempfile
+import threading
+import time
+from dataclasses import dataclass
+from typing import IO
+
+from tools.suite.allowing import Machines
+from tools.suite.calling import GRACE, Calls, memory_limit
+from tools.suite.files import Copies, File
+
+# what ends a path, and an answer
+END = b"\0"
+NOT_RUN = "not run"
+VERDICTS = {"yes": True, "no": False}
+LARGEST_PART = 65_536
+
+
+@dataclass(frozen=True)
+class Answer:
+    """What a machine says of a test: whether it comes up, or which rows of a pattern do. Nothing where it does not run
+    such tests; or it is late, or fails, and how."""
+
+    is_allowed: bool | None = None
+    rows: frozenset[str] | None = None
+    is_late: bool = False
+    fault: str = ""
+
+
+class Ended(Exception):
+    """The process of a machine ended in place of an answer."""
+
+
+class Late(Exception):
+    """The process of a machine gave no answer in time."""
+
+
+class Machine:
+    """A process of the machine of one memory model."""
+
+    def __init__(self, name: str, command: list[str], calls: Calls) -> None:
+        self.name = name
+        self.calls = calls
+        self.said = tempfile.TemporaryFile()
+        self.process = calls.opened(command, memory_limit(""), self.said)
+
+    def answer(self, path: str, deadline: float) -> list[str]:
+        """The lines that it answers of a test up to a moment of the clock."""
+        questions, answers = self.process.stdin, self.process.stdout
+        assert questions is not None and answers is not None
+        try:
+            questions.write(os.fsencode(path) + END)
+            questions.flush()
+        except BrokenPipeError as error:
+            raise Ended from error
+        text = b""
+        while not text.endswith(END):
+            part = read_part(answers, deadline)
+            if not part:
+                raise Ended
+            text += part
+        return text.removesuffix(END).decode("ascii", "backslashreplace").splitlines()
+
+    def end(self, seconds: float = 0) -> str:
+        """Ends the process, which has these seconds to end by itself, and answers what was wrong with it."""
+        status = self.calls.finished(self.process, seconds)
+        for pipe in (self.process.stdin, self.process.stdout):
+            if pipe is not None:
+                close(pipe)
+        with self.said as said:
+            said.seek(0)
+            lines = said.read().decode("ascii", "backslashreplace").splitlines()
+        return ": ".join([f"status {status}", *lines[-1:]]) if status else "its answer is none"
+
+
+def read_part(answers: IO[bytes], deadline: float) -> bytes:
+    """Some bytes of an answer; none where the process ended."""
+    poll = select.poll()
+    poll.register(answers, select.POLLIN)
+    left = deadline - time.monotonic()
+    if left <= 0 or not poll.poll(left * 1000):
+        raise Late
+    return os.read(answers.fileno(), LARGEST_PART)
+
+
+def close(pipe: IO[bytes]) -> None:
+    """Closes a pipe, whoever is at its other end."""
+    try:
+        pipe.close()
+    except BrokenPipeError:
+        pass
+
+
+class Judges:
+    """The machines that are asked: each thread has a process of its own, which it keeps for tests of one memory model."""
+
+    def __init__(self, machines: Machines, copies: Copies, seconds: float, calls: Calls) -> None:
+        self.machines = machines
+        self.copies = copies
+        # the limit of one test
+        self.seconds = seconds
+        self.calls = calls
+        self.by_thread: dict[int, Machine] = {}
+
+    def machine(self, name: str) -> Machine:
+        """The process that this thread asks."""
+        machine = self.by_thread.get(threading.get_ident())
+        if machine is not None and machine.name != name:
+            self.end(machine)
+            machine = None
+        if machine is None:
+            machine = Machine(name, self.machines.command_of_many(name, self.seconds), self.calls)
+            self.by_thread[threading.get_ident()] = machine
+        return machine
+
+    def end(self, machine: Machine, seconds: float = 0) -> str:
+        """Ends the process that this thread asks, and answers what was wrong with it."""
+        del self.by_thread[threading.get_ident()]
+        return machine.end(seconds)
+
+    def end_all(self) -> None:
+        """Ends all processes, once no thread asks any more."""
+        for machine in self.by_thread.values():
+            machine.end()
+        self.by_thread = {}
+
+    def answer(self, name: str, test: File, deadline: float) -> Answer:
+        """What the machine of this name says of a test up to a moment of the clock."""
+        if deadline <= time.monotonic():
+            return Answer(is_late=True)
+        machine = self.machine(name)
+        try:
+            lines = machine.answer(self.copies.path(test), deadline)
+        except Late:
+            self.end(machine)
+            return Answer(is_late=True)
+        except Ended:
+            return Answer(fault=self.end(machine, GRACE))
+        if lines == [NOT_RUN]:
+            return Answer()
+        if test.is_pattern and lines[-1:] == ["end"]:
+            return Answer(rows=frozenset(lines[:-1]))
+        if not test.is_pattern and len(lines) == 1 and lines[0] in VERDICTS:
+            return Answer(VERDICTS[lines[0]])
+        return Answer(fault="its answer is none")
+
+    def answer_in_time(self, name: str, test: File) -> Answer:
+        """What a machine says of a test within the limit of one."""
+        return self.answer(name, test, time.monotonic() + self.seconds)

@@ -1,0 +1,190 @@
+"""A pair of a model and a test: what the program says of it, and what the table shows of that."""
+import os
+import re
+import tempfile
+from contextlib import suppress
+from dataclasses import dataclass
+from typing import IO
+
+from tools.suite.calling import Calls
+from tools.suite.files import File
+
+OBSERVABLE, UNOBSERVABLE = "observable", "unobservable"
+# the status of `check` with its first line, and that of `verify` with its line
+STATUSES = {OBSERVABLE: 0, UNOBSERVABLE: 1}
+SWEPT, ASKED = "swept", "asked"
+OK, BUG, STRICTER, TIME, UNNAMED, FAULT = "ok", "BUG", "stricter", "time", "unnamed", "fault"
+NOT_TAKEN = "not taken"
+# cells that are no bug, nothing lost and no fault
+GOOD = (OK, OBSERVABLE, UNOBSERVABLE, SWEPT, NOT_TAKEN)
+CERTIFICATE, UNREADABLE, UNWRITTEN, MACHINE = "certificate", "unreadable", "unwritten", "machine"
+REFUSED = re.compile(rb"refused ([a-z]+) ([a-z0-9-]+) at ([0-9]+:[0-9]+)")
+STATED_WORDS = ("unstated", "permitted", "forbidden")
+STATED = re.compile(rb"test (?:(unstated)|(permitted|forbidden): (?:ok|BUG|stricter))")
+SUMMARY = re.compile(rb"sweep [0-9]+")
+# the lines that are looked at are short
+HEAD = 4096
+
+
+@dataclass(frozen=True)
+class Found:
+    """What is known of a pair: a verdict whose certificate is judged, with what the test states of its outcome; or the
+    rows of a sweep that are observable, each as the sweep writes it; or the word that answers a query, as what is stated;
+    or the cell of a fault, with the place in a file that is refused."""
+
+    verdict: str = ""
+    stated: str = ""
+    fault: str = ""
+    rows: frozenset[str] = frozenset()
+    place: str = ""
+
+    @property
+    def is_swept(self) -> bool:
+        """Whether it has rows in place of a verdict."""
+        return self.verdict == SWEPT
+
+
+class Checker:
+    """The program, within limits; and what the last line says of it."""
+
+    def __init__(self, command: list[str], kib: int | None, seconds: float, calls: Calls, said: str = "") -> None:
+        self.command = command
+        self.said = said
+        self.kib = kib
+        self.seconds = seconds
+        self.calls = calls
+
+    def status(self, words: list[str], out: IO[bytes]) -> int | None:
+        """Calls the program with these words."""
+        return self.calls.status([*self.command, *words], self.kib, self.seconds, out)
+
+    def answered(self, model: str, query: File, paths: tuple[str, str], out: IO[bytes]) -> Found:
+        """Asks a query of a model on its test; the paths are those of test and query. The answer goes to a file, and each of
+        its certificates is judged in the model that it is of."""
+        # what few calls need, and what takes as long to import as all the rest
+        # pylint: disable=import-outside-toplevel
+        from tools.texts.answers import AnswerRefused, read_answer
+        from tools.explain.files import parts_of
+        from tools.second.scopes import read_model
+        from tools.second.tokens import Fault
+
+        status = self.status([query.kind.check, model, *paths], out)
+        out.seek(0)
+        said = out.read()
+        found = answer_found(said)
+        if status != 0 or found.fault:
+            return fault_of(status, said.split(b"\n", 1)[0])
+        with open(model, "rb") as file:
+            text = file.read()
+        try:
+            read = read_model(text)
+            parts = [*parts_of(read, text, read_answer(said, read), query.text or b"")]
+        except (AnswerRefused, Fault):
+            return Found(fault=CERTIFICATE)
+        with tempfile.TemporaryDirectory() as folder:
+            of_part, part = os.path.join(folder, "model"), os.path.join(folder, "part")
+            for _, wanted, written, certificate in parts:
+                for path, content in ((of_part, written), (part, certificate)):
+                    with open(path, "wb") as file:
+                        file.write(content)
+                verdict = next(verdict for verdict, number in STATUSES.items() if number == wanted)
+                fault = self.fault_of_judge(verdict, [str(query.kind.verify), of_part, paths[0], part])
+                if fault:
+                    return Found(fault=fault)
+        return found
+
+    def found(self, model: str, test: File, path: str, out: IO[bytes], part: str) -> Found:
+        """Checks a pair: a model, and a test at this path. The certificate goes to a file, which has the last path."""
+        status = self.status([test.kind.check, model, path], out)
+        lines = os.pread(out.fileno(), HEAD, 0).split(b"\n")
+        first, second = lines[0], lines[1] if len(lines) > 1 else b""
+        if test.kind.verify is None and status == 0 and SUMMARY.fullmatch(first):
+            out.seek(0)
+            return rows_found(out.read())
+        verdict = first.decode("latin-1")
+        if test.kind.verify is not None and verdict in STATUSES and status == STATUSES[verdict]:
+            return self.judged(verdict, second, [test.kind.verify, model, path, part])
+        return fault_of(status, first)
+
+    def judged(self, verdict: str, second: bytes, words: list[str]) -> Found:
+        """The verdict, where the judge of certificates says the same."""
+        stated = STATED.fullmatch(second)
+        fault = self.fault_of_judge(verdict, words)
+        if fault or stated is None:
+            return Found(fault=fault or FAULT)
+        return Found(verdict, (stated[1] or stated[2]).decode("ascii"))
+
+    def fault_of_judge(self, verdict: str, words: list[str]) -> str:
+        """The cell where the judge of certificates does not say this verdict; nothing where it does."""
+        with tempfile.TemporaryFile() as out:
+            status = self.status(words, out)
+            said = os.pread(out.fileno(), HEAD, 0)
+        if status is None:
+            return TIME
+        is_same = status == STATUSES[verdict] and said.rstrip(b"\n") == b"verified " + verdict.encode("ascii")
+        return "" if is_same else CERTIFICATE
+
+
+def fault_of(status: int | None, first: bytes) -> Found:
+    """The fault of a call that gave no verdict."""
+    refused = REFUSED.fullmatch(first)
+    if status is None:
+        return Found(fault=TIME)
+    if status == 3 and refused is not None:
+        kind, word, place = (part.decode("ascii") for part in refused.groups())
+        return Found(fault=f"{kind}:{word}", place=place)
+    return Found(fault=UNREADABLE if status == 4 else f"status:{status}")
+
+
+def rows_found(text: bytes) -> Found:
+    """The rows of a sweep that are observable."""
+    lines = text.decode("latin-1").splitlines()
+    if lines[-1:] != ["end"]:
+        return Found(fault=FAULT)
+    ending = f" {OBSERVABLE}"
+    rows = (line.removesuffix(ending) for line in lines if line.startswith("row ") and line.endswith(ending))
+    return Found(SWEPT, rows=frozenset(rows))
+
+
+def answer_found(text: bytes) -> Found:
+    """The word that answers a query."""
+    from tools.texts.answers import WORLDS
+
+    first, _, word = text.split(b"\n", 1)[0].decode("latin-1").partition(" ")
+    return Found(ASKED, word) if first == "ask" and word in WORLDS else Found(fault=FAULT)
+
+
+def cell_of(found: Found, is_allowed: bool | None) -> str:
+    """What the table shows of a verdict, where a row says what is allowed, or else the test itself."""
+    if found.fault:
+        return found.fault
+    if is_allowed is None:
+        if found.stated not in ("permitted", "forbidden"):
+            return found.verdict
+        is_allowed = found.stated == "permitted"
+    if found.verdict == OBSERVABLE:
+        return OK if is_allowed else BUG
+    return STRICTER if is_allowed else OK
+
+
+def cell_of_answer(found: Found, expected: str) -> str:
+    """What the table shows of the answer to a query."""
+    return OK if found.stated == expected else f"{BUG} ({found.stated})"
+
+
+def kind_of(cell: str) -> str:
+    """A cell without the answer in its brackets."""
+    return BUG if cell.startswith(f"{BUG} (") else cell
+
+
+def cell_of_rows(found: Found, allowed: frozenset[str]) -> str:
+    """What the table shows of a sweep, where a machine says which rows come up."""
+    if found.rows - allowed:
+        return BUG
+    return STRICTER if allowed - found.rows else OK
+
+
+def remove(path: str) -> None:
+    """Removes a file that may be there."""
+    with suppress(FileNotFoundError):
+        os.unlink(path)

@@ -1,0 +1,126 @@
+"""What a suite finds as SARIF: what is BUG or stricter, and below its table slips that lint names, and faults of files."""
+import json
+import os
+import re
+from typing import Iterable, Iterator, Mapping, NamedTuple, Sequence
+from urllib.parse import quote
+
+from tools.suite.files import File
+from tools.suite.junit import FAILURES, SENTENCES, Case, sentence_of
+from tools.suite.pairs import BUG, kind_of
+from tools.suite.reports import writable
+from tools.texts.quoting import shown
+
+VERSION = "2.1.0"
+SCHEMA = "https://json.schemastore.org/sarif-2.1.0.json"
+PLACE = re.compile(r":([1-9][0-9]*):([1-9][0-9]*): ([a-z0-9'-]+): (.*)", re.DOTALL)
+# the tables of pages that have a row for each kind
+KIND, FAULTS = "| kind | what it says |", ("| word of a model | meaning |", "| word of a test | meaning |")
+ROW = re.compile(r"\| ((?:`[^`]+`(?:, )?)+) \| (.*) \|")
+
+
+class Rule(NamedTuple):
+    """A kind of lines: its word, what pages say of it, and whether it is a fault, that is no slip."""
+
+    name: str
+    sentence: str
+    is_fault: bool
+
+
+def rules_in(top: str) -> list[Rule]:
+    """What cells say of pairs, and the kinds of lint and the words of faults, as the pages have them."""
+    slips = rows_of(os.path.join(top, "docs", "lint.md"), (KIND,))
+    faults = rows_of(os.path.join(top, "docs", "faults.md"), FAULTS)
+    found = [Rule(name, SENTENCES[name], name == BUG) for name in FAILURES]
+    found += [Rule(name, said, False) for name, said in slips] + [Rule(name, said, True) for name, said in faults]
+    return list({rule.name: rule for rule in found}.values())
+
+
+def rows_of(path: str, heads: Sequence[str]) -> Iterator[tuple[str, str]]:
+    """The words of the tables with these heads, each with what the page says of it. A page may be missing."""
+    try:
+        with open(path, encoding="utf-8") as file:
+            lines = file.read().splitlines()
+    except OSError:
+        return
+    is_inside = False
+    for line in lines:
+        is_inside = line in heads or is_inside and line.startswith("|")
+        row = ROW.fullmatch(line) if is_inside else None
+        if row is not None:
+            for name in re.findall("`([^`]+)`", row[1]):
+                yield name, row[2]
+
+
+def sarif(cases: Sequence[Case], lines: Sequence[str], files: Iterable[File], rules: Sequence[Rule]) -> bytes:
+    """The pairs that are BUG or stricter, and of the lines those that name a place of a file, with all rules."""
+    known = {rule.name: rule for rule in rules}
+    # the longest name first, since one may begin another
+    names = sorted({shown(file.path): file.path for file in files}.items(), key=lambda item: len(item[0]), reverse=True)
+    results = [result_of_case(known, case) for case in cases if kind_of(case.cell) in FAILURES]
+    for line in lines:
+        path, place = place_in(line, names)
+        if place is not None:
+            # the faults of names in a macro, and `unnamed`, have no row of their own
+            known.setdefault(place[3], Rule(place[3], place[3], True))
+            results.append(result(known, place[3], place[4], location(path, int(place[1]), int(place[2]))))
+    text = {
+        "$schema": SCHEMA,
+        "version": VERSION,
+        "runs": [
+            {
+                "tool": {
+                    "driver": {
+                        "name": "pipecheck-suite",
+                        "rules": [
+                            {"id": rule.name, "shortDescription": {"text": writable(rule.sentence)}}
+                            for rule in known.values()
+                        ],
+                    }
+                },
+                "results": results,
+            }
+        ],
+    }
+    return json.dumps(text, indent=1).encode("ascii") + b"\n"
+
+
+def result(rules: Mapping[str, Rule], name: str, said: str, place: dict[str, object]) -> dict[str, object]:
+    """A result by the rule of this name, at a place. Rules that come later stand behind."""
+    return {
+        "ruleId": name,
+        "ruleIndex": [*rules].index(name),
+        "level": "error" if rules[name].is_fault else "warning",
+        "message": {"text": writable(said)},
+        "locations": [place],
+    }
+
+
+def result_of_case(rules: Mapping[str, Rule], case: Case) -> dict[str, object]:
+    """That of a pair, at the model; the test stands beside it."""
+    said = f"{shown(case.model.path)} on {shown(case.test.path)}: {sentence_of(case.cell, case.test)}"
+    found = result(rules, kind_of(case.cell), said, location(case.model.path, 1, 1))
+    found["relatedLocations"] = [location(case.test.path, 1, 1)]
+    return found
+
+
+def place_in(line: str, names: Sequence[tuple[str, str]]) -> tuple[str, re.Match[str] | None]:
+    """The file that a line begins with, and what follows; nothing where the line names no place."""
+    for name, path in names:
+        place = PLACE.fullmatch(line, len(name)) if line.startswith(name) else None
+        if place is not None:
+            return path, place
+    return "", None
+
+
+def location(path: str, line: int, column: int) -> dict[str, object]:
+    """A place in a file."""
+    uri = quote(os.fsencode(path))
+    if os.path.isabs(path):
+        uri = f"file://{uri}"
+    return {
+        "physicalLocation": {
+            "artifactLocation": {"uri": uri},
+            "region": {"startLine": line, "startColumn": column},
+        }
+    }

@@ -1,0 +1,159 @@
+"""The words and the variables of the environment that the suite is called with."""
+import os
+import re
+from dataclasses import dataclass, field
+from typing import Mapping, Sequence
+
+from tools.suite.files import (
+    KINDS, MODEL_ENDING, File, ending_of, is_row, is_test, judge_distinct, judge_present, model_file, test_file
+)
+from tools.suite.refusing import Refusal
+from tools.texts.quoting import quoted, shown
+
+SECONDS = re.compile(r"[0-9]{1,9}(\.[0-9]+)?", re.ASCII)
+JOBS = re.compile(r"[0-9]{1,4}", re.ASCII)
+OPTIONS = ("--differ", "--bad", "--axioms")
+# options that a path follows
+BASELINE, JUNIT, SARIF = "--baseline", "--junit", "--sarif"
+OPTIONS_OF_PATHS = (BASELINE, JUNIT, SARIF)
+
+
+@dataclass(frozen=True)
+class Words:
+    """What the suite is asked for: options, some with a path, models and tests."""
+
+    options: Mapping[str, str]
+    models: list[File]
+    tests: list[File]
+
+
+@dataclass
+class Paths:
+    """The files that words name."""
+
+    models: list[str] = field(default_factory=list)
+    tests: list[str] = field(default_factory=list)
+    # the folders of tests
+    folders: list[str] = field(default_factory=list)
+
+
+def read_words(words: Sequence[str], environ: Mapping[str, str], top: str) -> Words:
+    """The options, and the files that the other words name, in any order. Where no word names a model all that are
+    shipped are taken, and where none names a test the folder SUITE_TESTS, or that of the shipped ones."""
+    options, rest = options_of(words)
+    paths = Paths()
+    for word in rest:
+        take_word(paths, word)
+    models = paths.models
+    if not models:
+        models = files_in(os.path.join(top, "examples", "models"), (MODEL_ENDING,))
+    if "--axioms" in options and len(models) != 1:
+        raise Refusal("--axioms takes one model, which is named")
+    if not paths.tests and not paths.folders:
+        take_folder(paths, environ.get("SUITE_TESTS") or os.path.join(top, "examples", "tests"))
+    models, tests = once(models), once(paths.tests)
+    shipped = os.path.join(top, "examples", "tests")
+    folders = [*dict.fromkeys(os.path.dirname(path) for path in tests), shipped]
+    found = Words(options, [model_file(path) for path in models], [test_file(path, folders) for path in tests])
+    judge_distinct("model", found.models)
+    judge_distinct("test", found.tests)
+    return found
+
+
+def once(paths: Sequence[str]) -> list[str]:
+    """The paths without those of a file that stands among them before."""
+    found: dict[str, str] = {}
+    for path in paths:
+        # a link is a file of its own: it gives another name
+        found.setdefault(os.path.join(os.path.realpath(os.path.dirname(path)), os.path.basename(path)), path)
+    return list(found.values())
+
+
+def options_of(words: Sequence[str]) -> tuple[Mapping[str, str], list[str]]:
+    """The options, with the paths that follow them, and the other words."""
+    options: dict[str, str] = {}
+    rest: list[str] = []
+    waiting = iter(words)
+    for word in waiting:
+        if word == "--":
+            rest += waiting
+        elif word in OPTIONS:
+            options[word] = ""
+        elif word in OPTIONS_OF_PATHS:
+            path = next(waiting, "")
+            if not path or word in options:
+                raise Refusal(f"{word} takes one file, which is named behind it")
+            options[word] = path
+        elif word.startswith("-"):
+            raise Refusal(f"there is no option {quoted(word)}; --help shows how it is called")
+        else:
+            rest.append(word)
+    if "--axioms" in options and len(options) > 1:
+        raise Refusal("--axioms takes no other option beside it")
+    return options, rest
+
+
+def take_word(paths: Paths, word: str) -> None:
+    """Takes what a word names: a folder, or a file by its ending."""
+    judge_present(word)
+    if os.path.isdir(word):
+        take_folder(paths, word)
+    elif is_test(word):
+        paths.tests.append(word)
+    else:
+        paths.models.append(word)
+
+
+def take_folder(paths: Paths, folder: str) -> None:
+    """Takes the tests of a folder."""
+    tests = [path for path in files_in(folder, tuple(KINDS)) if is_row(path)]
+    if not tests:
+        raise Refusal(f"there is no test in {shown(folder)}")
+    paths.folders.append(folder)
+    paths.tests += tests
+
+
+def files_in(folder: str, endings: Sequence[str]) -> list[str]:
+    """The files of a folder with these endings, in the order of their names. Hidden ones are passed over."""
+    judge_present(folder)
+    try:
+        names = sorted(os.listdir(folder), key=os.fsencode)
+    except OSError as error:
+        raise Refusal(f"the folder {shown(folder)} cannot be read: {error.strerror}") from error
+    found = [os.path.join(folder, name) for name in names if not name.startswith(".") and ending_of(name) in endings]
+    for path in found:
+        judge_present(path)
+        if os.path.isdir(path):
+            raise Refusal(f"{shown(path)} is a folder with the name of a file")
+    return found
+
+
+def number_of_seconds(environ: Mapping[str, str]) -> float:
+    """The limit of one call."""
+    value = environ.get("SUITE_SECONDS") or "20"
+    if SECONDS.fullmatch(value) is None or float(value) == 0:
+        raise Refusal(f"SUITE_SECONDS is a number above 0, and not {quoted(value)}")
+    return float(value)
+
+
+def number_of_jobs(environ: Mapping[str, str]) -> int:
+    """How many calls run side by side."""
+    value = environ.get("SUITE_JOBS") or str(len(os.sched_getaffinity(0)))
+    if JOBS.fullmatch(value) is None or int(value) == 0:
+        raise Refusal(f"SUITE_JOBS is a number from 1 to 9999, and not {quoted(value)}")
+    return int(value)
+
+
+def folder_of(environ: Mapping[str, str], top: str) -> str:
+    """Where certificates go. An installed copy has no place of its own for them."""
+    if environ.get("SUITE_FOLDER"):
+        return environ["SUITE_FOLDER"]
+    if os.path.exists(os.path.join(top, "script", "build")):
+        return os.path.join(top, "out", "suite")
+    cache = environ.get("XDG_CACHE_HOME")
+    if not cache:
+        home = environ.get("HOME")
+        if not home:
+            raise Refusal("there is no HOME: name the folder of the certificates in SUITE_FOLDER")
+        cache = os.path.join(home, ".cache")
+    return os.path.join(cache, "pipecheck", "suite")

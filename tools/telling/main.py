@@ -1,0 +1,45 @@
+"""Writes what the script `pipecheck` says of words, of files and of refusals.
+
+    python3 tools telling forms [WORD]            the forms of all commands, or of one
+    python3 tools telling misuse WORD..           that these words are no command
+    python3 tools telling before WORD..           the same before a program is made that says so; nothing where they are one
+    python3 tools telling unreadable FILE..       which of these files can't be opened
+    python3 tools telling refusal LINE WORD..     where a file of these words has the fault that the program's line names
+    python3 tools telling place LINE FILE         the same of one file
+"""
+import os
+import sys
+from typing import Iterator
+
+from tools import TOP
+from tools.second.standard_output import status_of
+from tools.telling.files import unreadable
+from tools.telling.forms import Forms
+from tools.telling.refusals import place_of, refusal_of, told
+
+
+def lines(what: str, words: list[str]) -> Iterator[str]:
+    """What is said."""
+    if what == "forms":
+        yield from Forms(TOP).lines(*words)
+    elif what == "misuse":
+        yield from Forms(TOP).misuse(words)
+    elif what == "before":
+        yield from Forms(TOP).before(words)
+    elif what == "unreadable":
+        yield from unreadable(words)
+    elif what == "refusal":
+        yield from told(TOP, words[0], words[1:])
+    else:
+        yield from place_of(TOP, words[1], refusal_of(words[0]))
+
+
+def main(what: str, *words: str) -> int:
+    """Writes it."""
+    for line in lines(what, list(words)):
+        print(line)
+    return 0
+
+
+if __name__ == "__main__":
+    sys.exit(status_of(main, sys.argv[1:]))

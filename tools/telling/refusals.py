@@ -1,0 +1,168 @@
+"""Where a refused file has its fault, what could stand there, and which command reads the file."""
+import os
+import re
+from dataclasses import dataclass
+from typing import Iterator
+
+from tools.telling.files import sentence
+from tools.telling.forms import Forms
+from tools.texts.expecting import sentence_of, syntax_fault
+from tools.texts.naming import line_and_column
+from tools.texts.quoting import shown
+
+# of a longer file no more is looked at
+LIMIT = 1_048_577
+# how much of a long line is shown, and what of it before the mark
+MOST_SHOWN, FAR, BEFORE = 120, 100, 60
+KINDS = {"model": ("MODEL",), "test": ("TEST", "FILE", "PATTERN"), "query": ("QUERY",)}
+READERS = {
+    "check": "check86 reads it", "check2": "check86 reads it", "verify": "verify86 reads it",
+    "check86": "check reads it", "verify86": "verify reads it",
+}
+INSTRUCTION = re.compile(rb"[A-Z$]|(?:mov|xchg|mfence|lock|add|sub|inc|dec|cmp|xadd|xor|and|or|j)[a-z]*[ \t|;]")
+OPERAND = re.compile(rb"(?:[|]|(?:MOV|mov)[^|]*,|LOCK|lock)[ \t]*$")
+
+
+@dataclass(frozen=True)
+class Refusal:
+    """What the program refuses: a model, a test or a query, by the word of its fault, at a line and a column."""
+
+    kind: str
+    word: str
+    line: int
+    column: int
+
+    @property
+    def place(self) -> str:
+        return f"{self.line}:{self.column}"
+
+
+def refusal_of(said: str) -> Refusal:
+    """From the line that the program writes."""
+    _, kind, word, _, place = said.split()
+    line, _, column = place.partition(":")
+    return Refusal(kind, word, int(line), int(column))
+
+
+def contents(path: str) -> bytes:
+    """The bytes of a file, up to one more than the limit."""
+    with open(path, "rb") as file:
+        return file.read(LIMIT)
+
+
+def marked_line(data: bytes, line: int, column: int) -> Iterator[str]:
+    """The line, or of a long one the part around the column, with a mark under the column. Each byte takes one column: `?` stands
+    for those that are no printable ASCII."""
+    start = column - BEFORE if column > FAR else 1
+    lines = data.split(b"\n")
+    text = lines[line - 1].removesuffix(b"\r")[start - 1:][:MOST_SHOWN] if line <= len(lines) else b""
+    yield "    " + "".join(" " if it == 9 else chr(it) if 32 <= it < 127 else "?" for it in text)
+    yield " " * (4 + column - start) + "^"
+
+
+def place_of(top: str, path: str, refusal: Refusal) -> Iterator[str]:
+    """The place in the form that editors jump to, the fault's sentence and the line."""
+    head = f"word of a {'test' if refusal.kind == 'test' else 'model'}"
+    yield f"{shown(path)}:{refusal.place}: {refusal.word}: {sentence(top, head, refusal.word)}"
+    yield from marked_line(contents(path), refusal.line, refusal.column)
+
+
+def begins_with(words: bytes, data: bytes) -> bool:
+    """Whether a line begins with one of these words and what stands behind it."""
+    return re.search(rb"^[ \t]*(?:" + words + rb')[ \t]+(?:"|[0-9])', data, re.MULTILINE) is not None
+
+
+def expected(word: str, kinds: list[str], path: str, refusal: Refusal) -> Iterator[str]:
+    """What could stand at a fault of syntax; and that a file is of the other kind, where it is."""
+    kind = refusal.kind
+    if kind == "test" and word.endswith("86"):
+        kind = "listing"
+    elif kind == "test" and word == "sweep":
+        kind = "pattern"
+    data = contents(path)
+    fault = syntax_fault(kind, data)
+    if fault is not None and line_and_column(data, fault.place) == refusal.place and sentence_of(fault):
+        yield f"pipecheck: {sentence_of(fault)}"
+    form = " ".join([word, *kinds])
+    if kind == "model" and begins_with(b"Litmus2?", data):
+        yield f"pipecheck: {shown(path)} is a test, and stands for the model: {form}"
+    if kind in ("test", "pattern") and begins_with(b"StageName|Axiom|DefineMacro", data):
+        yield f"pipecheck: {shown(path)} is a model, and stands for the test: {form}"
+
+
+def reader(word: str, path: str) -> Iterator[str]:
+    """Which command reads the file, where it is a listing of herd's that a command for tests got, or a test that a command for
+    listings got."""
+    data = contents(path)
+    said = READERS.get(word, f"check86 and verify86 read it, and test86 writes it as a test, which {word} takes")
+    is_listing = re.match(rb"[ \t]*X86[ \t]", data) is not None
+    if word.endswith("86") and not is_listing and re.search(rb'^[ \t]*Litmus2?[ \t]*"', data, re.MULTILINE):
+        yield f"pipecheck: {shown(path)} is a test of this project's: {said}"
+    elif not word.endswith("86") and is_listing:
+        yield f"pipecheck: {shown(path)} is a listing of herd's for X86: {said}"
+
+
+def left_out(top: str, path: str, refusal: Refusal) -> Iterator[str]:
+    """What to do about what of herd's stands at a fault of tokens or of syntax, where a listing here has no such thing."""
+    if refusal.word in ("lexical", "syntax"):
+        word = left_out_word(contents(path), refusal)
+        if word:
+            yield f"pipecheck: {sentence(top, 'left out of a listing', word)}"
+
+
+def left_out_word(data: bytes, refusal: Refusal) -> str:
+    """The word that docs/faults.md has it by; nothing where it is something else."""
+    lines = data.split(b"\n")
+    line = lines[refusal.line - 1] if refusal.line <= len(lines) else b""
+    before, rest = line[: refusal.column - 1], line[refusal.column - 1:]
+    is_begun = is_ended = False
+    # whether the last line before this one that has something ends with a semicolon
+    is_closed = False
+    for text in [*lines[: refusal.line - 1], before]:
+        is_begun = is_begun or re.match(rb"[ \t\r]*[{]", text) is not None
+        is_ended = is_ended or is_begun and b"}" in text
+    for text in lines[: refusal.line - 1]:
+        if text.strip(b" \t\r"):
+            is_closed = re.search(rb";[ \t\r]*$", text) is not None
+    is_header = re.match(rb'[A-Za-z][A-Za-z0-9_]*[ \t]+[^ \t"]+[ \t\r]*$', rest) is not None
+    if refusal.place == "1:1" and is_header and not re.match(rb"X86[ \t]", rest):
+        return "AArch64"
+    for word in ("locations", "filter", "forall", "\\/"):
+        if rest.startswith(word.encode()):
+            return word
+    if re.match(rb"not|true", rest) or re.search(rb"(?:^|[ \t(~])(?:not|true)[ \t]*$", before):
+        return "not"
+    if is_begun and not is_ended:
+        if re.match(rb"[0-9]+[ \t]*:", rest):
+            return "0:EAX=1"
+        if re.search(rb"[A-Za-z0-9_][ \t*]+$", before):
+            return "int x=1"
+        return "x;" if re.match(rb"[;}]", rest) else ""
+    is_instruction = INSTRUCTION.match(rest) is not None
+    is_operand = re.match(rb"[%(a-z]", rest) is not None
+    if is_ended and (is_instruction or is_operand) and OPERAND.search(before):
+        return "XCHG"
+    return "XCHG" if is_ended and is_instruction and is_closed and not before.strip(b" \t") else ""
+
+
+def listing_lines(top: str, said: str, path: str) -> Iterator[str]:
+    """Where a listing has the fault that this line refuses, and what to do about what is left out."""
+    refusal = refusal_of(said)
+    yield from place_of(top, path, refusal)
+    yield from left_out(top, path, refusal)
+
+
+def told(top: str, said: str, words: list[str]) -> Iterator[str]:
+    """Where the file that the program refuses by this line has its fault."""
+    refusal = refusal_of(said)
+    kinds = Forms(top).kinds_of(words)
+    for kind, path in zip(kinds, words[1:]):
+        if kind in KINDS[refusal.kind] and os.path.isfile(path):
+            yield from place_of(top, path, refusal)
+            if refusal.word == "syntax":
+                yield from expected(words[0], kinds, path, refusal)
+            if refusal.kind == "test" and words[0].endswith("86"):
+                yield from left_out(top, path, refusal)
+            if refusal.kind == "test":
+                yield from reader(words[0], path)
+            return

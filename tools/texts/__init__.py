@@ -1,0 +1,1 @@
+"""How files, places, nodes and tests are named, quoted, wrapped and written, for all tools."""

@@ -1,0 +1,97 @@
+"""How micro-ops, addresses, nodes and places of a model are written where a certificate is explained."""
+from tools.second.cases import Address, Case, Location
+from tools.second.grounding import Node
+from tools.second.models import Axiom, Model
+from tools.second.positions import NodeNames
+from tools.texts.origins import Origin
+
+LETTERS = ("x", "y", "z", "w", "u", "v", "a", "b", "c", "d", "e", "f")
+
+# a node (with None) or an edge, and whether it is asked for
+Fact = tuple[Node, Node | None, bool]
+
+
+def line_and_column(text: bytes, at: int) -> str:
+    """A place in a text as line and column."""
+    lines = text[:at].split(b"\n")
+    return f"{len(lines)}:{len(lines[-1]) + 1}"
+
+
+class Names:
+    """How micro-ops, addresses, nodes and places of the model are written."""
+
+    def __init__(self, model: Model, case: Case, model_text: bytes) -> None:
+        self.case = case
+        self.nodes = NodeNames(model, case)
+        self.text = model_text
+        pages = dict.fromkeys([op.pa for op in case.ops if op.pa is not None] + [*case.initial, *case.final])
+        # those of a listing have names of their own
+        has_letters = len(pages) <= len(LETTERS) and not any(isinstance(page, Location) for page in pages)
+        letters = (letter for letter in LETTERS if letter not in case.names.values())
+        self.pages = {
+            page: case.names.get(page) or (next(letters) if has_letters else str(page)) for page in pages
+        }
+
+    def microop(self, op: int) -> str:
+        """The name of a micro-op."""
+        return f"{self.case.ops[op].g}.{self.case.ops[op].n}"
+
+    def page(self, page: Address) -> str:
+        """An address."""
+        return f"[{self.pages[page]}]"
+
+    def node(self, node: Node) -> str:
+        """A node as certificates write it."""
+        return self.nodes.write(node)
+
+    def place(self, at: int) -> str:
+        """A place in the model as line and column."""
+        return line_and_column(self.text, at)
+
+    def axiom(self, axiom: Axiom) -> str:
+        """An axiom by its title."""
+        return f'axiom "{axiom.title}"'
+
+    def is_query(self, _axiom: Axiom) -> bool:
+        """Whether an axiom is a query that is asked of the model, or its denial."""
+        return False
+
+    def fact(self, fact: Fact) -> str:
+        """A node or an edge in words."""
+        start, end, wanted = fact
+        if end is None:
+            return f"{self.node(start)} is {'' if wanted else 'not '}there"
+        return f"{'' if wanted else 'not '}{self.node(start)} before {self.node(end)}"
+
+    def chain(self, nodes: list[Node]) -> str:
+        """Nodes each of which is before the next."""
+        return " before ".join(map(self.node, nodes))
+
+    def origin(self, origin: Origin | None) -> str:
+        """Where a part of the tree comes from."""
+        if origin is None:
+            return "several axioms"
+        label = f'"{origin.label}" by ' if origin.label else ""
+        return label + self.formula(origin) + self.inside(origin)
+
+    def formula(self, origin: Origin | None) -> str:
+        """The axiom that a part of the tree comes from, what its quantifiers took, and the innermost macro."""
+        if origin is None:
+            return "several axioms"
+        words = [f"{self.axiom(origin.axiom)} at {self.place(origin.axiom.at)}"]
+        for taken in origin.taken:
+            words.append(f"{taken.name} = {self.microop(taken.value) if taken.is_microop else f'core {taken.value}'}")
+        if origin.macro is not None:
+            words.append(f"in macro {origin.macro}")
+        return ", ".join(words)
+
+    def inside(self, origin: Origin | None) -> str:
+        """The place in the innermost macro, where there is one."""
+        return "" if origin is None or origin.macro is None else f" at {self.place(origin.at)}"
+
+    def of_side(self, origin: Origin | None, side: str) -> str:
+        """Where a part of the tree comes from that holds on a side of a split alone, whose line says the rest."""
+        if origin is None:
+            return side
+        label = f'"{origin.label}" by ' if origin.label else ""
+        return f"{label}{side}, {self.axiom(origin.axiom)}"

@@ -1,0 +1,124 @@
+"""The test that a listing of herd's says, as a text that every command takes.
+
+The names of the listing stand in comments: of its threads, locations and registers, and what its author wrote beside
+them.
+"""
+from dataclasses import replace
+from typing import Iterable, Iterator
+
+from tools.second.cases import OPEN, Case, ExpectationItem, Item, Location, Op, OpItem, Page, ValueItem, read_items
+from tools.second.listings import PIECE, Instruction, Judge, Listing, ListingReader, behind_header
+from tools.second.tokens import Fault, tokens
+
+# a test has at most so many bytes
+LIMIT = 1_048_576
+# how much of a line is shown in a comment
+MOST_CHARACTERS = 100
+
+
+def test_of_listing(data: bytes) -> str:
+    """The text of the test that a listing says, or the listing's first fault. Comments are left out where the text
+    would have too many bytes with them; where it has without them too, the listing is refused."""
+    title, start = behind_header(data)
+    listing = ListingReader(tokens(data, PIECE, start)).listing()
+    items = Judge(listing).items()
+    text = within_limit(title, notes(data, start), list(item_lines(listing, items)))
+    judge_text(text, items)
+    return text
+
+
+def within_limit(title: str, above: Iterable[str], lines: list[tuple[str, str]]) -> str:
+    """A text with comments, or without them where it would be too long with them, or the fault that it is too long."""
+    for text in (written(title, [*above], lines), written(title, [], [(line, "") for line, _ in lines])):
+        if len(text) <= LIMIT:
+            return text
+    raise Fault("too-large", 0)
+
+
+def written(title: str, above: list[str], lines: list[tuple[str, str]]) -> str:
+    """A text of a title, lines of comments and items with a comment each, which may be empty."""
+    width = max((len(line) for line, comment in lines if comment), default=0)
+    found = [f'Litmus "{printable(title).replace(chr(34), chr(39))}".']
+    found += [f"% {line}".rstrip() for line in above]
+    found += [f"{line.ljust(width)} % {comment}" if comment else line for line, comment in lines]
+    return "\n".join([*found, ""])
+
+
+def printable(text: str) -> str:
+    """The text with `?` for what is no printable ASCII, cut short where it is long and says nothing to `lint`."""
+    shown = "".join(letter if " " <= letter <= "~" else "?" for letter in text.replace("\t", " "))
+    is_whole = len(shown) <= MOST_CHARACTERS or shown.lower().startswith("lint allows:")
+    return shown if is_whole else shown[:MOST_CHARACTERS].rstrip() + " .."
+
+
+def notes(data: bytes, start: int) -> Iterator[str]:
+    """What the author of a listing wrote beside it: the lines of its header after the first, and comments."""
+    header = data[:start].decode("latin-1").splitlines()[1:]
+    comments = (match.group() for match in PIECE.finditer(data, start) if match.lastgroup == "comment")
+    inside = [line for one in comments for line in one.decode("latin-1")[2:-2].splitlines()]
+    yield from (printable(line.strip()) for line in [*header, *inside] if line.strip())
+
+
+def item_lines(listing: Listing, items: list[Item]) -> Iterator[tuple[str, str]]:
+    """Each item with a comment that has its names."""
+    cells = instructions(listing)
+    for item in items:
+        if isinstance(item, OpItem):
+            yield op_text(item.op), op_comment(item.op, next(cells))
+        elif isinstance(item, ValueItem):
+            assert isinstance(item.pa, Location)
+            yield value_line(item.word, item.pa, item.value)
+        else:
+            assert isinstance(item, ExpectationItem)
+            yield f"{item.word}.", ""
+
+
+def value_line(word: str, location: Location, value: object) -> tuple[str, str]:
+    """An `Init` or a `Final` with a comment that names its location."""
+    return f"{word} (PA {location.tag} {location.index}) {value}.", f"{printable(location.name)} = {value}"
+
+
+def instructions(listing: Listing) -> Iterator[Instruction]:
+    """The instructions in the order of their micro-ops."""
+    for column in range(len(listing.head)):
+        yield from (one for row in listing.rows if (one := row.cells[column]) is not None)
+
+
+def op_text(op: Op) -> str:
+    """A micro-op as a test writes it, or as a pattern does where it has no value."""
+    types = "".join(f" {name}" for name in sorted(op.types))
+    value = OPEN if op.value is None else op.value
+    place = "" if op.va is None else f" (VA {op.va.tag} {op.va.index}) (PA {op.va.tag} {op.va.index}) (Data {value})"
+    return f"Microop {op.g} {op.core} {op.thread} {op.n} ({op.access}{types}{place})."
+
+
+def op_comment(op: Op, one: Instruction) -> str:
+    """A micro-op as the listing writes it, with its thread; of a load the value that its register gets, too."""
+    if one.location is None:
+        return f"P{op.core}: {one.word.piece}"
+    location = f"[{printable(one.location.piece)}]"
+    if one.register is None:
+        return f"P{op.core}: MOV {location},${op.value}"
+    register = printable(one.register.piece)
+    return f"P{op.core}: MOV {register},{location}, and {register} = {op.value}"
+
+
+def judge_text(text: str, items: list[Item]) -> None:
+    """The text says what these items say."""
+    wanted = Case("")
+    for item in items:
+        item.add_to(wanted)
+    assert without_names(read_items(text.encode("ascii"))[0]) == without_names(wanted)
+
+
+def without_names(case: Case) -> Case:
+    """The case without its title and the names of its locations, which no axiom can ask for."""
+    ops = [op if op.va is None else replace(op, va=plain(op.va), pa=plain(op.pa)) for op in case.ops]
+    initial, final = ({plain(address): value for address, value in known.items()} for known in (case.initial, case.final))
+    return replace(case, title="", ops=ops, initial=initial, final=final)
+
+
+def plain(address: object) -> Page:
+    """The address of a page without its name."""
+    assert isinstance(address, Page)
+    return Page(address.tag, address.index)
