@@ -11,37 +11,18 @@ use super::alternatives::side_is_closed;
 use super::branch::Branch;
 use super::candidate::is_candidate_now;
 use super::closing::would_close;
-use super::enter::add_row;
 use super::numbered_tree::NumberedTree;
 use super::ors::{is_or, sides};
 use super::place::Place;
-use super::rows::row_at;
 use super::side::Side;
 use super::standing::Standing;
+use super::walk::Walk;
 use order_graph::{Added, Mark, OrderGraph};
 use pc_common::Memory;
-use pc_ground::{Row, RowKind, Version};
+use pc_ground::{Row, Version};
 use std::alloc::Global;
 use std::sync::ledger::Ledger;
 use undo_trail::Steps;
-
-/// Whether the row is a literal that would clash. Asserts it where it would not.
-fn row_clashes<L: Ledger>(
-    row: Row<u32>,
-    graph: &mut OrderGraph,
-    steps: &mut Steps<L>,
-) -> Result<bool, Memory>
-    requires below { IsRowBelow graph.old.nodes row }
-    ensures { IfOk result (λ _. IsFurther graph.old graph.new) }
-{
-    if let RowKind::Lit(literal) = row.kind {
-        if graph.would_clash(literal) {
-            return Ok(true);
-        }
-    }
-    let added = add_row(row, graph, steps)?;
-    Ok(matches!(added, Added::Clash(_)))
-}
 
 /// Whether the literals that the part at `root` asserts under this sign clash, each of which is asked before
 /// it is asserted.
@@ -53,23 +34,19 @@ fn part_clashes<L: Ledger>(
     steps: &mut Steps<L>,
 ) -> Result<bool, Memory>
     requires below { All (IsRowBelow graph.old.nodes) rows.now }
-    requires root { root < length rows.now }
     ensures { IfOk result (λ _. IsFurther graph.old graph.new) }
 {
-    let end = root.saturating_add(row_at(rows, root).skip);
-    let mut next = root;
-    for at in root..end {
-        if at >= rows.len() {
+    let mut walk = Walk::new(rows, negated, root);
+    for _turn in 0..rows.len() {
+        let Some(literal) = walk.next_literal(rows) else {
             return Ok(false);
-        }
-        if at < next {
-            continue;
-        }
-        let row = row_at(rows, at).negate_if(negated);
-        if row_clashes(row, graph, steps)? {
+        };
+        if graph.would_clash(literal) {
             return Ok(true);
         }
-        next = at.saturating_add(row.stride());
+        if let Added::Clash(_) = graph.assert_literal(literal, steps)? {
+            return Ok(true);
+        }
     }
     Ok(false)
 }
