@@ -124,6 +124,11 @@ fn size_of(words: &[u64]) -> u64 {
     size
 }
 
+/// The first node from `from` on that is in the set.
+fn first_node(nodes: &Bits, from: u32) -> Option<u32> {
+    u32::try_from(nodes.first_from(from as usize)?).ok()
+}
+
 impl Changes {
     /// That of no nodes, which finds nothing.
     pub(crate) fn new(alloc: Global) -> Changes {
@@ -342,17 +347,7 @@ impl Changes {
 
     /// The first node from `from` on of which pairs may have changed.
     pub(crate) fn next_touched(&self, from: u32) -> Option<u32> {
-        self.node_from(&self.touched, from)
-    }
-
-    /// The first node from `from` on that is in the set.
-    fn node_from(&self, set: &Bits, from: u32) -> Option<u32> {
-        let node = set.first_from(from as usize)?;
-        if node < self.sizes.len() {
-            Some(node as u32)
-        } else {
-            None
-        }
+        first_node(&self.touched, from)
     }
 
     /// Whether the node reaches more.
@@ -379,9 +374,9 @@ impl Changes {
     pub(crate) fn first_other(&self, others: Others, from: u32) -> Option<u32> {
         match others {
             Others::All => Some(from),
-            Others::Reached => self.node_from(&self.reached, from),
-            Others::Closing => self.node_from(&self.closing, from),
-            Others::Joined => self.node_from(&self.joined, from),
+            Others::Reached => first_node(&self.reached, from),
+            Others::Closing => first_node(&self.closing, from),
+            Others::Joined => first_node(&self.joined, from),
         }
     }
 }
