@@ -3,7 +3,8 @@ ghost use Rattle.order_graph.specs.Ways.{IsBelow};
 ghost use Rattle.solver.specs.Below.{IsRowBelow};
 
 use super::ors::literal_at;
-use super::rows::{row_at, skip_at};
+use super::rows::row_at;
+use super::walk::skip_at;
 use super::side::Side;
 use order_graph::OrderGraph;
 use pc_ground::{Literal, Row, RowKind};

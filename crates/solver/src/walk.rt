@@ -3,8 +3,13 @@ ghost use Rattle.order_graph.specs.Ways.{IsBelow};
 ghost use Rattle.solver.specs.Below.{IsRowBelow};
 
 use super::ors::literal_at;
-use super::rows::{row_at, skip_at};
+use super::rows::row_at;
 use pc_ground::{Literal, Row, RowKind};
+
+/// How many positions the tree at `p` has, or 0 past the end.
+pub(crate) fn skip_at(rows: &[Row<u32>], p: usize) -> usize {
+    if p < rows.len() { rows[p].skip } else { 0 }
+}
 
 /// A walk over what a part of the tree asserts, under a sign: in preorder, under each And and past the whole of each Or.
 ///

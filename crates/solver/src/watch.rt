@@ -1,6 +1,5 @@
 use super::ors::denied_left;
-use super::rows::skip_at;
-use super::walk::Walk;
+use super::walk::{Walk, skip_at};
 use pc_ground::{Literal, Row, RowKind, Version};
 use std::alloc::Global;
 
