@@ -13,7 +13,9 @@ from functools import cache
 from itertools import permutations, product
 from typing import Callable, Iterable, Iterator
 
-from tests.cases import TOP, Cases, Done, apart, call, environment, pipecheck, program, read, run, tool, tool_entry, write
+from tests.cases import (
+    PATIENCE, TOP, Cases, Done, apart, call, comes, environment, pipecheck, program, read, run, tool, tool_entry, write
+)
 
 # what stands apart is imported once, and is there in each process that is forked from this one
 sys.path.insert(0, apart())
@@ -23,8 +25,6 @@ from tools.agree import comparing_programs
 from tools.agree.programs import Program
 from tools.agree.small_programs import Family, Shape, shapes_of
 
-# how many seconds a process may take to come to where it is looked at
-PATIENCE = 240
 AGREE = tool("agree", apart())
 BUFFER, DRAIN = "examples/models/tso-buffer.uspec", "examples/models/tso-drain.uspec"
 EARLY = "examples/buggy/tso-ooo-commit-early.uspec"
@@ -174,10 +174,7 @@ class Ended(AgreeCases):
 
     def wait_until(self, is_so: Callable[[], bool]) -> None:
         """Waits until something comes true, or fails."""
-        end = time.monotonic() + PATIENCE
-        while not is_so():
-            self.assertLess(time.monotonic(), end, "it did not come true in time")
-            time.sleep(0.1)
+        self.assertTrue(comes(is_so), "it did not come true in time")
 
     def test_goes_on(self) -> None:
         """What it has got goes when it is done, and is taken up for the same bytes alone. The program is called by a script that
