@@ -8,13 +8,14 @@ import re
 import signal
 import subprocess
 import sys
+import tempfile
 import time
 from functools import cache
 from itertools import permutations, product
 from typing import Callable, Iterable, Iterator
 
 from tests.cases import (
-    PATIENCE, TOP, Cases, Done, apart, call, comes, environment, pipecheck, program, read, run, tool, tool_entry, write
+    PATIENCE, TOP, Cases, Done, apart, call, comes, command, environment, pipecheck, program, read, run, tool, tool_entry, write
 )
 
 # what stands apart is imported once, and is there in each process that is forked from this one
@@ -176,6 +177,10 @@ class Ended(AgreeCases):
         """Waits until something comes true, or fails."""
         self.assertTrue(comes(is_so), "it did not come true in time")
 
+    def wait_until_all(self, asked: str) -> None:
+        """Waits until each process that compares waits for the program, which notes that in this folder."""
+        self.wait_until(lambda: len(os.listdir(asked)) >= len(os.sched_getaffinity(0)))
+
     def test_goes_on(self) -> None:
         """What it has got goes when it is done, and is taken up for the same bytes alone. The program is called by a script that
         waits at its 40th call, up to a sign."""
@@ -217,16 +222,20 @@ exec "{program()}" "$@"
                 os.remove(kept)
 
     def test_signals(self) -> None:
-        """What ends agree ends the processes that compare, and the programs that they called."""
+        """What ends agree ends the processes that compare, and the programs that they called, and leaves nothing."""
         for name in ("TERM", "INT", "PIPE"):
-            process = self.begun(["env", f"--default-signal={name}", *AGREE, "--random", "7", "100000", BUFFER], {})
-            self.wait_until(lambda: len(children_of(process.pid)) >= min(2, len(os.sched_getaffinity(0))))
+            room, asked = tempfile.mkdtemp(dir=self.work), tempfile.mkdtemp(dir=self.work)
+            waits = command(f"{self.work}/waits", f'[ -s "$3" ] || exec "{program()}" "$@"\n: >"{asked}/$$"\nexec sleep 600\n')
+            process = self.begun(["env", f"--default-signal={name}", *AGREE, "--random", "7", "100000", BUFFER],
+                                 {"PIPECHECK": waits, "TMPDIR": room})
+            self.wait_until_all(asked)
             workers = children_of(process.pid)
             number = signal.Signals[f"SIG{name}"]
             process.send_signal(number)
             self.same(f"{name} ends agree", process.wait(PATIENCE), -number)
             self.wait_until(lambda: not any(map(is_group, workers)))
             self.same(f"{name} ends all processes that compare", [it for it in workers if is_group(it)], [])
+            self.same(f"{name} leaves no file", os.listdir(room), [])
 
     def test_full_device(self) -> None:
         with open("/dev/full", "wb") as full:
