@@ -7,7 +7,7 @@
 
 Words that end with .uspec are models; the others are tests, your own too: listings where they end with .litmus, and
 patterns where they end with .pattern. Without models and tests all of examples/ are taken. A model names its memory
-model in a comment, `% Memory model: NAME`, and tools/agree/NAME.py is the machine; with --as it is MACHINE.py for
+model in a comment, `% Memory model: NAME`, and tools/agree/machines/NAME.py is its machine; with --as it is MACHINE.py for
 each model.
 
 On each test the second implementation says whether the model shows the outcome, and the machine runs the test and says
