@@ -1,20 +1,14 @@
 -- Whether an Or is a candidate of its branch, from what is asked of it.
-use Rattle.std.proofs.Common.{◌≡◌, ◌≤◌, ◌<◌, inl, inr, ℕ, ◌+◌, Bool, true, false, List, [], ◌∷◌, Some, None, length, refl, sym, ap, ◌∙◌, subst, arith}
+use Rattle.std.proofs.Common.{◌≡◌, ◌≤◌, ◌<◌, inl, inr, ℕ, ◌+◌, Bool, true, false, List, [], ◌∷◌, Some, length, refl, sym, ap, ◌∙◌, subst, arith}
 use Rattle.std.{proofs.lemmas.List.Elements.{All-contains}, specs.Prelude.{slice_get, Contains, IsTrue, ◌↔◌, All, MatchBool}}
 use Rattle.pc_common.proofs.Elements.{In, in_from_contains, contains_from_in, in_map}
 use Rattle.pc_ground.specs.declared.{literal.Literal.{Literal}, row.{Row.{Row}, RowKind.TheVariants.{Or}}, version.Version.TheVariants.{One}}
 use Rattle.pc_ground.specs.{Rows.{root_kind, turned_rows}, Tree.{Tree, either, turned, size_of}}
 use Rattle.pc_ground.specs.Refutes.{Signed, signed, subtree_at, part_at, literals_of}
 use Rattle.pc_ground.proofs.{Turned.{subtree_denied, size_turned}, FlatRows.{subtree_size, size_pos}, StageWalks.{some_same}}
-use Rattle.solver.specs.{Spelled.{spelled, IsSpelled}, Met.{IsMet, IsMetUnder}, Opens.{positions}, declared.{place.Place.{Place}, side.Side.{Side}}}
+use Rattle.solver.specs.{Spelled.{spelled, IsSpelled}, Met.{IsMet, IsMetUnder}, Flags.{flag, AreTruths}, Opens.{positions}, declared.{place.Place.{Place}, side.Side.{Side}}}
 use Rattle.solver.specs.Places.{place_signed, IsOr, AreSides, IsUntaken, IsTaken, IsPending, IsPassed, IsCandidate, IsChosen, AreChosen}
 use Rattle.solver.proofs.{IsSpelled.{turned_flat}, IsIndexed.{place_is}, AreTruths.{or_tree}, HasAsserted.{length_spelled, row_root}}
-
-pub when_true : {P Q : Type 0} (b : Bool) → MatchBool b P Q → b ≡ true → P
-when_true {P} {Q} b h e = (let M : Bool → Type 0 = λ x. MatchBool x P Q in subst M e h)
-
-pub when_false : {P Q : Type 0} (b : Bool) → MatchBool b P Q → b ≡ false → Q
-when_false {P} {Q} b h e = (let M : Bool → Type 0 = λ x. MatchBool x P Q in subst M e h)
 
 pub length_turned : (n : Bool) (rows : List (Row ℕ)) → length (turned_rows n rows) ≡ length rows
 length_turned n [] = refl
@@ -53,7 +47,7 @@ pending t xs q sides true (a, b, is) are untaken =
     let at = sides_at t q sides are a b is in
     let U : ℕ → ℕ → Type 0 = IsUntaken xs q in
     (a, b, is, subst (U (q.position + 1)) at.1 (subst (λ l. U l sides.1.root) at.0 untaken))
-pending t xs q sides false or are taken = λ a b is.
+pending t xs q sides false there are taken = λ a b is.
     let at = sides_at t q sides are a b is in
     let T : ℕ → ℕ → Type 0 = IsTaken xs q in
     subst (T (q.position + 1)) at.1 (subst (λ l. T l sides.1.root) at.0 taken)
@@ -73,7 +67,14 @@ signed_has xs q has = contains_from_in q xs (in_back xs q (in_from_contains (pla
 abbrev pub Tells : Tree ℕ → List (Literal ℕ) → Place → Bool → Type 0
 Tells t ls q truth = (s : Tree ℕ) → subtree_at t q.position ≡ Some s → IsTrue truth ↔ IsMet ls s
 
-plain_part : (t : Tree ℕ) (n : Bool) (p : ℕ) (s : Tree ℕ) → subtree_at (turned n t) p ≡ Some s → subtree_at t p ≡ Some (turned n s)
+-- by the flags of the whole tree
+pub told_by : (t : Tree ℕ) (ls ms : List (Literal ℕ)) (flags : List Bool) (q : Place) (truth : Bool) → AreTruths t ls 0 flags
+    → truth ≡ flag flags q.position → ls ≡ ms → Tells t ms q truth
+told_by t ls ms flags q truth truths is same = λ s at.
+    let P : Bool → List (Literal ℕ) → Type 0 = λ b xs. IsTrue b ↔ IsMet xs s in
+    subst (P truth) same (subst (λ b. P b ls) (sym is) (truths q.position s (omega arith) at))
+
+pub plain_part : (t : Tree ℕ) (n : Bool) (p : ℕ) (s : Tree ℕ) → subtree_at (turned n t) p ≡ Some s → subtree_at t p ≡ Some (turned n s)
 plain_part t false p s e = e
 plain_part t true p s e = subtree_denied t true p s e
 
@@ -103,7 +104,7 @@ pending_candidate t xs q truth true (a, b, is, untaken) told equal =
       no_right = off (q.position + 1 + size_of a) untaken.2;
       is_false = unmet n (literals_of t (positions xs)) part truth (told part (plain_part t n q.position (either a b) is)) equal;
     }
-pending_candidate t xs q truth false or told other = λ a b on is.
+pending_candidate t xs q truth false there told other = λ a b on is.
     let part = turned q.negated (either a b) in
     inl (met q.negated (literals_of t (positions xs)) part truth (told part (plain_part t q.negated q.position (either a b) is)) other)
 

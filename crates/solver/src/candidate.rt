@@ -98,10 +98,7 @@ pub(crate) fn is_candidate_now(
         return Ok(false);
     }
     let truth = truth_at(alloc, tree.rows(), graph, place.position)?;
-    if !is_one(truth, place.negated) {
-        return Ok(false);
-    }
-    Ok(true)
+    Ok(is_one(truth, place.negated))
 }
 
 /// The first candidate of the branch, in order of assertion. In version 2 the tree's Ands under the sign `~`
