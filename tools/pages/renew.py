@@ -2,7 +2,7 @@
 
     python3 tools renew [PAGE..]          of these pages, or of README.md and all of docs/
 
-Such a part stands between a line `<!-- script/NAME WORD.. -->`, which says what writes it, and a line `<!-- end -->`.
+Such a part stands between a line `<!-- python3 tools WORD.. -->`, which says what writes it, and a line `<!-- end -->`.
 Prints the pages that were stale. The family `pages` fails where one is.
 """
 import glob

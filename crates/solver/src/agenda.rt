@@ -1,18 +1,17 @@
 ghost use Rattle.std.specs.Prelude.{◌≡◌, All, length};
 ghost use Rattle.solver.specs.Below.{IsRowBelow};
 
-use super::alternatives::{Alternatives, count_open};
+use super::alternatives::{count_left, count_open};
 use super::bits::Bits;
+use super::changes::{Changes, Others};
 use super::failures::Failures;
-use super::gains::{Gained, Gains};
-use super::hints::{Truth, or_truth};
+use super::truth::{Truth, or_truth};
 use super::numbered_tree::NumberedTree;
 use super::ors::is_or;
 use super::place::Place;
-use super::rows::skip_at;
-use super::side::Side;
+use super::walk::skip_at;
 use super::standing::Standing;
-use super::watch::{Watch, Watched, end_of_ors};
+use super::watch::{Watch, Watched, end_of_ors, ends_of, joint_of, own_of, starts_of};
 use order_graph::{Clash, OrderGraph};
 use pc_common::Memory;
 use pc_ground::{Row, Version};
@@ -42,6 +41,7 @@ pub(crate) struct Agenda {
     known_sides: Bits,
     open: Bits,
     ready: Bits,
+    forced: Bits,
     /// Room for the truth of a part's positions.
     truths: Vec<bool>,
     /// What the branch changed, the newest last, and how much of it there was at each split that waits.
@@ -51,8 +51,7 @@ pub(crate) struct Agenda {
     seen: usize,
     /// Which splits took part in what failed so far.
     failures: Failures,
-    gains: Gains,
-    alternatives: Alternatives,
+    changes: Changes,
     /// Whether memory was refused to the trail or the marks.
     is_refused: bool,
 }
@@ -69,13 +68,13 @@ impl Drop for Agenda {
             known_sides: _,
             open: _,
             ready: _,
+            forced: _,
             truths: _,
             trail: _,
             marks: _,
             seen: _,
             failures: _,
-            gains: _,
-            alternatives: _,
+            changes: _,
             is_refused: _,
         } = self;
     }
@@ -94,13 +93,13 @@ impl Agenda {
             known_sides: Bits::new(alloc),
             open: Bits::new(alloc),
             ready: Bits::new(alloc),
+            forced: Bits::new(alloc),
             truths: Vec::new(alloc),
             trail: Vec::new(alloc),
             marks: Vec::new(alloc),
             seen: 0,
             failures: Failures::new(alloc, nodes, count),
-            gains: Gains::new(alloc),
-            alternatives: Alternatives::new(alloc),
+            changes: Changes::new(alloc),
             is_refused: false,
         };
         agenda.make_room(count);
@@ -115,6 +114,7 @@ impl Agenda {
         self.is_refused |= self.known_sides.make_room(count);
         self.is_refused |= self.open.make_room(count);
         self.is_refused |= self.ready.make_room(count);
+        self.is_refused |= self.forced.make_room(count);
         self.is_refused |= self.truths.resize(count, false).is_err();
     }
 
@@ -122,8 +122,7 @@ impl Agenda {
     fn is_refused(&self) -> bool {
         self.is_refused
             | self.watch.is_refused
-            | self.gains.is_refused
-            | self.alternatives.is_refused
+            | self.changes.is_refused
             | self.failures.is_refused()
     }
 
@@ -154,6 +153,9 @@ impl Agenda {
         }
         if before.is_ready() != standing.is_ready() {
             self.ready.put(position, standing.is_ready());
+        }
+        if before.may_be_forced() != standing.may_be_forced() {
+            self.forced.put(position, standing.may_be_forced());
         }
     }
 
@@ -187,10 +189,13 @@ impl Agenda {
         tree: &NumberedTree,
         version: Version,
         graph: &OrderGraph,
-    ) {
+    )
+        requires { graph.now.nodes ≡ length tree.now.nodes }
+    {
         if self.watch.is_empty() {
             self.watch = Watch::new(alloc, tree.rows(), tree.count(), version);
-            self.gains.begin(tree.count(), graph);
+            self.changes.begin(tree.count() as usize);
+            self.changes.look(tree.count(), graph);
         }
     }
 
@@ -204,13 +209,16 @@ impl Agenda {
         place: Place,
         graph: &OrderGraph,
         step: usize,
-    ) -> Result<(), Memory> {
+    ) -> Result<(), Memory>
+        requires { graph.now.nodes ≡ length tree.now.nodes }
+    {
         if self.is_refused() {
             return Err(Memory);
         }
         self.begin_watch(alloc, tree, version, graph);
         self.change(place.position, Standing::none());
         self.failures.split(place, graph, step);
+        self.changes.split();
         self.is_refused |= self.marks.push(self.trail.len()).is_err();
         self.moment = self.moment.wrapping_add(1);
         Ok(())
@@ -226,6 +234,7 @@ impl Agenda {
                 self.set(change.position, change.standing);
             }
         }
+        self.changes.go_back();
         self.moment = self.moment.wrapping_add(1);
         self.seen = count;
     }
@@ -250,25 +259,44 @@ impl Agenda {
         self.take(tree, asserted);
     }
 
-    /// Makes stale what the literals of the side at hand may have changed.
+    /// Makes stale what the literals that were asserted since the last call may have changed.
     fn touch_all(&mut self, tree: &NumberedTree, graph: &OrderGraph)
         requires { graph.now.nodes ≡ length tree.now.nodes }
     {
         if self.watch.is_empty() {
             return;
         }
-        let (from, end) = self.gains.asserted(graph);
-        for k in from..end {
-            self.gains.note(tree, graph, k);
-            self.touch_gained(tree.rows());
+        self.changes.look(tree.count(), graph);
+        let mut from = 0;
+        for _ in 0..tree.count() {
+            let Some(node) = self.changes.next_touched(from) else {
+                return;
+            };
+            self.touch_node(tree.rows(), node);
+            from = node.saturating_add(1);
         }
     }
 
-    /// Looks at what the side would change, before it is entered.
-    pub(crate) fn foresee(&mut self, tree: &NumberedTree, side: Side, graph: &OrderGraph)
-        requires { graph.now.nodes ≡ length tree.now.nodes }
-    {
-        self.gains.foresee(tree, side, graph);
+    /// Makes stale what depends on pairs with the node that may have changed.
+    fn touch_node(&mut self, rows: &[Row<u32>], node: u32) {
+        let (has_grown, is_starting) = (self.changes.has_grown(node), self.changes.is_starting(node));
+        if has_grown {
+            self.touch_list(rows, starts_of(node), Others::Reached, true);
+            self.touch_list(rows, ends_of(node), Others::Closing, false);
+        }
+        if is_starting {
+            self.touch_list(rows, starts_of(node), Others::Joined, false);
+        }
+        if has_grown | is_starting {
+            self.touch_list(rows, joint_of(node), Others::All, false);
+        }
+        if self.changes.is_named(node) {
+            self.touch_list(rows, own_of(node), Others::All, true);
+        }
+        if self.changes.is_denied(node) {
+            self.touch_list(rows, starts_of(node), Others::All, false);
+            self.touch_list(rows, ends_of(node), Others::All, false);
+        }
     }
 
     /// The pending Ors with a standing that a literal may change.
@@ -298,28 +326,29 @@ impl Agenda {
         }
     }
 
-    /// The same for a pair whose other node is among those of the gain. Returns the other node and the position from
-    /// which on there may be more.
+    /// The same for a pair whose other node is among these. Returns the other node and the position from which on there
+    /// may be more.
     fn touch_watched(
         &mut self,
         rows: &[Row<u32>],
         watched: Watched,
-        gained: Gained,
+        others: Others,
+        in_truth: bool,
     ) -> (u32, usize) {
-        let Some(other) = self.gains.first_other(gained.others, watched.other) else {
+        let Some(other) = self.changes.first_other(others, watched.other) else {
             return (u32::MAX, usize::MAX);
         };
         if other > watched.other {
             return (other, 0);
         }
-        let position = self.touch(rows, watched, gained.in_truth);
+        let position = self.touch(rows, watched, in_truth);
         (other, position)
     }
 
     /// The same for all pairs on the list. Pairs with other nodes are passed over, and so are those within no Or that a
     /// literal may change.
-    fn touch_list(&mut self, rows: &[Row<u32>], gained: Gained) {
-        let (from, end) = self.watch.places(gained.list);
+    fn touch_list(&mut self, rows: &[Row<u32>], list: u32, others: Others, in_truth: bool) {
+        let (from, end) = self.watch.places(list);
         let mut at = from;
         for _ in from..end {
             if at >= end {
@@ -328,17 +357,9 @@ impl Agenda {
             let Some(watched) = self.watch.watched(at) else {
                 return;
             };
-            let (other, position) = self.touch_watched(rows, watched, gained);
+            let (other, position) = self.touch_watched(rows, watched, others, in_truth);
             let next = at.saturating_add(1);
             at = self.watch.first_place(next, end, other, position);
-        }
-    }
-
-    fn touch_gained(&mut self, rows: &[Row<u32>]) {
-        for k in 0..self.gains.len() {
-            if let Some(gained) = self.gains.gained(k) {
-                self.touch_list(rows, gained);
-            }
         }
     }
 
@@ -434,6 +455,24 @@ impl Agenda {
         }
     }
 
+    /// The standing of the Or with its alternatives counted: again where they are stale.
+    fn count(&mut self, rows: &[Row<u32>], graph: &OrderGraph, p: usize) -> Standing
+        requires { All (IsRowBelow graph.now.nodes) rows.now }
+    {
+        let mut standing = self.look(rows, graph, p);
+        if standing.needs_counting() {
+            // two leaves are open where no literal would clash
+            let left = if skip_at(rows, p) == 3 {
+                2
+            } else {
+                count_left(rows, graph, standing.is_negated(), p)
+            };
+            standing = standing.counted(left);
+        }
+        self.change(p, standing);
+        standing
+    }
+
     /// The first choice of which each alternative is as good as closed; if there is none, the first of which each but one
     /// is. No choice has a side with a literal that would clash.
     pub(crate) fn first_forced(&mut self, rows: &[Row<u32>], graph: &OrderGraph) -> Option<Place>
@@ -442,26 +481,17 @@ impl Agenda {
         let mut forced = None;
         let mut from = 0;
         for _ in 0..rows.len() {
-            let Some(position) = self.open.first_from(from) else {
+            let Some(position) = self.forced.first_from(from) else {
                 return forced;
             };
             from = position.saturating_add(1);
-            // two leaves are open where no literal would clash
-            if skip_at(rows, position) == 3 {
-                continue;
-            }
-            let standing = self.refresh(rows, graph, position);
-            if !standing.is_open() {
-                continue;
-            }
+            let standing = self.count(rows, graph, position);
             let negated = standing.is_negated();
-            let place = Place { negated, position };
-            let count = self.alternatives.count_left(rows, graph, negated, position);
-            if count == 0 {
-                return Some(place);
+            if standing.has_none_left() {
+                return Some(Place { negated, position });
             }
-            if count == 1 && forced.is_none() {
-                forced = Some(place);
+            if standing.has_one_left() && forced.is_none() {
+                forced = Some(Place { negated, position });
             }
         }
         forced

@@ -2,9 +2,9 @@ ghost use Rattle.std.specs.Prelude.{◌<◌, All, IfSome};
 ghost use Rattle.order_graph.specs.Ways.{IsBelow};
 ghost use Rattle.solver.specs.Below.{IsRowBelow};
 
-use super::gains::comes_to;
 use super::ors::literal_at;
-use super::rows::{row_at, skip_at};
+use super::rows::row_at;
+use super::walk::skip_at;
 use super::side::Side;
 use order_graph::OrderGraph;
 use pc_ground::{Literal, Row, RowKind};
@@ -12,6 +12,14 @@ use pc_ground::{Literal, Row, RowKind};
 /// Whether the part at `root` asserts no literal under this sign, since it is an Or.
 fn asserts_none(rows: &[Row<u32>], negated: bool, root: usize) -> bool {
     root < rows.len() && matches!(row_at(rows, root).negate_if(negated).kind, RowKind::Or)
+}
+
+/// Whether `a` is `b`, or reaches it by a chain.
+fn comes_to(graph: &OrderGraph, a: u32, b: u32) -> bool
+    requires a_in { a < graph.now.nodes }
+    requires b_in { b < graph.now.nodes }
+{
+    a == b || graph.reaches(a, b)
 }
 
 /// Whether an edge from `c` to `d` would give a chain from `a` to `b`, which is denied.

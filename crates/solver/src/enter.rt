@@ -20,7 +20,7 @@ use std::sync::ledger::Ledger;
 use undo_trail::Steps;
 
 /// Asserts the literal of a row, if it is one's.
-pub(crate) fn add_row<L: Ledger>(
+fn add_row<L: Ledger>(
     row: Row<u32>,
     graph: &mut OrderGraph,
     steps: &mut Steps<L>,
@@ -137,7 +137,7 @@ fn enter_side<L: Ledger>(
     enter_part(tree, side.negated, side.root, graph, asserted, steps)
 }
 
-/// Asserts what the side asserts, as `enter_side` does, once the agenda has looked at it.
+/// Asserts what the side asserts, as `enter_side` does, on the first open branch.
 pub(crate) fn enter_next<L: Ledger>(
     tree: &NumberedTree,
     side: Side,
@@ -156,7 +156,6 @@ pub(crate) fn enter_next<L: Ledger>(
         branch.old.asserted branch.new.graph branch.new.asserted found) }
     ensures rest { HasSameRest branch.old branch.new }
 {
-    branch.agenda.foresee(tree, side, &branch.graph);
     enter_side(tree, side, &mut branch.graph, &mut branch.asserted, steps)
 }
 

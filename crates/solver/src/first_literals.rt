@@ -1,4 +1,4 @@
-use super::gains::literal_of;
+use super::changes::literal_of;
 use order_graph::OrderGraph;
 use pc_ground::Literal;
 use std::alloc::Global;

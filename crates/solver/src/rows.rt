@@ -10,8 +10,3 @@ pub(crate) fn row_at(rows: &[Row<u32>], p: usize) -> Row<u32>
 {
     rows[p]
 }
-
-/// How many positions the tree at `p` has, or 0 past the end.
-pub(crate) fn skip_at(rows: &[Row<u32>], p: usize) -> usize {
-    if p < rows.len() { rows[p].skip } else { 0 }
-}

@@ -1,26 +1,33 @@
 /// It is an asserted Or that no split has taken, and that is not true for good on this branch.
-const PENDING: u8 = 1;
+const PENDING: u16 = 1;
 
 /// The Or is one of the tree's negation.
-const NEGATED: u8 = 2;
+const NEGATED: u16 = 2;
 
 /// It is true now.
-const HOLDS: u8 = 4;
+const HOLDS: u16 = 4;
 
 /// Whether it is true now may have changed since it was asked.
-const TRUTH_STALE: u8 = 8;
+const TRUTH_STALE: u16 = 8;
 
 /// Its left side is closed at once, which it stays on this branch.
-const LEFT_CLOSED: u8 = 16;
+const LEFT_CLOSED: u16 = 16;
 
 /// So is its right side.
-const RIGHT_CLOSED: u8 = 128;
+const RIGHT_CLOSED: u16 = 128;
 
 /// The search need not ask again, since enough of its sides are closed: one in version 1, both in version 2.
-const SETTLED: u8 = 32;
+const SETTLED: u16 = 32;
 
 /// That may have come about since it was asked.
-const SIDES_STALE: u8 = 64;
+const SIDES_STALE: u16 = 64;
+
+/// Of its alternatives one is left, or none: the others are as good as closed.
+const ONE_LEFT: u16 = 256;
+const NONE_LEFT: u16 = 512;
+
+/// How many are left may have changed since they were counted.
+const COUNT_STALE: u16 = 1024;
 
 /// The state of a position as a choice: whether it is a pending Or of the first open branch, whether it is true now,
 /// and which of its sides are closed at once. It is a hint, and tested before a split.
@@ -28,7 +35,7 @@ const SIDES_STALE: u8 = 64;
 /// It is the set of the properties above that hold, a bit each, since a search copies it all the time.
 #[derive(Clone, Copy)]
 pub(crate) struct Standing {
-    bits: u8,
+    bits: u16,
 }
 
 impl Standing {
@@ -40,17 +47,17 @@ impl Standing {
     /// That of an Or which was asserted just now.
     pub(crate) fn fresh(negated: bool) -> Standing {
         Standing {
-            bits: PENDING | TRUTH_STALE | SIDES_STALE,
+            bits: PENDING | TRUTH_STALE | SIDES_STALE | COUNT_STALE,
         }
         .with(NEGATED, negated)
     }
 
-    fn has(self, property: u8) -> bool {
+    fn has(self, property: u16) -> bool {
         self.bits & property != 0
     }
 
     /// The same, with the properties or without them.
-    fn with(self, properties: u8, is_in: bool) -> Standing {
+    fn with(self, properties: u16, is_in: bool) -> Standing {
         let bits = if is_in {
             self.bits | properties
         } else {
@@ -59,9 +66,9 @@ impl Standing {
         Standing { bits }
     }
 
-    /// The same, where one of its sides may be closed at once now; and where its truth may have changed too.
+    /// The same, where more of it may be closed now; and where its truth may have changed too.
     pub(crate) fn stale(self, in_truth: bool) -> Standing {
-        self.with(SIDES_STALE, true)
+        self.with(SIDES_STALE | COUNT_STALE, true)
             .with(TRUTH_STALE, in_truth | self.has(TRUTH_STALE))
     }
 
@@ -82,6 +89,13 @@ impl Standing {
             .with(LEFT_CLOSED, left_closed)
             .with(RIGHT_CLOSED, right_closed)
             .with(SETTLED, settled)
+    }
+
+    /// The same, with how many alternatives are left, up to two.
+    pub(crate) fn counted(self, left: usize) -> Standing {
+        self.with(COUNT_STALE, false)
+            .with(ONE_LEFT, left == 1)
+            .with(NONE_LEFT, left == 0)
     }
 
     pub(crate) fn is_pending(self) -> bool {
@@ -142,5 +156,25 @@ impl Standing {
     /// Whether it may be a choice with so many sides closed at once that no other is looked for.
     pub(crate) fn is_settled(self) -> bool {
         self.is_open() & self.has(SETTLED)
+    }
+
+    /// Whether it may be a choice with at most one alternative left.
+    pub(crate) fn may_be_forced(self) -> bool {
+        self.is_open() & self.has(COUNT_STALE | ONE_LEFT | NONE_LEFT)
+    }
+
+    /// Whether its alternatives have to be counted, since it may be a choice and how many are left may have changed.
+    pub(crate) fn needs_counting(self) -> bool {
+        self.is_open() & self.has(COUNT_STALE)
+    }
+
+    /// Whether it may be a choice with one alternative left.
+    pub(crate) fn has_one_left(self) -> bool {
+        self.is_open() & self.has(ONE_LEFT)
+    }
+
+    /// Whether it may be a choice with no alternative left.
+    pub(crate) fn has_none_left(self) -> bool {
+        self.is_open() & self.has(NONE_LEFT)
     }
 }

@@ -1,9 +1,11 @@
-use super::joint_pairs::JointPairs;
+use super::ors::denied_left;
+use super::walk::{Walk, skip_at};
 use pc_ground::{Literal, Row, RowKind, Version};
 use std::alloc::Global;
 
-/// An outermost Or with at most so many rows is watched pair by pair of the nodes that its sides join.
-const SMALL: usize = 9;
+/// An outermost Or of at most so many rows is watched by each pair that its sides join. A larger one is watched by the
+/// nodes of these pairs, so that the lists grow with the tree.
+const SMALL: usize = 5;
 
 /// What the standing of an Or depends on: a node, or a pair of nodes that a chain may join.
 #[derive(Clone, Copy)]
@@ -17,10 +19,12 @@ pub(crate) struct Watched {
     pub(crate) outer: usize,
 }
 
-/// What the Ors depend on, by node, as a solver's watch lists have literals. Each node has five lists: the pairs of
-/// edges and denied edges that begin in it; the pairs that end in it; the literals on the node itself; the pairs that
-/// begin in it and that a side joins by several literals; and the literals of sides that are not watched pair by pair.
-/// A list is sorted by the other nodes, and then by position.
+/// What the Ors depend on, by node, as a solver's watch lists have literals. Each node has four lists: the pairs that begin
+/// in it; the pairs that end in it; the literals on the node itself; and the literals with it that a larger Or asserts with
+/// others. A list is sorted by the other nodes, and then by position.
+///
+/// A pair is an edge or a denied edge, or one that a side joins by two literals: where these clash, and neither clashes by
+/// itself, an edge over the pair would clash.
 pub(crate) struct Watch {
     /// Where each list begins. After the last list there is one place more, where it ends.
     starts: Vec<usize>,
@@ -41,13 +45,13 @@ impl Drop for Watch {
 }
 
 /// How many lists a node has.
-const LISTS: u32 = 5;
+const LISTS: u32 = 4;
 
 fn list_of(node: u32, kind: u32) -> u32 {
     node.saturating_mul(LISTS).saturating_add(kind)
 }
 
-/// The list of the pairs of literals that begin in a node.
+/// The list of the pairs that begin in a node.
 pub(crate) fn starts_of(node: u32) -> u32 {
     list_of(node, 0)
 }
@@ -58,18 +62,13 @@ pub(crate) fn ends_of(node: u32) -> u32 {
 }
 
 /// The list of a node's own literals.
-pub(crate) fn node_of(node: u32) -> u32 {
+pub(crate) fn own_of(node: u32) -> u32 {
     list_of(node, 2)
 }
 
-/// The list of the pairs that begin in a node which a side joins.
-pub(crate) fn joins_of(node: u32) -> u32 {
+/// The list of the literals with a node that others stand beside in a larger Or.
+pub(crate) fn joint_of(node: u32) -> u32 {
     list_of(node, 3)
-}
-
-/// The list of the literals with a node of sides that are not looked at pair by pair.
-pub(crate) fn coarse_of(node: u32) -> u32 {
-    list_of(node, 4)
 }
 
 /// Where an Or ends that stands at this position, or 0 where none does.
@@ -94,12 +93,15 @@ pub(crate) fn end_of_ors(rows: &[Row<u32>]) -> usize {
 /// The lists in the making: what is to be watched, in order of positions.
 struct Watching {
     version: Version,
-    pairs: JointPairs,
     items: Vec<Watched>,
-    /// Where the outermost Or at hand stands, and where it ends; and whether its sides are looked at pair by pair.
+    /// Where the outermost Or at hand stands, and where it ends; whether it is a small one; and where the outermost And in
+    /// it ends that was met last.
     outer: usize,
     end: usize,
     is_small: bool,
+    and_end: usize,
+    /// The literals of the side at hand.
+    side: Vec<Literal<u32>>,
     /// Whether memory was refused to what is to be watched.
     is_refused: bool,
 }
@@ -109,11 +111,12 @@ impl Drop for Watching {
     fn drop(self) {
         let Watching {
             version: _,
-            pairs: _,
             items: _,
             outer: _,
             end: _,
             is_small: _,
+            and_end: _,
+            side: _,
             is_refused: _,
         } = self;
     }
@@ -124,11 +127,12 @@ impl Watching {
     fn into_items(self) -> Vec<Watched> {
         let Watching {
             version: _,
-            pairs: _,
             items,
             outer: _,
             end: _,
             is_small: _,
+            and_end: _,
+            side: _,
             is_refused: _,
         } = self;
         items
@@ -144,57 +148,115 @@ impl Watching {
         self.is_refused |= self.items.push(watched).is_err();
     }
 
-    /// Watches an edge or a denied edge: on the lists of its pair, and where others are asserted with it on those of
-    /// both nodes.
     fn put_pair(&mut self, a: u32, b: u32, position: usize) {
+        if a != b {
+            self.put(starts_of(a), b, position);
+            self.put(ends_of(b), a, position);
+        }
+    }
+
+    /// Watches an edge or a denied edge. In version 1 it has others beside it only under an And.
+    fn put_edge(&mut self, a: u32, b: u32, position: usize) {
         self.put(starts_of(a), b, position);
         self.put(ends_of(b), a, position);
-        if self.is_small || self.pairs.is_alone(position, self.version) {
-            return;
+        let is_alone = matches!(self.version, Version::One) && position >= self.and_end;
+        if !self.is_small && !is_alone {
+            self.put(joint_of(a), b, position);
+            self.put(joint_of(b), a, position);
         }
-        self.put(coarse_of(a), 0, position);
-        self.put(coarse_of(b), 0, position);
     }
 
-    /// The pairs that the sides of the Or at this position join, of the tree or of its negation.
-    fn put_joined(&mut self, rows: &[Row<u32>], position: usize) {
-        if !self.is_small {
-            self.pairs.note_sides(rows, position);
-            return;
+    /// Watches the pair that two literals of a side join. A node that is both ends joins nothing new.
+    fn put_joined(&mut self, first: Literal<u32>, second: Literal<u32>, position: usize) {
+        match (first, second) {
+            (Literal::Edge(a, _), Literal::Edge(_, d)) => self.put_pair(a, d, position),
+            (Literal::Edge(a, b), Literal::NoEdge(c, d)) => {
+                self.put_pair(a, c, position);
+                self.put_pair(d, b, position);
+            }
+            _ => {}
         }
-        self.pairs.find(rows, position, self.version);
-        for k in 0..self.pairs.len() {
-            if let Some((a, b)) = self.pairs.pair(k) {
-                self.put(joins_of(a), b, position);
-                self.put(ends_of(b), a, position);
+    }
+
+    /// Puts the literals that the part at `root` asserts under this sign to those of the side.
+    fn gather(&mut self, rows: &[Row<u32>], negated: bool, root: usize) {
+        let mut walk = Walk::new(rows, negated, root);
+        for _ in 0..rows.len() {
+            let Some(literal) = walk.next_literal(rows) else {
+                return;
+            };
+            self.is_refused |= self.side.push(literal).is_err();
+        }
+    }
+
+    fn literal(&self, k: usize) -> Option<Literal<u32>> {
+        if k < self.side.len() {
+            Some(self.side[k])
+        } else {
+            None
+        }
+    }
+
+    /// Watches the pairs that each two literals of the side join, and goes on with a side of none.
+    fn put_side(&mut self, position: usize) {
+        for j in 0..self.side.len() {
+            for k in 0..self.side.len() {
+                if j != k {
+                    if let (Some(first), Some(second)) = (self.literal(j), self.literal(k)) {
+                        self.put_joined(first, second, position);
+                    }
+                }
             }
         }
+        self.side.clear();
     }
 
-    fn put_row(&mut self, rows: &[Row<u32>], position: usize) {
-        if position >= rows.len() {
-            return;
+    /// Watches the pairs that the sides of the Or at `p` join: of the tree, or of its negation.
+    fn put_sides(&mut self, rows: &[Row<u32>], negated: bool, p: usize) {
+        let left = p.saturating_add(1);
+        let right = left.saturating_add(skip_at(rows, left));
+        self.gather(rows, negated, left);
+        self.put_side(p);
+        if let Some(denied) = denied_left(self.version, left) {
+            self.gather(rows, !negated, denied);
         }
-        match rows[position].kind {
-            RowKind::Lit(Literal::Node(a)) => self.put(node_of(a), a, position),
-            RowKind::Lit(Literal::NoNode(a)) => self.put(node_of(a), a, position),
-            RowKind::Lit(Literal::Edge(a, b)) => self.put_pair(a, b, position),
-            RowKind::Lit(Literal::NoEdge(a, b)) => self.put_pair(a, b, position),
-            RowKind::And | RowKind::Or => self.put_joined(rows, position),
-            RowKind::True | RowKind::False => {}
+        self.gather(rows, negated, right);
+        self.put_side(p);
+    }
+
+    fn put_row(&mut self, rows: &[Row<u32>], row: Row<u32>, position: usize) {
+        match row.kind {
+            RowKind::Lit(Literal::Node(a) | Literal::NoNode(a)) => {
+                self.put(own_of(a), a, position);
+            }
+            RowKind::Lit(Literal::Edge(a, b) | Literal::NoEdge(a, b)) => {
+                self.put_edge(a, b, position);
+            }
+            RowKind::Or if self.is_small => self.put_sides(rows, false, position),
+            RowKind::And if self.is_small => {
+                if let Version::Two = self.version {
+                    self.put_sides(rows, true, position);
+                }
+            }
+            RowKind::And => self.and_end = self.and_end.max(position.saturating_add(row.skip)),
+            RowKind::Or | RowKind::True | RowKind::False => {}
         }
     }
 
     /// Puts what the row is watched for, where it is within an Or.
     fn look_at(&mut self, rows: &[Row<u32>], position: usize) {
-        if position >= self.end && position < rows.len() {
-            let row = rows[position];
+        if position >= rows.len() {
+            return;
+        }
+        let row = rows[position];
+        if position >= self.end {
             self.outer = position;
-            self.end = self.end.max(end_of(row, position));
+            self.end = end_of(row, position);
             self.is_small = row.skip <= SMALL;
+            self.and_end = 0;
         }
         if position < self.end {
-            self.put_row(rows, position);
+            self.put_row(rows, row, position);
         }
     }
 }
@@ -240,17 +302,18 @@ impl Watch {
     pub(crate) fn new(alloc: Global, rows: &[Row<u32>], nodes: u32, version: Version) -> Watch {
         let mut watching = Watching {
             version,
-            pairs: JointPairs::new(alloc, rows.len()),
             items: Vec::new(alloc),
             outer: 0,
             end: 0,
             is_small: false,
+            and_end: 0,
+            side: Vec::new(alloc),
             is_refused: false,
         };
         for p in 0..rows.len() {
             watching.look_at(rows, p);
         }
-        let mut is_refused = watching.is_refused | watching.pairs.is_refused;
+        let mut is_refused = watching.is_refused;
         let mut items = watching.into_items();
         is_refused |= items.sort_by_key(key_of).is_err();
         let mut starts = Vec::new(alloc);

@@ -1,7 +1,7 @@
 use Rattle.std.{proofs.Common.{ℕ, List, sym, subst}, specs.Prelude.{All}}
 use Rattle.pc_ground.specs.declared.row.Row.{Row}
 use Rattle.solver.specs.Below.{IsRowBelow}
-use Rattle.solver.proofs.choose.is_closed.Goals as goal
+use Rattle.solver.proofs.propose.is_closed.Goals as goal
 
 pub would_close-requires : goal.would_close-requires
 would_close-requires g c =

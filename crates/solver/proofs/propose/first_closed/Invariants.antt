@@ -1,5 +1,5 @@
 use Rattle.solver.specs.Opens.{IsSame}
-use Rattle.solver.proofs.choose.first_closed.Given as goal
+use Rattle.solver.proofs.propose.first_closed.Given as goal
 
 abbrev pub invariant-loop-turn : goal.invariant-loop-turn
 invariant-loop-turn g l = IsSame l.fn.graph l.graph

@@ -3,7 +3,7 @@ ghost use Rattle.order_graph.specs.Ways.{IsBelow};
 ghost use Rattle.solver.specs.Below.{IsRowBelow};
 
 use super::ors::literal_at;
-use super::rows::skip_at;
+use super::walk::skip_at;
 use order_graph::OrderGraph;
 use pc_ground::{Literal, Row, RowKind};
 

@@ -1,7 +1,7 @@
 use Rattle.std.proofs.lemmas.List.Elements.{All-contains}
 use Rattle.order_graph.specs.Ways.{IsBelow}
 use Rattle.solver.proofs.IsIndexed.{has_at}
-use Rattle.solver.proofs.gains.literal_of.Goals as goal
+use Rattle.solver.proofs.changes.literal_of.Goals as goal
 
 pub returns : goal.returns
 returns c =
