@@ -1,24 +1,24 @@
 -- From what a search keeps to what it hands out.
 use Rattle.std.proofs.Common.{◌≡◌, ◌<◌, inl, inr, ℕ, zero, suc, ◌+◌, ◌-◌, ◌^◌, true, List, [], ◌∷◌, Option, Some, None, reverse, length, refl, sym, ap, ◌∙◌, subst, arith, get_or}
 use Rattle.std.proofs.lemmas.{List.{append-nil, Elements.{All-contains}}, Option.{slice_get-get_or, get_or_from_slice_get}}
-use Rattle.std.specs.{Prelude.{Contains, All, slice_get, Bool, false, ◌==◌, nat_lt}, Option.{option_map}}
-use Rattle.pc_common.{specs.{World.{Node}, Steps.{Step, close, false_step}}, proofs.Elements.{In, contains_from_in, in_map, in_front, in_back}}
-use Rattle.pc_common.proofs.Bools.{true_or_false, not_both}
-use Rattle.pc_ground.specs.declared.{literal.Literal.{Literal}, row.{Row.{Row}, RowKind.TheVariants.{False}}, version.Version.{Version, TheVariants.{One, Two}}}
+use Rattle.std.specs.{Prelude.{Contains, All, slice_get, nat_lt}, Option.{option_map}}
+use Rattle.pc_common.{specs.{World.{Node}, Steps.{Step, close, false_step}}, proofs.Elements.{In, contains_from_in, in_front, in_back}}
+use Rattle.pc_common.proofs.Bools.{true_or_false}
+use Rattle.pc_ground.specs.declared.{literal.Literal.{Literal}, row.{Row.{Row}, RowKind.TheVariants.{False}}, version.Version.{Version}}
 use Rattle.pc_ground.specs.{Rows.{rows_of, root_kind}, Tree.{Tree, always, never, leaf, both, either, turned, size_of}, Literals.{IsConsistent}}
 use Rattle.pc_ground.specs.Refutes.{Branch, signed, all_signed, subtree_at, part_at, literals_of, a_falsity, IsPartial, IsRefutation}
-use Rattle.pc_ground.{specs.Folded.{HasNoConstant, IsFolded}, proofs.{FlatRows.{subtree_size, size_pos}, Turned.{subtree_denied, size_turned}}}
-use Rattle.pc_ground.proofs.{Refuted.{one_has_no_sign}, StageWalks.{some_same}}
+use Rattle.pc_ground.{specs.Folded.{HasNoConstant, IsFolded}, proofs.{FlatRows.{subtree_size, size_pos}, Turned.{size_turned}}}
+use Rattle.pc_ground.proofs.StageWalks.{some_same}
 use Rattle.graph_text.specs.{Graphs.{graph_nodes, graph_edges}, declared.graph.Graph.{Graph as PlainGraph}}
 use Rattle.order_graph.{specs.{State.{IsGraph}, Ways.{IsBelow}}, proofs.GeneratesWorld.{consistent_generate}}
 use Rattle.solver.specs.{Spelled.{spelled, IsSpelled}, Numbered.{Numbered, IsNumbered, HasNoFalse}, Renamed.{tree_over, rows_over, node_at, renamed_tree}}
-use Rattle.solver.specs.{Below.{IsRowBelow}, Met.{IsMet, IsMetUnder}, Places.{place_signed, IsCandidate, HasSignsOf, AreChosen, root_side, side_positions}}
+use Rattle.solver.specs.{Below.{IsRowBelow}, Met.{IsMet, IsMetUnder}, Places.{place_signed, IsCandidate, AreChosen, root_side, side_positions}}
 use Rattle.solver.specs.{Opens.{positions, waiting, opens, KeepsState, state_of}, Shown.{ArePresent, AreEdges}, Answers.{IsWitness, IsAnswer}}
 use Rattle.solver.specs.{Turns.{IsTurnOfRows, IsTurnOfTree}, declared.{search.Turn.{Turn, TheVariants.{More, Done}}, branch.Branch.{Branch as OpenBranch}}}
 use Rattle.solver.specs.{declared.{place.Place.{Place}, later.Later.{Later}}, Branches.{branches_of, HasOpenBranch, IsBlank}}
 use Rattle.solver.{specs.Searched.{HasUnmetBranch, HasCandidate}, proofs.RenamedTree.{part_renamed, size_renamed, asserted_renamed, tree_of_names}}
-use Rattle.solver.proofs.{IsSpelled.{spelled_is, is_spelled}, IsGrown.{IsGrown, grown_first}, IsMet.{met_whole}, ShownWorld.{Shows, AreBelow, shown_world}}
-use Rattle.solver.proofs.{Shown.{all_by_in}, IsKnown.{number_named}, HasAsserted.{length_spelled, row_root}}
+use Rattle.solver.proofs.{IsSpelled.{spelled_is, is_spelled}, IsGrown.{IsGrown, grown_first}, IsChosen.{plain_part}, IsMet.{met_whole}, ShownWorld.{Shows, AreBelow, shown_world}}
+use Rattle.solver.proofs.{IsKnown.{number_named}, HasAsserted.{length_spelled, row_root}}
 
 option_back : {X Y : Type 0} (g : X → Y) (o : Option X) (y : Y) → option_map g o ≡ Some y → (x : X) × (o ≡ Some x) × (g x ≡ y)
 option_back g None y e = cc
@@ -47,17 +47,6 @@ kept_grown : (v : Version) (t : Numbered) (b : OpenBranch) → HasOpenBranch v t
 kept_grown v t b kept =
     grown_back (node_at t.nodes) (spelled t.rows) (positions b.asserted)
     (grown_first v (tree_over t.nodes (spelled t.rows)) b.refutation (positions b.asserted) _ (kept_run v t b kept))
-
--- asserted positions are inside
-pub positions_inside : (v : Version) (t : Numbered) (b : OpenBranch) → IsNumbered t → HasOpenBranch v t b []
-    → All (λ (a : Place). a.position < length t.rows) b.asserted
-positions_inside v t b numbered kept =
-    let s = spelled t.rows in
-    let grown = kept_grown v t b kept in
-    all_by_in (λ (a : Place). a.position < length t.rows) b.asserted (λ a i.
-    let there = grown.inside (place_signed a) (in_map place_signed a b.asserted i) in
-    let size = subtree_size (turned a.negated s) a.position there.0 there.1 in
-    omega (arith, size, size_pos there.0, size_turned a.negated s, length_spelled t.rows numbered.tree))
 
 -- on a branch with no candidate the whole tree is true
 kept_met : (v : Version) (t : Numbered) (b : OpenBranch) → HasOpenBranch v t b [] → IsConsistent b.graph.literals
@@ -114,18 +103,6 @@ witness v t b shown numbered none kept graph chosen present edges =
       satisfied = made.1.3;
     }
 
--- in version 1 no position of the branch has a sign
-pub kept_signs : (v : Version) (t : Numbered) (b : OpenBranch) → HasOpenBranch v t b [] → HasSignsOf v (positions b.asserted)
-kept_signs One t b kept =
-    let ps = positions b.asserted in
-    λ q has. one_has_no_sign (tree_over t.nodes (spelled t.rows)) b.refutation (branches_of t b) (kept_run One t b kept)
-    ps (contains_from_in ps (branches_of t b) (inl refl)) q has
-kept_signs Two t b kept = tt
-
-plain_part : (t : Tree ℕ) (n : Bool) (p : ℕ) (s : Tree ℕ) → subtree_at (turned n t) p ≡ Some s → subtree_at t p ≡ Some (turned n s)
-plain_part t false p s e = e
-plain_part t true p s e = subtree_denied t true p s e
-
 -- what the type of a search keeps, as its clauses say it
 pub searching : (v : Version) (tree : Numbered) (b : OpenBranch) (first : Place) → HasCandidate v tree b first
     → HasUnmetBranch (record { version = v; nodes = tree.nodes; rows = tree.rows; graph = b.graph; steps = b.refutation; branches = branches_of tree b })
@@ -154,10 +131,6 @@ pub candidate_small : (rows : List (Row ℕ)) (ps : Branch) (q : Place) → IsSp
 candidate_small rows ps q flat bound c =
     let size = subtree_size (turned q.negated (spelled rows)) q.position (either c.left c.right) c.is_or in
     omega (arith, size, size_pos (either c.left c.right), size_turned q.negated (spelled rows), length_spelled rows flat, bound)
-
-pub not_zero : (n : ℕ) (b : Bool) → b ≡ (n == 0) → b ≡ false → 0 < n
-not_zero zero b e f = absurd (not_both b e f)
-not_zero (suc n) b e f = omega arith
 
 -- rows of numbers that are named as those of a tree
 pub names_tree : (nodes : List Node) (rows : List (Row ℕ)) (t : Tree Node) → rows_over nodes rows ≡ rows_of t → IsSpelled rows

@@ -17,4 +17,3 @@ pub mod Shown
 pub mod IsTurn
 pub mod IsTreePart
 pub mod IsIndexed
-pub mod IsPending

@@ -10,7 +10,7 @@ use Rattle.pc_ground.specs.{declared.literal.Literal.{Literal, TheVariants.{Edge
 use Rattle.order_graph.specs.Ways.{IsBelow}
 use Rattle.solver.specs.{Renamed.{node_at}, Shown.{ArePresent, AreEdges, IsPresentNoted, edge_over}}
 
-pub all_by_in : {X : Type 0} (P : X → Type 0) (xs : List X) → ((x : X) → In x xs → P x) → All P xs
+all_by_in : {X : Type 0} (P : X → Type 0) (xs : List X) → ((x : X) → In x xs → P x) → All P xs
 all_by_in P [] f = All-nil P
 all_by_in P (x ∷ xs) f = All-cons P x xs (f x (inl refl)) (all_by_in P xs (λ y i. f y (inr i)))
 

@@ -1,23 +1,22 @@
 -- The weight of open branches falls with each split, and with each branch that is closed.
-use Rattle.std.proofs.Common.{◌≡◌, ◌≤◌, ◌<◌, inl, inr, ℕ, zero, suc, ◌+◌, ◌-◌, ◌*◌, ◌^◌, Bool, true, false, not, ◌&&◌, ◌||◌, ◌⊎◌, List, [], ◌∷◌, ◌++◌, Option, Some, map, refl, sym, ap, ◌∙◌, subst, arith, eq-eqb, eqb-true}
+use Rattle.std.proofs.Common.{◌≡◌, ◌≤◌, ◌<◌, inl, inr, ℕ, zero, suc, ◌+◌, ◌-◌, ◌*◌, ◌^◌, Bool, true, false, not, ◌||◌, ◌⊎◌, List, [], ◌∷◌, ◌++◌, Option, Some, refl, sym, ap, ◌∙◌, subst, arith, eq-eqb, eqb-true}
 use Rattle.std.proofs.{Math.Nat.{pow-le-pow_right, pow-suc, one-le-pow}, lemmas.{List.Sums.{sum_by-cons}, Bool.{ltb-false, or_left, or_right}}}
 use Rattle.std.specs.Prelude.{if◌then◌else◌, nat_lt, ◌==◌}
-use Rattle.pc_common.proofs.Elements.{In, in_from_contains, contains_from_in, in_front, in_back, in_map, any_holds, holds_any}
+use Rattle.pc_common.proofs.Elements.{In, in_front, in_back, in_map, any_holds, holds_any}
 use Rattle.pc_common.proofs.Bools.{true_or_false, or_second}
 use Rattle.pc_ground.specs.{Tree.{Tree, always, never, leaf, both, either, negation, turned, size_of}, declared.version.Version.{Version}}
 use Rattle.pc_ground.specs.declared.version.Version.TheVariants.{One, Two}
 use Rattle.pc_ground.specs.Refutes.{Branch, Signed, signed, all_signed, subtree_at, asserted, with_side, left_branch, right_branch}
-use Rattle.solver.specs.{Places.{place_signed, HasSignsOf}, Opens.{positions}, declared.place.Place.{Place}}
 use Rattle.solver.{specs.Weights.{is_sign, under, is_on, pending_ors, pending_splits, weight}, proofs.IsGrown.{asserted_root}}
 
 -- the second list has all that the first has
 abbrev pub IsWithin : List ℕ → List ℕ → Type 0
 IsWithin ps qs = (p : ℕ) → In p ps → In p qs
 
-pub on_from_in : (ps : List ℕ) (p : ℕ) → In p ps → is_on ps p ≡ true
+on_from_in : (ps : List ℕ) (p : ℕ) → In p ps → is_on ps p ≡ true
 on_from_in ps p i = holds_any (λ q. q == p) p ps i (eq-eqb p p refl)
 
-pub in_from_on : (ps : List ℕ) (p : ℕ) → is_on ps p ≡ true → In p ps
+in_from_on : (ps : List ℕ) (p : ℕ) → is_on ps p ≡ true → In p ps
 in_from_on ps p e = let a = any_holds (λ q. q == p) ps e in let P : ℕ → Type 0 = λ q. In q ps in subst P (eqb-true a.0 p a.2) a.1
 
 on_more : (ps qs : List ℕ) (p : ℕ) → IsWithin ps qs → is_on ps p ≡ true → is_on qs p ≡ true
@@ -143,14 +142,14 @@ sign_self : (n : Bool) → is_sign n n ≡ true
 sign_self false = refl
 sign_self true = refl
 
-pub sign_is : (n m : Bool) → is_sign n m ≡ true → m ≡ n
+sign_is : (n m : Bool) → is_sign n m ≡ true → m ≡ n
 sign_is false false e = refl
 sign_is false true e = cc
 sign_is true false e = cc
 sign_is true true e = refl
 
 -- what is on a branch under a sign is among its positions of this sign, and they alone are
-pub in_under : (n : Bool) (ps : Branch) (p : ℕ) → In (signed n p) ps → In p (under n ps)
+in_under : (n : Bool) (ps : Branch) (p : ℕ) → In (signed n p) ps → In p (under n ps)
 in_under n [] p i = absurd i
 in_under n (q ∷ ps) p (inl e) =
     let is : is_sign n q.negated ≡ true = ap (λ (x : Signed). is_sign n x.negated) e ∙ sign_self n in
@@ -162,7 +161,7 @@ in_under n (q ∷ ps) p (inr i) =
       | inr h ↦ rw h (in_under n ps p i)
     ]
 
-pub from_under : (n : Bool) (ps : Branch) (p : ℕ) → In p (under n ps) → In (signed n p) ps
+from_under : (n : Bool) (ps : Branch) (p : ℕ) → In p (under n ps) → In (signed n p) ps
 from_under n [] p i = absurd i
 from_under n (q ∷ ps) p i =
     elim (true_or_false (is_sign n q.negated)) [
@@ -175,39 +174,6 @@ from_under n (q ∷ ps) p i =
         let same : q ≡ signed n p = ap (λ m. signed m q.position) (sign_is n q.negated h) ∙ ap (signed n) e in
         inl same
     first h rest (inr j) = inr (rest j)
-
-or_none : (b : Bool) → (b || false) ≡ b
-or_none true = refl
-or_none false = refl
-
-or_assoc : (u v w : Bool) → (u || (v || w)) ≡ ((u || v) || w)
-or_assoc true v w = refl
-or_assoc false v w = refl
-
--- where no position has a sign, those without one are all
-pub plain_under : (xs : List Place) → HasSignsOf One (positions xs) → under false (positions xs) ≡ map (λ (a : Place). a.position) xs
-plain_under [] signs = refl
-plain_under (x ∷ xs) signs =
-    let here : x.negated ≡ false = signs (place_signed x) (contains_from_in (place_signed x) (positions (x ∷ xs)) (inl refl)) in
-    let is : is_sign false x.negated ≡ true = ap not here in
-    let rest = plain_under xs (λ q h. signs q (contains_from_in q (positions (x ∷ xs)) (inr (in_from_contains q (positions xs) h)))) in
-    rw is (ap (λ ps. x.position ∷ ps) rest)
-
--- with one place more
-pub on_push : (n : Bool) (xs : List Place) (a : Place) (p : ℕ)
-    → is_on (under n (positions (xs ++ a ∷ []))) p ≡ (is_on (under n (positions xs)) p || (is_sign n a.negated && (a.position == p)))
-on_push n [] a p =
-    elim (true_or_false (is_sign n a.negated)) [
-      | inl h ↦ rw h (or_none (a.position == p))
-      | inr h ↦ rw h refl
-    ]
-on_push n (x ∷ xs) a p =
-    let rest = on_push n xs a p in
-    elim (true_or_false (is_sign n x.negated)) [
-      | inl h ↦ rw h (ap (λ b. (x.position == p) || b) rest
-          ∙ or_assoc (x.position == p) (is_on (under n (positions xs)) p) (is_sign n a.negated && (a.position == p)))
-      | inr h ↦ rw h rest
-    ]
 
 -- the second branch has all that the first has
 abbrev pub IsBranchWithin : Branch → Branch → Type 0

@@ -1,5 +1,5 @@
 -- Positions of a tree on a branch, each under the sign `~` or not.
-use Rattle.std.specs.Prelude.{ℕ, ◌≡◌, ◌+◌, ◌<◌, ◌⊎◌, Bool, false, not, List, [], ◌∷◌, ◌++◌, Option, Some, None, Contains, All}
+use Rattle.std.specs.Prelude.{ℕ, ◌≡◌, ◌+◌, ◌<◌, ◌⊎◌, Bool, false, not, List, [], ◌∷◌, ◌++◌, Option, Some, None, Contains}
 use Rattle.pc_ground.specs.{Tree.{Tree, either, turned, size_of}, declared.version.Version.{Version, TheVariants.{One, Two}}}
 use Rattle.pc_ground.specs.Refutes.{Branch, Signed, signed, all_signed, subtree_at, part_at, asserted, literals_of}
 use Rattle.solver.specs.{Met.{IsMetUnder}, declared.{place.Place.{Place}, side.Side.{Side}}}
@@ -56,11 +56,6 @@ IsOr {N} t q = (a : Tree N) × (b : Tree N) × (part_at t q ≡ Some (either a b
 abbrev pub AreSides : {N : Type 0} → Version → Tree N → Signed → Side × Side → Type 0
 AreSides {N} v t q pair = (a b : Tree N) → part_at t q ≡ Some (either a b) → (pair.0 ≡ left_side q) × (pair.1 ≡ right_side v q (size_of a))
 
--- in version 1 no position has a sign
-abbrev pub HasSignsOf : Version → Branch → Type 0
-HasSignsOf One ps = (q : Signed) → Contains ps q → q.negated ≡ false
-HasSignsOf Two ps = Unit {0}
-
 -- an asserted Or that has no side on the branch and is not true in the world that the branch's literals generate
 pub record IsCandidate {N : Type 0} (t : Tree N) (ps : Branch) (q : Signed) : Type 0 where
   pub left : Tree N
@@ -71,10 +66,6 @@ pub record IsCandidate {N : Type 0} (t : Tree N) (ps : Branch) (q : Signed) : Ty
   pub no_right : Contains ps (signed q.negated (q.position + 1 + size_of left)) → ⊥
   pub is_false : IsMetUnder q.negated (literals_of t ps) (turned q.negated (either left right)) → ⊥
 
--- each is a candidate of the branch
-abbrev pub AreCandidates : {N : Type 0} → Tree N → Branch → List Place → Type 0
-AreCandidates t ps found = All (λ q. IsCandidate t ps (place_signed q)) found
-
 -- an asserted Or there is true in the world that the branch's literals generate, or has a side on the branch
 abbrev pub IsChosen : {N : Type 0} → Tree N → Branch → Signed → Type 0
 IsChosen {N} t ps q = (a b : Tree N) → Contains ps q → part_at t q ≡ Some (either a b)
@@ -84,12 +75,22 @@ IsChosen {N} t ps q = (a b : Tree N) → Contains ps q → part_at t q ≡ Some 
 abbrev pub AreChosen : {N : Type 0} → Tree N → Branch → Type 0
 AreChosen t ps = (q : Signed) → IsChosen t ps q
 
--- the place stands last among those found where it is a candidate
-abbrev pub IsNoted : {N : Type 0} → Tree N → Branch → Place → List Place → List Place → Type 0
-IsNoted t ps q old new =
-    ((new ≡ old ++ q ∷ []) × IsCandidate t ps (place_signed q)) ⊎ ((new ≡ old) × IsChosen t ps (place_signed q))
-
 -- the place is among these, and its sides at these positions are not
 abbrev pub IsUntaken : List Place → Place → ℕ → ℕ → Type 0
 IsUntaken xs q left right = Contains xs q
     × (Contains xs (record { negated = q.negated; position = left }) → ⊥) × (Contains xs (record { negated = q.negated; position = right }) → ⊥)
+
+-- if the place is among these, one of its sides is
+abbrev pub IsTaken : List Place → Place → ℕ → ℕ → Type 0
+IsTaken xs q left right = Contains xs q
+    → Contains xs (record { negated = q.negated; position = left }) ⊎ Contains xs (record { negated = q.negated; position = right })
+
+-- an asserted Or with no side on the branch
+abbrev pub IsPending : {N : Type 0} → Tree N → List Place → Place → Type 0
+IsPending {N} t xs q = (a : Tree N) × (b : Tree N) × (part_at t (place_signed q) ≡ Some (either a b))
+    × IsUntaken xs q (q.position + 1) (q.position + 1 + size_of a)
+
+-- none is there
+abbrev pub IsPassed : {N : Type 0} → Tree N → List Place → Place → Type 0
+IsPassed {N} t xs q = (a b : Tree N) → part_at t (place_signed q) ≡ Some (either a b)
+    → IsTaken xs q (q.position + 1) (q.position + 1 + size_of a)

@@ -13,8 +13,7 @@ use super::agenda::Agenda;
 use super::answer::graph_of;
 use super::asserted::Asserted;
 use super::branch::Branch;
-use super::candidate::is_candidate_now;
-use super::candidates::candidates;
+use super::candidate::{first_candidate, is_candidate_now};
 use super::descend::descend;
 use super::numbered_tree::NumberedTree;
 use super::place::Place;
@@ -97,16 +96,9 @@ pub(crate) fn find<L: Ledger>(
     )? {
         return Ok(SearchStatus::Undecided(place));
     }
-    let found = candidates(
-        alloc,
-        tree,
-        version,
-        &branch.graph,
-        branch.asserted.as_slice(),
-    )?;
-    if found.is_empty() {
-        let shown = graph_of(alloc, tree, &branch.graph)?;
-        return Ok(SearchStatus::Satisfied(shown));
+    if let Some(place) = first_candidate(alloc, tree, &branch.graph, &branch.asserted)? {
+        return Ok(SearchStatus::Undecided(place));
     }
-    Ok(SearchStatus::Undecided(found[0]))
+    let shown = graph_of(alloc, tree, &branch.graph)?;
+    Ok(SearchStatus::Satisfied(shown))
 }

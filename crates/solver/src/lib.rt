@@ -17,7 +17,7 @@
 //! tree, and no table is copied for a branch.
 //!
 //! In version 2 a right side asserts first that the left one is false: its positions under a sign, which are
-//! positions of the tree's negation. In version 1 no position has a sign, and no flags are made for one.
+//! positions of the tree's negation. In version 1 no position has a sign.
 //!
 //! One turn, with the file of each arrow:
 //!
@@ -34,7 +34,7 @@
 //!   |   none waits: the refutation              find.rt, search.rt
 //!   | no clash: note what the literals changed  gains.rt, watch.rt, joint_pairs.rt, standing.rt
 //!   v
-//! look for a candidate                          find.rt; agenda.rt and hints.rt, and else all rows: candidates.rt
+//! look for a candidate                          find.rt; agenda.rt and hints.rt, and else all that is asserted: candidate.rt
 //!   | there is one: the next turn               search.rt
 //!   | there is none: the graph                  answer.rt
 //! ```
@@ -59,7 +59,6 @@ mod asserted;
 mod bits;
 mod branch;
 mod candidate;
-mod candidates;
 mod changes;
 mod choose;
 mod closing;
@@ -69,7 +68,6 @@ mod enter;
 mod failures;
 mod find;
 mod first_literals;
-mod flags;
 mod later;
 mod laws;
 mod leaf;

@@ -1,4 +1,4 @@
-ghost use Rattle.std.specs.Prelude.{◌≡◌, ◌<◌, ◌+◌, ◌^◌, ℕ, All, IfSome, IsTrue, length};
+ghost use Rattle.std.specs.Prelude.{◌≡◌, ◌<◌, ◌+◌, ◌^◌, ℕ, All, IfSome, IsTrue, MatchBool, length};
 ghost use Rattle.order_graph.specs.Ways.{IsBelow};
 ghost use Rattle.solver.specs.Spelled.{spelled};
 ghost use Rattle.solver.specs.Below.{IsRowBelow};
@@ -25,7 +25,8 @@ pub(crate) fn literal_at(rows: &[Row<u32>], negated: bool, p: usize) -> Option<L
 
 /// Whether an Or stands there: of the tree, or of its negation.
 pub(crate) fn is_or(tree: &NumberedTree, place: Place) -> bool
-    ensures is_or { IsTrue result → IsOr (spelled tree.now.rows) (place_signed place) }
+    ensures is_or { MatchBool result (IsOr (spelled tree.now.rows) (place_signed place))
+        (IsOr (spelled tree.now.rows) (place_signed place) → ⊥) }
     ensures inside { IsTrue result → place.position < length tree.now.rows }
     ensures small { IsTrue result → place.position < 2 ^ 63 }
 {

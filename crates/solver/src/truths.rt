@@ -12,8 +12,15 @@ use pc_common::Memory;
 use pc_ground::{Row, RowKind};
 use std::alloc::Global;
 
+/// The flag at `p`, or false past the end.
+pub(crate) fn flag_at(flags: &[bool], p: usize) -> bool
+    ensures { result ≡ flag flags.now p }
+{
+    p < flags.len() && flags[p]
+}
+
 /// The flags of the two children of the And or Or at `p`.
-pub(crate) fn child_flags(rows: &[Row<u32>], flags: &[bool], p: usize) -> (bool, bool)
+fn child_flags(rows: &[Row<u32>], flags: &[bool], p: usize) -> (bool, bool)
     requires tree { IsSpelled rows.now }
     requires count { length flags.now ≡ length rows.now }
     requires inner { SomeChildren (spelled rows.now) p }
@@ -86,10 +93,8 @@ fn whole_truth(alloc: Global, rows: &[Row<u32>], graph: &OrderGraph) -> Result<b
     requires below { All (IsRowBelow graph.now.nodes) rows.now }
     ensures { IfOk result (λ truth. IsTrue truth ↔ IsMet graph.now.literals (spelled rows.now)) }
 {
-    // for the proof alone: there are fewer than 2^63 rows
-    let _root = row_at(rows, 0);
     let flags = truths(alloc, rows, graph)?;
-    Ok(flags[0])
+    Ok(flag_at(&flags, 0))
 }
 
 /// Whether the subtree at `p` is true in the world that the graph's literals generate.

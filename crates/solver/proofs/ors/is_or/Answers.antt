@@ -1,18 +1,20 @@
-use Rattle.std.proofs.Common.{◌<◌, length, arith}
-use Rattle.pc_ground.specs.{Tree.{turned}, Rows.{turned_rows}}
-use Rattle.solver.{specs.Spelled.{spelled}, proofs.{IsSpelled.{turned_flat, turned_at}, AreTruths.{or_tree}, HasAsserted.{length_spelled}}}
-use Rattle.solver.proofs.IsChosen.{length_turned}
+use Rattle.std.proofs.Common.{arith}
+use Rattle.solver.specs.Places.{place_signed}
+use Rattle.solver.proofs.{IsSpelled.{turned_at}, HasAsserted.{length_spelled}, IsChosen.{or_row, other_row, past_rows}}
 use Rattle.solver.proofs.ors.is_or.Goals as goal
+
+pub returns-then-place-len-clause-is_or : goal.returns-then-place-len-clause-is_or
+returns-then-place-len-clause-is_or c = past_rows c.args.tree.now.rows (place_signed c.args.place) c.len.ensures.numbered.tree (omega arith)
 
 pub row-requires : goal.row-requires
 row-requires c = omega (arith, length_spelled c.args.tree.now.rows c.len.ensures.numbered.tree)
 
 pub returns-in-Or-clause-is_or : goal.returns-in-Or-clause-is_or
-returns-in-Or-clause-is_or c = λ yes.
-    let rows = c.args.tree.now.rows in
-    let n = c.args.place.negated in
-    let p = c.args.place.position in
-    let inside : p < length rows = omega arith in
-    let at = turned_at n rows p c.row.result c.negate_if.result c.row.ensures.row c.negate_if.ensures in
-    or_tree (turned_rows n rows) (turned n (spelled rows)) p c.negate_if.result (turned_flat n rows c.row.ensures.numbered.tree)
-    (omega (arith, inside, length_turned n rows)) at c.in-Or.is
+returns-in-Or-clause-is_or c =
+    let at = turned_at c.args.place.negated c.args.tree.now.rows c.args.place.position c.row.result c.negate_if.result c.row.ensures.row c.negate_if.ensures in
+    or_row c.args.tree.now.rows (place_signed c.args.place) c.negate_if.result c.row.ensures.numbered.tree (omega arith) at c.in-Or.is
+
+pub returns-in_default-clause-is_or : goal.returns-in_default-clause-is_or
+returns-in_default-clause-is_or c =
+    let at = turned_at c.args.place.negated c.args.tree.now.rows c.args.place.position c.row.result c.negate_if.result c.row.ensures.row c.negate_if.ensures in
+    other_row c.args.tree.now.rows (place_signed c.args.place) c.negate_if.result c.row.ensures.numbered.tree (omega arith) at c.in_default.not-Or
