@@ -5,7 +5,7 @@ use Rattle.pc_syntax.specs.{Written.{Written, not_, WrittenModel}, Observable.{m
 use Rattle.pc_ground.specs.declared.version.Version.TheVariants.{One}
 use Rattle.ask_command.specs.{Queries.{with_axiom, with_denial}, Asking.{word_of}, Words.{Somewhere}, AskAnswers.{IsAllowed, holds_in, IsAskWord}}
 use Rattle.ask_command.proofs.{WithAxiom.{satisfies_more}, TrueWords.{Told, word_is, not_true, true_not}}
-use Rattle.solver.specs.declared.answer.Answer.{Answer, TheVariants.{Observable as a_graph, Unobservable as a_refutation}}
+use Rattle.solver.specs.declared.search.answer.Answer.{Answer, TheVariants.{Observable as a_graph, Unobservable as a_refutation}}
 use Rattle.verdicts.{specs.{Verdicts.{status_of}, Certified.{IsCertified}}, proofs.CertifiedTruth.{certified_true}}
 
 module _ (m : WrittenModel) (c : Case) (f : Written) where

@@ -12,7 +12,7 @@ use Rattle.pc_ground.proofs.KeptTrees.{closed_tree}
 use Rattle.pc_front.{specs.{ModelFront.{closed_axiom}, Front.{ArePartsOf, IsFrontOf}}, proofs.{FrontLaws.{satisfied_alike}, PartsOf.{no_name_fault}}}
 use Rattle.ask_command.specs.{Queries.{with_axiom, first_query_fault}, Inquiries.{IsInquiryOf}, declared.inquiry.Inquiry.{Inquiry}, Asking.{IsFrontMore}}
 use Rattle.ask_command.{specs.FoundAsks.{verdict_of}, proofs.{WithAxiom.{axioms_more, macros_same}, FaultlessQueries.{denial_names}}}
-use Rattle.solver.specs.{Answers.{IsAnswer}, declared.answer.Answer.{Answer}}
+use Rattle.solver.specs.{Answers.{IsAnswer}, declared.search.answer.Answer.{Answer}}
 use Rattle.search_trait.specs.Found.{IsFound}
 use Rattle.command_base.proofs.AskedAlike.{numbers_same, same_tree}
 use Rattle.verdicts.{specs.{Verdicts.{IsVerdict, IsWritable, status_of, verdict_text}, Certified.{IsCertified}}, proofs.VerdictTexts.{verdict_certified}}

@@ -4,7 +4,7 @@ use Rattle.pc_common.specs.Case.{Case}
 use Rattle.pc_syntax.specs.{declared.closed.Closed.{Closed}, Closed.{PlainClosed, plain_closed}, StagesWithin.{StagesWithin}}
 use Rattle.pc_ground.specs.declared.{front.Front.{Front}, parts.Parts.{Parts}, stage.Stage.{Stage}}
 use Rattle.pc_ground.specs.Stages.{plain_stage, plain_axioms, numbers_of, AreStages, AxiomsWithin}
-use Rattle.solver.specs.declared.answer.Answer.{Answer}
+use Rattle.solver.specs.declared.search.answer.Answer.{Answer}
 use Rattle.ask_command.specs.{declared.outcome.Asked.{Asked}, Asking.{IsFrontMore, IsFoundMore, IsAsked}}
 
 abbrev pub stage_numbers_of : List Stage → List ℕ

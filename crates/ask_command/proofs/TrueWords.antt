@@ -4,7 +4,7 @@ use Rattle.std.{proofs.lemmas.Bool.{and_from}, specs.{List.{list_all}, Prelude.{
 use Rattle.pc_common.{specs.{Case.{Case}, World.{Node, World, IsWorld}}, proofs.Bools.{true_or_false, and_first, and_second, and_assoc, not_both}}
 use Rattle.pc_syntax.specs.Closed.{PlainClosed, closed_not, closed_true, closed_satisfies}
 use Rattle.pc_ground.specs.{declared.{front.Front.{Front}, stage.Stage.{Stage}}, Stages.{plain_axioms}}
-use Rattle.solver.specs.declared.answer.Answer.{Answer, TheVariants.{Observable, Unobservable}}
+use Rattle.solver.specs.declared.search.answer.Answer.{Answer, TheVariants.{Observable, Unobservable}}
 use Rattle.search_trait.{specs.Found.{IsFound}, proofs.FoundFronts.{found_world, found_none}}
 use Rattle.ask_command.specs.{Asking.{IsFrontMore, word_of}, Words.{Somewhere, Everywhere, IsWord, IsClosedWorld, WordsAreTrue}}
 

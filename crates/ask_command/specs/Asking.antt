@@ -3,7 +3,7 @@ use Rattle.std.specs.Prelude.{◌≡◌, List, [], ◌∷◌, ◌++◌}
 use Rattle.pc_common.specs.Case.{Case}
 use Rattle.pc_syntax.specs.Closed.{PlainClosed, closed_not}
 use Rattle.pc_ground.specs.{declared.{front.Front.{Front}, stage.Stage.{Stage}}, Stages.{plain_axioms}}
-use Rattle.solver.specs.declared.answer.Answer.{Answer, TheVariants.{Observable, Unobservable}}
+use Rattle.solver.specs.declared.search.answer.Answer.{Answer, TheVariants.{Observable, Unobservable}}
 use Rattle.search_trait.specs.Found.{IsFound}
 use Rattle.ask_command.specs.declared.outcome.{Asked.{Asked}, AskWord.{AskWord, TheVariants.{Always, Never, Sometimes, Vacuous}}}
 

@@ -1,7 +1,7 @@
 -- The code's answer to `ask`, and its text.
 use Rattle.std.specs.Prelude.{ℕ, List}
 use Rattle.pc_ground.specs.{declared.{front.Front.{Front}, version.Version.TheVariants.{One}}, NodeForm.{names_of}}
-use Rattle.solver.specs.declared.answer.Answer.{Answer}
+use Rattle.solver.specs.declared.search.answer.Answer.{Answer}
 use Rattle.ask_command.specs.{declared.{outcome.Asked.{Asked}, command.FoundAsk.{FoundAsk}}, Asking.{word_of}, AskTexts.{ask_text}}
 use Rattle.verdicts.specs.{declared.verdict.FoundVerdict.{FoundVerdict}, Verdicts.{verdict_text, IsWritable}}
 

@@ -5,7 +5,7 @@ use Rattle.pc_common.specs.{Case.{Case}, Steps.{Step}, World.{Node}}
 use Rattle.pc_syntax.specs.{declared.closed.Closed.{Closed}, Closed.{PlainClosed}}
 use Rattle.pc_ground.specs.{declared.front.Front.{Front}, Stages.{plain_axioms}}
 use Rattle.graph_text.specs.declared.graph.Graph.{Graph}
-use Rattle.solver.specs.declared.answer.Answer.{Answer, TheVariants.{Observable, Unobservable}}
+use Rattle.solver.specs.declared.search.answer.Answer.{Answer, TheVariants.{Observable, Unobservable}}
 use Rattle.search_trait.{specs.Found.{IsFound}, proofs.FoundFronts.{found_world, found_none}}
 use Rattle.axiom_core.specs.{Chosen.{Choice, taken, among, less, flagged, AreRising}, Choices.{is_refutation, places, IsTried}}
 use Rattle.axiom_core.specs.Cores.{Allow, Forbid, IsMinimal, IsFrontWith, IsRefutedWith, IsShownWith, AreShownWithout, IsCore, IsCoreOf, HasNone}

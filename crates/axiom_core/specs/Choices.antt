@@ -2,7 +2,7 @@
 use Rattle.std.specs.Prelude.{ℕ, zero, suc, ◌≡◌, ◌<◌, Bool, true, false, List, [], ◌∷◌, ◌++◌, Option, Some, None, length, IsTrue, if◌then◌else◌}
 use Rattle.pc_common.specs.Case.{Case}
 use Rattle.pc_syntax.specs.Closed.{PlainClosed}
-use Rattle.solver.specs.declared.answer.Answer.{Answer, TheVariants.{Observable, Unobservable}}
+use Rattle.solver.specs.declared.search.answer.Answer.{Answer, TheVariants.{Observable, Unobservable}}
 use Rattle.axiom_core.specs.{Chosen.{Choice, taken, less, flagged}, Cores.{Allow, Forbid}}
 
 -- the places whose flags are set, but for the one that is left out

@@ -4,7 +4,7 @@ use Rattle.pc_common.specs.{Case.{Case}, World.{Node, World, IsWorld}, Steps.{St
 use Rattle.pc_syntax.specs.Closed.{PlainClosed, closed_satisfies}
 use Rattle.pc_ground.specs.{declared.front.Front.{Front}, Stages.{plain_axioms}}
 use Rattle.graph_text.specs.declared.graph.Graph.{Graph}
-use Rattle.solver.specs.declared.answer.Answer.TheVariants.{Observable, Unobservable}
+use Rattle.solver.specs.declared.search.answer.Answer.TheVariants.{Observable, Unobservable}
 use Rattle.search_trait.specs.Found.{IsFound}
 use Rattle.axiom_core.specs.{declared.answer.Core.{Core, TheVariants.{None as no_core, Minimal}}, Chosen.{Choice, taken, among, less, AreRising}}
 

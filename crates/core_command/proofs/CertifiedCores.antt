@@ -9,7 +9,7 @@ use Rattle.pc_syntax.specs.{Written.{WrittenModel}, Observable.{axioms_of, macro
 use Rattle.pc_ground.specs.{declared.{front.Front.{Front}, version.Version.TheVariants.{One}}, NodeForm.{names_of}}
 use Rattle.pc_front.specs.Front.{IsFrontOf}
 use Rattle.graph_text.specs.declared.graph.Graph.{Graph}
-use Rattle.solver.specs.declared.answer.Answer.TheVariants.{Observable as a_graph, Unobservable as a_refutation}
+use Rattle.solver.specs.declared.search.answer.Answer.TheVariants.{Observable as a_graph, Unobservable as a_refutation}
 use Rattle.axiom_core.specs.{Chosen.{Choice, among, less, AreRising}, ModelWith.{model_with}, Cores.{AreShownWithout, IsCore, IsCoreOf}}
 use Rattle.axiom_core.{specs.declared.answer.Core.{Core, TheVariants.{None as no_axioms, Minimal}}, proofs.{Taking.{all_hold}, AxiomsWith.{satisfies_with}}}
 use Rattle.verdicts.{specs.{Verdicts.{IsWritable}, Certified.{IsCertified}}, proofs.CertifiedTruth.{certified_true}}

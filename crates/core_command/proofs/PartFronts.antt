@@ -6,7 +6,7 @@ use Rattle.pc_syntax.specs.{Written.{WrittenModel}, Observable.{axioms_of}, Expa
 use Rattle.pc_ground.specs.{declared.{front.Front.{Front}, version.Version.TheVariants.{One}}, Tree.{Tree}, Rows.{rows_of}, GroundTree.{closed_ground_tree}}
 use Rattle.pc_ground.{specs.{NodeForm.{names_of}, Stages.{plain_stage, plain_axioms}}, proofs.KeptTrees.{closed_tree}}
 use Rattle.pc_front.{specs.{ModelFront.{closed_axiom}, Front.{ArePartsOf, IsFrontOf}}, proofs.{FrontLaws.{satisfied_alike}, PartsOf.{no_name_fault}}}
-use Rattle.solver.specs.{Answers.{IsAnswer}, declared.answer.Answer.{Answer}}
+use Rattle.solver.specs.{Answers.{IsAnswer}, declared.search.answer.Answer.{Answer}}
 use Rattle.axiom_core.{specs.{Chosen.{Choice, taken}, ModelWith.{model_with}, Cores.{IsFrontWith}}, proofs.Taking.{map_taken}}
 use Rattle.axiom_core.proofs.{AxiomsWith.{axioms_with, macros_with}, Faultless.{faultless_with}}
 use Rattle.search_trait.specs.Found.{IsFound}

@@ -3,7 +3,7 @@ use Rattle.std.specs.Prelude.{◌≡◌, ℕ, List, length, map, All}
 use Rattle.pc_common.specs.{World.{Node}, Steps.{Step}}
 use Rattle.pc_ground.specs.{declared.{front.Front.{Front}, version.Version.TheVariants.{One}}, NodeForm.{names_of}}
 use Rattle.graph_text.specs.declared.graph.Graph.{Graph}
-use Rattle.solver.specs.declared.answer.Answer.{Answer, TheVariants.{Observable as a_graph, Unobservable as a_refutation}}
+use Rattle.solver.specs.declared.search.answer.Answer.{Answer, TheVariants.{Observable as a_graph, Unobservable as a_refutation}}
 use Rattle.axiom_core.specs.declared.answer.Core.{Core, TheVariants.{None as no_axioms, Minimal}}
 use Rattle.verdicts.specs.Verdicts.{verdict_text, IsWritable}
 use Rattle.core_command.specs.{declared.command.FoundCore.{FoundCore}, CoreTexts.{no_core_text, core_text}}

@@ -1,7 +1,7 @@
 ghost use Rattle.std.specs.Prelude.{◌≡◌};
 ghost use Rattle.pc_common.specs.Writes.{Writes};
 ghost use Rattle.pc_ground.specs.NodeForm.{names_of};
-ghost use Rattle.solver.specs.declared.answer.Answer.TheVariants.{Observable as a_graph, Unobservable as a_refutation};
+ghost use Rattle.solver.specs.declared.search.answer.Answer.TheVariants.{Observable as a_graph, Unobservable as a_refutation};
 ghost use Rattle.verdicts.specs.Verdicts.{IsWritable};
 ghost use Rattle.core_command.specs.Found.{certificate_text};
 

@@ -2,7 +2,7 @@ ghost use Rattle.std.specs.Prelude.{◌≡◌, ◌≤◌, length, map, All};
 ghost use Rattle.std.specs.List.{flat_map};
 ghost use Rattle.pc_common.specs.Writes.{Writes};
 ghost use Rattle.pc_ground.specs.NodeForm.{names_of};
-ghost use Rattle.solver.specs.declared.answer.Answer.TheVariants.{Observable as a_graph, Unobservable as a_refutation};
+ghost use Rattle.solver.specs.declared.search.answer.Answer.TheVariants.{Observable as a_graph, Unobservable as a_refutation};
 ghost use Rattle.verdicts.specs.Verdicts.{IsWritable};
 ghost use Rattle.core_command.specs.CoreTexts.{numbered_line, axiom_line, pairs, without_text, no_core_text, core_text};
 ghost use Rattle.core_command.specs.Found.{graph_text, tree_text, found_text, IsCoreWritable};

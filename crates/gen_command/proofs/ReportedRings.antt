@@ -7,7 +7,7 @@ use Rattle.pc_syntax.specs.Written.{WrittenModel}
 use Rattle.pc_ground.specs.{declared.{front.Front.{Front}, version.Version.{Version, TheVariants.{One}}}, GroundTree.{ground_tree}, Refutes.{IsRefutation}}
 use Rattle.litmus_reader.specs.Answer.{CaseOf}
 use Rattle.pc_front.specs.Front.{IsFrontOf, IsFirstFrontFault as IsTestFault}
-use Rattle.solver.specs.{Answers.{IsAnswer}, declared.answer.Answer.{Answer as Found, TheVariants.{Observable as a_graph, Unobservable as a_refutation}}}
+use Rattle.solver.specs.{Answers.{IsAnswer}, declared.search.answer.Answer.{Answer as Found, TheVariants.{Observable as a_graph, Unobservable as a_refutation}}}
 use Rattle.cert_check.specs.{Certificates.{certificate_lines, tree_lines}, Verdicts.{plain_verdict}}
 use Rattle.gen_command.specs.{Ring.{ring_model, ring_test}, declared.report.Report.{Report}, Summaries.{IsTrueVerdict, IsCounted, of_graph, of_tree, IsSummary}}
 use Rattle.gen_command.specs.{Reports.{IsReport}, GenAnswers.{IsRingReport}}

@@ -6,7 +6,7 @@ use Rattle.pc_ground.specs.{declared.{front.Front.{Front}, version.Version.TheVa
 use Rattle.pc_ground.{specs.{Numbers.{numbered}, GroundTree.{axioms_unfolded}, Stages.{plain_axioms}}, proofs.FlatRows.{rows_injective}}
 use Rattle.pc_ground.proofs.{NormalForms.{normal_folded}, UnfoldedTruth.{closed_ground_tree_true}}
 use Rattle.graph_text.specs.declared.graph.Graph.{Graph}
-use Rattle.solver.specs.{Answers.{IsAnswer}, declared.answer.Answer.{Answer, TheVariants.{Observable, Unobservable}}}
+use Rattle.solver.specs.{Answers.{IsAnswer}, declared.search.answer.Answer.{Answer, TheVariants.{Observable, Unobservable}}}
 use Rattle.search_trait.specs.Found.{tree_of, IsFound}
 
 pub front_numbered : (front : Front) (t : Tree Node) → front.tree ≡ rows_of t → front.numbering ≡ numbered t

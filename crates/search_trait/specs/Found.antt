@@ -2,7 +2,7 @@
 use Rattle.pc_common.specs.World.{Node}
 use Rattle.pc_ground.specs.{declared.{front.Front.{Front}, version.Version.TheVariants.{One}}, Tree.{Tree}, GroundTree.{closed_ground_tree}}
 use Rattle.pc_ground.specs.Stages.{plain_axioms}
-use Rattle.solver.specs.{Answers.{IsAnswer}, declared.answer.Answer.{Answer}}
+use Rattle.solver.specs.{Answers.{IsAnswer}, declared.search.answer.Answer.{Answer}}
 
 abbrev pub tree_of : Front → Tree Node
 tree_of f = closed_ground_tree f.case (plain_axioms f.axioms)

@@ -8,7 +8,7 @@ use Rattle.pc_ground.proofs.Turned.{subtree_denied, size_negation, size_turned}
 use Rattle.pc_ground.proofs.{FlatRows.{length_rows, size_pos, subtree_size, subtree_past, children_both, children_either}, StageWalks.{some_same}}
 use Rattle.pc_common.{specs.Chain.{Chain}, proofs.Bools.{true_or_false, and_first, and_second, or_second}}
 use Rattle.solver.specs.{Spelled.{spelled, IsSpelled}, Met.{IsMet}, Flags.{AreTruths, HasChildren, of_both, of_either, SomeChildren, AreChildFlags}}
-use Rattle.solver.specs.{Places.{left_side, denied_left, right_side, IsOr, IsDeniedIn, AreSides}, declared.side.Side.{Side}}
+use Rattle.solver.specs.{Places.{left_side, denied_left, right_side, IsOr, IsDeniedIn, AreSides}, declared.tree.side.Side.{Side}}
 use Rattle.solver.proofs.HasAsserted.{row_root, length_spelled}
 
 pub children_inside : (rows : List (Row ℕ)) (p right : ℕ) → IsSpelled rows → HasChildren (spelled rows) p right → (p + 1 < length rows) × (right < length rows)

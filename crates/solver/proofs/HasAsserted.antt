@@ -14,7 +14,7 @@ use Rattle.pc_ground.proofs.{Walks.{walk_side, walk_turn, walk_within}, StageWal
 use Rattle.order_graph.specs.{Clashes.{leaf_of, IsClash}, State.{Graph}, Adding.{IsAdded}, declared.clash.Added.{Added}}
 use Rattle.order_graph.specs.{declared.clash.{Added.TheVariants.{Kept as was_kept, Clash as clashed}, Clash.{Clash}}, Ways.{IsBelow}}
 use Rattle.solver.specs.{Spelled.{spelled, IsSpelled}, Below.{IsKindBelow, IsRowBelow}, Places.{place_signed, asserted_in, asserted_at}}
-use Rattle.solver.{specs.{Opens.{positions, IsFurther, HasAsserted, HasAddedRow}, declared.place.Place.{Place}}, proofs.IsSpelled.{turned_flat}}
+use Rattle.solver.{specs.{Opens.{positions, IsFurther, HasAsserted, HasAddedRow}, declared.tree.place.Place.{Place}}, proofs.IsSpelled.{turned_flat}}
 
 pub asserted_is : {N : Type 0} (t : Tree N) (n : Bool) (p : ℕ) (s : Tree N) → subtree_at (turned n t) p ≡ Some s
     → asserted_at t n p ≡ all_signed n (asserted s p)

@@ -9,8 +9,8 @@ use Rattle.order_graph.specs.{State.{Graph}, Clashes.{IsClash}, declared.clash.C
 use Rattle.solver.specs.{Spelled.{spelled, IsSpelled}, Below.{IsRowBelow}, Renamed.{tree_over}}
 use Rattle.solver.specs.{Places.{place_signed, side_positions, left_side, right_side, IsCandidate, AreSides}, Leaves.{IsClashBelow}}
 use Rattle.solver.specs.{Opens.{positions, waiting, IsLater, AreLater, opens, KeepsState, state_of, IsSame}, Numbered.{Numbered}}
-use Rattle.solver.specs.{Branches.{branches_with, HasOpenBranch}, declared.{branch.Branch.{Branch as OpenBranch}, place.Place.{Place}, side.Side.{Side}}}
-use Rattle.solver.{specs.{declared.later.Later.{Later}, Weights.{weight}, Descents.{IsLonger, HasMore}}, proofs.Runs.{open_partial}}
+use Rattle.solver.specs.{Branches.{branches_with, HasOpenBranch}, declared.{search.branch.Branch.{Branch as OpenBranch}, tree.place.Place.{Place}, tree.side.Side.{Side}}}
+use Rattle.solver.{specs.{declared.search.later.Later.{Later}, Weights.{weight}, Descents.{IsLonger, HasMore}}, proofs.Runs.{open_partial}}
 use Rattle.solver.proofs.{ClashLeaf.{clash_below, literals_below}, KeepsState.{split_kept, left_is, right_is}, Weight.{weight_more, weight_split}}
 
 pub clash_in : (n : ℕ) (rows : List (Row ℕ)) (ps : Branch) (k : Clash) → IsSpelled rows → All (IsRowBelow n) rows

@@ -1,7 +1,7 @@
 -- A list of places with its index: what it finds, and one place more.
 use Rattle.std.proofs.Common.{◌≡◌, ◌≤◌, ◌<◌, inl, inr, ℕ, zero, suc, Bool, List, [], ◌∷◌, ◌++◌, Some, None, length, refl, sym, ap, ◌∙◌, subst, arith, length-append}
 use Rattle.std.{proofs.lemmas.{Bool.{cases_lt}, Option.{slice_get_within, slice_get-get_or, get_or_from_slice_get}}, specs.Prelude.{slice_get, Contains}}
-use Rattle.solver.specs.{declared.place.Place.{Place}, Indexed.{index_of, IsIndexed, IsPlacePut}}
+use Rattle.solver.specs.{declared.tree.place.Place.{Place}, Indexed.{index_of, IsIndexed, IsPlacePut}}
 
 some_is : {X : Type 0} (x y : X) → Some x ≡ Some y → x ≡ y
 some_is x y e = cc

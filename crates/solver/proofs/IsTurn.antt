@@ -14,8 +14,8 @@ use Rattle.order_graph.{specs.{State.{IsGraph}, Ways.{IsBelow}}, proofs.Generate
 use Rattle.solver.specs.{Spelled.{spelled, IsSpelled}, Numbered.{Numbered, IsNumbered, HasNoFalse}, Renamed.{tree_over, rows_over, node_at, renamed_tree}}
 use Rattle.solver.specs.{Below.{IsRowBelow}, Met.{IsMet, IsMetUnder}, Places.{place_signed, IsCandidate, AreChosen, root_side, side_positions}}
 use Rattle.solver.specs.{Opens.{positions, waiting, opens, KeepsState, state_of}, Shown.{ArePresent, AreEdges}, Answers.{IsWitness, IsAnswer}}
-use Rattle.solver.specs.{Turns.{IsTurnOfRows, IsTurnOfTree}, declared.{search.Turn.{Turn, TheVariants.{More, Done}}, branch.Branch.{Branch as OpenBranch}}}
-use Rattle.solver.specs.{declared.{place.Place.{Place}, later.Later.{Later}}, Branches.{branches_of, HasOpenBranch, IsBlank}}
+use Rattle.solver.specs.{Turns.{IsTurnOfRows, IsTurnOfTree}, declared.{search.Turn.{Turn, TheVariants.{More, Done}}, search.branch.Branch.{Branch as OpenBranch}}}
+use Rattle.solver.specs.{declared.{tree.place.Place.{Place}, search.later.Later.{Later}}, Branches.{branches_of, HasOpenBranch, IsBlank}}
 use Rattle.solver.{specs.Searched.{HasUnmetBranch, HasCandidate}, proofs.RenamedTree.{part_renamed, size_renamed, asserted_renamed, tree_of_names}}
 use Rattle.solver.proofs.{IsSpelled.{spelled_is, is_spelled}, IsGrown.{IsGrown, grown_first}, IsChosen.{plain_part}, IsMet.{met_whole}, ShownWorld.{Shows, AreBelow, shown_world}}
 use Rattle.solver.proofs.{IsKnown.{number_named}, HasAsserted.{length_spelled, row_root}}

@@ -3,7 +3,7 @@ use Rattle.std.specs.Prelude.{List, Contains, IsTrue}
 use Rattle.pc_common.specs.{World.{Node, World, IsWorld}, Generated.{HasEnds, IsGenerated}}
 use Rattle.pc_ground.specs.{Tree.{Tree, tree_true}, declared.version.Version.{Version}, Refutes.{IsRefutation}}
 use Rattle.graph_text.specs.{Graphs.{graph_nodes, graph_edges}, declared.graph.Graph.{Graph}}
-use Rattle.solver.specs.declared.answer.Answer.{Answer, TheVariants.{Observable, Unobservable}}
+use Rattle.solver.specs.declared.search.answer.Answer.{Answer, TheVariants.{Observable, Unobservable}}
 
 -- the graph is of these nodes, and the tree is true in the world that it generates
 pub record IsWitness (nodes : List Node) (t : Tree Node) (g : Graph) : Type 0 where

@@ -2,8 +2,8 @@
 use Rattle.std.specs.Prelude.{◌≡◌, List, [], ◌∷◌, ◌++◌, Option, Some, None, length, take, slice_index}
 use Rattle.pc_ground.specs.{declared.version.Version.{Version}, Refutes.{Branch as Positions}}
 use Rattle.order_graph.specs.State.{IsCut}
-use Rattle.solver.specs.{Numbered.{Numbered}, Spelled.{spelled}, Opens.{positions, opens, KeepsState, state_of}, declared.branch.Branch.{Branch}}
-use Rattle.solver.specs.declared.{later.Later.{Later}, side.Side.{Side}}
+use Rattle.solver.specs.{Numbered.{Numbered}, Spelled.{spelled}, Opens.{positions, opens, KeepsState, state_of}, declared.search.branch.Branch.{Branch}}
+use Rattle.solver.specs.declared.{search.later.Later.{Later}, tree.side.Side.{Side}}
 
 -- all open branches
 abbrev pub branches_of : Numbered → Branch → List Positions

@@ -3,7 +3,7 @@ use Rattle.std.specs.Prelude.{ℕ, ◌≡◌, ◌<◌, Bool, true, false, List, 
 use Rattle.pc_common.specs.{World.{Node}, Steps.{Step}}
 use Rattle.pc_ground.specs.{declared.version.Version.{Version}, Refutes.{IsPartial}}
 use Rattle.solver.specs.{Numbered.{Numbered}, Spelled.{spelled}, Renamed.{tree_over}, Branches.{branches_with, HasOpenBranch}, Weights.{weight}}
-use Rattle.solver.specs.declared.branch.Branch.{Branch}
+use Rattle.solver.specs.declared.search.branch.Branch.{Branch}
 
 -- a branch is open, and what is open weighs less than `most`; or all are closed
 abbrev pub HasDescended : Version → Numbered → ℕ → Branch → Bool → Type 0

@@ -1,6 +1,6 @@
 -- A list of places with an index that tells where each of them stands.
 use Rattle.std.specs.Prelude.{ℕ, ◌≡◌, ◌≤◌, List, Some, slice_get, slice_index, if◌then◌else◌}
-use Rattle.solver.specs.declared.place.Place.{Place}
+use Rattle.solver.specs.declared.tree.place.Place.{Place}
 
 -- what the index says of a place; the positions that have a sign have an index of their own
 abbrev pub index_of : List ℕ → List ℕ → Place → ℕ

@@ -3,7 +3,7 @@ use Rattle.std.specs.Prelude.{ℕ, ◌≡◌, ◌<◌, ◌≤◌, ◌+◌, List,
 use Rattle.pc_common.specs.{World.{Node}, Steps.{Step}}
 use Rattle.pc_ground.specs.{declared.{row.Row.{Row}, version.Version.{Version}}, Tree.{Tree}, Rows.{literals_of_kind}, Refutes.{Branch, literals_of, IsPartial}}
 use Rattle.order_graph.specs.{State.{Graph}, Clashes.{IsClash}, declared.clash.{Clash.{Clash}, Added.{Added, TheVariants.{Kept as was_kept, Clash as clashed}}}}
-use Rattle.solver.specs.{Renamed.{tree_over}, Places.{place_signed, side_positions, IsSideIn}, declared.{place.Place.{Place}, later.Later.{Later}}}
+use Rattle.solver.specs.{Renamed.{tree_over}, Places.{place_signed, side_positions, IsSideIn}, declared.{tree.place.Place.{Place}, search.later.Later.{Later}}}
 
 abbrev pub positions : List Place → Branch
 positions xs = map place_signed xs

@@ -5,7 +5,7 @@ use Rattle.pc_ground.specs.{declared.{row.Row.{Row}, version.Version.{Version}},
 use Rattle.pc_ground.specs.Refutes.{Signed, Branch as Positions, subtree_at, literals_of, IsPartial}
 use Rattle.order_graph.specs.State.{Graph}
 use Rattle.solver.specs.{Spelled.{spelled}, Numbered.{Numbered, HasNoFalse}, Renamed.{tree_over}, Met.{IsMetUnder}, Places.{place_signed, IsCandidate}}
-use Rattle.solver.specs.{Opens.{positions}, Branches.{HasOpenBranch}, declared.{place.Place.{Place}, branch.Branch.{Branch}}}
+use Rattle.solver.specs.{Opens.{positions}, Branches.{HasOpenBranch}, declared.{tree.place.Place.{Place}, search.branch.Branch.{Branch}}}
 
 pub record Searched : Type 0 where
   -- how its steps are read

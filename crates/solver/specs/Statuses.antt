@@ -2,7 +2,7 @@
 use Rattle.std.specs.Prelude.{ℕ, ◌+◌, []}
 use Rattle.pc_ground.specs.{declared.version.Version.{Version}, Refutes.{IsPartial}}
 use Rattle.solver.specs.{Numbered.{Numbered}, Spelled.{spelled}, Renamed.{tree_over}, Branches.{branches_of}, Searched.{HasCandidate}, Answers.{IsWitness}}
-use Rattle.solver.specs.{Weights.{weight}, declared.{branch.Branch.{Branch}, find.SearchStatus.{SearchStatus, TheVariants.{Refuted, Satisfied, Undecided}}}}
+use Rattle.solver.specs.{Weights.{weight}, declared.{search.branch.Branch.{Branch}, search.find.SearchStatus.{SearchStatus, TheVariants.{Refuted, Satisfied, Undecided}}}}
 
 abbrev pub IsStatus : Version → Numbered → Branch → SearchStatus → Type 0
 IsStatus v t b Refuted = IsPartial v (tree_over t.nodes (spelled t.rows)) b.refutation []

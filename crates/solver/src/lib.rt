@@ -19,31 +19,32 @@
 //! In version 2 a right side asserts first that the left one is false: its positions under a sign, which are
 //! positions of the tree's negation. In version 1 no position has a sign.
 //!
-//! One turn, with the file of each arrow:
+//! It stands in three folders. In `tree` are the rows, and in `search` is what the clauses speak of. In `hints` is which Or
+//! comes next, of which no clause speaks: a hint's own head says when it is asked.
+//!
+//! One turn, with the file of each arrow, in `search` where no folder is named:
 //!
 //! ```text
 //! a candidate of the first open branch          search.rt
-//!   | choose the Or to split                    choose.rt; proposed by agenda.rt, closing.rt, alternatives.rt, failures.rt
-//!   |                                           and records.rt, and tested by candidate.rt
-//!   | its sides; the right one waits            ors.rt, advance.rt, later.rt
+//!   | choose the Or to split                    choose.rt; proposed by hints/propose.rt, and tested by candidate.rt
+//!   | its sides; the right one waits            tree/ors.rt, advance.rt, later.rt
 //!   v
 //! assert the literals of a side    <---------+  enter.rt, asserted.rt; the graph is order_graph's
 //!   | a clash: a leaf closes the branch      |  leaf.rt, descend.rt
-//!   |   learn from the clash                 |  failures.rt, conflict_sets.rt, scripts.rt
+//!   |   learn from the clash                 |  hints/failures.rt
 //!   |   undo to the next side that waits ----+  enter.rt
 //!   |   none waits: the refutation              find.rt, search.rt
-//!   | no clash: note what the literals changed  gains.rt, watch.rt, joint_pairs.rt, standing.rt
+//!   | no clash: note what the literals changed  hints/changes.rt, hints/watch.rt
 //!   v
-//! look for a candidate                          find.rt; agenda.rt and hints.rt, and else all that is asserted: candidate.rt
+//! look for a candidate                          find.rt; hints/agenda.rt, and else all that is asserted: candidate.rt
 //!   | there is one: the next turn               search.rt
 //!   | there is none: the graph                  answer.rt
 //! ```
 //!
-//! Which Or a turn splits is proposed by hints that no clause speaks of, and what they propose is tested. The `agenda`
-//! keeps which Ors are pending and which of their sides are closed at once. `alternatives` asks, once a side has failed,
-//! which Ors have one alternative left or none. `failures` keeps the conflict sets: the splits of the newest ones come
-//! first. Where a left side failed without its split, the right side is refuted by the same splits again. Where a side
-//! failed without its split, `failures` keeps which steps are not needed for that, and hands them out with the
+//! What the hints propose is tested. The `agenda` keeps which Ors are pending, which of their sides are closed at once, and,
+//! once a side has failed, which have one alternative left or none. `failures` keeps the conflict sets: the splits of the
+//! newest ones come first. Where a left side failed without its split, the right side is refuted by the same splits again.
+//! Where a side failed without its split, `failures` keeps which steps are not needed for that, and hands them out with the
 //! refutation. A hint that memory is refused to goes on without what it was to keep; it notes that, and the next split or
 //! leaf returns `Memory`.
 //!
@@ -51,44 +52,13 @@
 //! are a partial refutation, and the graph's literals are those of the first open branch.
 #![tactic(auto)]
 
-mod advance;
-mod agenda;
-mod alternatives;
-mod answer;
-mod asserted;
-mod bits;
-mod branch;
-mod candidate;
-mod changes;
-mod choose;
-mod closing;
-mod conflict_sets;
-mod descend;
-mod enter;
-mod failures;
-mod find;
-mod first_literals;
-mod later;
+mod hints;
 mod laws;
-mod leaf;
-mod numbered_tree;
-mod numbers;
-mod ors;
-mod place;
-mod propose;
-mod records;
-mod rows;
-mod scripts;
 mod search;
-mod side;
 mod solving;
-mod standing;
-mod truth;
-mod truths;
-mod walk;
-mod watch;
+mod tree;
 
-pub use answer::Answer;
 pub use laws::consistent_literals_have_a_world;
+pub use search::answer::Answer;
 pub use search::{Search, Turn};
 pub use solving::solve;

@@ -6,8 +6,8 @@ ghost use Rattle.pc_ground.specs.Folded.{IsFolded};
 ghost use Rattle.pc_ground.specs.Numbers.{numbered};
 ghost use Rattle.solver.specs.Answers.{IsAnswer};
 
-use super::answer::Answer;
-use super::search::{Search, Turn};
+use crate::search::answer::Answer;
+use crate::search::{Search, Turn};
 use pc_common::Memory;
 use pc_ground::{Flat, Numbering, Version};
 use std::alloc::Global;

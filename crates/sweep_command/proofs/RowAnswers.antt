@@ -6,7 +6,7 @@ use Rattle.pc_syntax.{specs.Closed.{PlainClosed}, proofs.Slots.{slice_get-end}}
 use Rattle.pc_ground.specs.{Tree.{Tree}, Rows.{rows_of}, Folded.{IsFolded}, GroundTree.{axioms_unfolded, closed_ground_tree}}
 use Rattle.pc_ground.{specs.declared.version.Version.{Version}, proofs.{UnfoldedTruth.{closed_ground_tree_true}, NormalForms.{normal_folded}}}
 use Rattle.pc_ground.proofs.FlatRows.{rows_injective}
-use Rattle.solver.specs.{Answers.{IsAnswer}, declared.answer.Answer.{Answer, TheVariants.{Observable, Unobservable}}}
+use Rattle.solver.specs.{Answers.{IsAnswer}, declared.search.answer.Answer.{Answer, TheVariants.{Observable, Unobservable}}}
 use Rattle.sweep_command.specs.Sweeps.{IsAnswerTo, is_graph}
 
 -- a constant stands in the ground tree of closed axioms only where it is the whole tree

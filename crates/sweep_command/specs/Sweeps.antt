@@ -2,7 +2,7 @@
 use Rattle.std.specs.Prelude.{◌≡◌, ℕ, Bool, true, false, List, Some, length, slice_get, IsTrue}
 use Rattle.pc_common.specs.{Case.{Case}, World.{Node, World, IsWorld}}
 use Rattle.pc_syntax.specs.Closed.{PlainClosed, closed_satisfies}
-use Rattle.solver.specs.declared.answer.Answer.{Answer, TheVariants.{Observable, Unobservable}}
+use Rattle.solver.specs.declared.search.answer.Answer.{Answer, TheVariants.{Observable, Unobservable}}
 use Rattle.pattern_reader.specs.Rows.{Pattern, rows_of, row_case}
 
 -- some world makes every axiom true of the case

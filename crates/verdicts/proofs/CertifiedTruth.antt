@@ -8,7 +8,7 @@ use Rattle.pc_ground.specs.declared.version.Version.{Version}
 use Rattle.cert_check.specs.Certificates.{IsTreeCertificate, IsCertificateText}
 use Rattle.command_base.specs.{Questions.{names_by, question_by}, VerdictStatus.{IsTrueStatus, IsDueStatus}}
 use Rattle.command_base.proofs.CertificateTruth.{graph_observable, tree_unobservable}
-use Rattle.solver.specs.declared.answer.Answer.{Answer as Found, TheVariants.{Observable as a_graph, Unobservable as a_refutation}}
+use Rattle.solver.specs.declared.search.answer.Answer.{Answer as Found, TheVariants.{Observable as a_graph, Unobservable as a_refutation}}
 use Rattle.verdicts.specs.{Verdicts.{status_of}, Certified.{IsCertified, seen, unseen}}
 
 one_verdict : is_observable ≡ is_unobservable → ⊥

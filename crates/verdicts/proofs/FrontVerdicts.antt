@@ -6,7 +6,7 @@ use Rattle.pc_syntax.specs.Written.{WrittenModel}
 use Rattle.pc_ground.specs.{declared.{front.Front.{Front}, version.Version.{Version}}, Tree.{Tree}, Rows.{rows_of}, GroundTree.{ground_tree}}
 use Rattle.pc_ground.specs.NodeForm.{names_of}
 use Rattle.pc_front.specs.Front.{IsFrontOf}
-use Rattle.solver.specs.{Answers.{IsAnswer}, declared.answer.Answer.{Answer as Found}}
+use Rattle.solver.specs.{Answers.{IsAnswer}, declared.search.answer.Answer.{Answer as Found}}
 use Rattle.verdicts.{specs.{declared.verdict.FoundVerdict.{FoundVerdict}, Verdicts.{IsVerdict, IsWritable}}, proofs.Fronts.{writable}}
 
 pub verdict_is : (m : WrittenModel) (c : Case) (front : Front) → IsFrontOf m c front → (version : Version) (found : Found)

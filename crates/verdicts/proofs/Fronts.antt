@@ -9,7 +9,7 @@ use Rattle.pc_ground.{specs.{GroundTree.{ground_tree}, Stages.{plain_stage, numb
 use Rattle.pc_ground.proofs.FirstSeen.{numbered_lists}
 use Rattle.pc_front.specs.Front.{IsFrontOf}
 use Rattle.graph_text.specs.Graphs.{key_edge, graph_nodes}
-use Rattle.solver.specs.{Answers.{IsAnswer}, declared.answer.Answer.{Answer as Found, TheVariants.{Observable as a_graph, Unobservable as a_refutation}}}
+use Rattle.solver.specs.{Answers.{IsAnswer}, declared.search.answer.Answer.{Answer as Found, TheVariants.{Observable as a_graph, Unobservable as a_refutation}}}
 use Rattle.verdicts.specs.Verdicts.{IsWritable}
 use Rattle.command_base.proofs.AskedAlike.{numbers_same, same_tree}
 use Rattle.cert_check.proofs.StepNodes.{refutation_in}

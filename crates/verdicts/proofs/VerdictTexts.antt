@@ -10,7 +10,7 @@ use Rattle.pc_ground.proofs.UnfoldedTruth.{ground_tree_true}
 use Rattle.pc_front.specs.Front.{IsFrontOf}
 use Rattle.refutation.specs.Steps.{step_text}
 use Rattle.graph_text.specs.Graphs.{graph_nodes, graph_edges, graph_lines}
-use Rattle.solver.specs.{Answers.{IsAnswer}, declared.answer.Answer.{Answer as Found, TheVariants.{Observable as a_graph, Unobservable as a_refutation}}}
+use Rattle.solver.specs.{Answers.{IsAnswer}, declared.search.answer.Answer.{Answer as Found, TheVariants.{Observable as a_graph, Unobservable as a_refutation}}}
 use Rattle.verdicts.specs.{declared.verdict.FoundVerdict.{FoundVerdict}, Verdicts.{IsVerdict, status_of, version_text, verdict_text}}
 use Rattle.verdicts.{specs.Certified.{IsCertified, seen, unseen}, proofs.Fronts.{node_of_both, all_nodes}}
 use Rattle.cert_check.{specs.Certificates.{Question, certificate_lines, tree_lines}, proofs.StepNodes.{steps_text, lines_append}}

@@ -1,7 +1,7 @@
 -- How many lines of a refutation are `split` lines, and how many are not.
 use Rattle.std.specs.{Prelude.{ℕ, Bool, true, false, not, List, length}, List.{filter}}
 use Rattle.pc_common.specs.{World.{Node}, Steps.{Step, split, close}}
-use Rattle.solver.specs.declared.answer.Answer.{Answer as Found, TheVariants.{Observable as a_graph, Unobservable as a_refutation}}
+use Rattle.solver.specs.declared.search.answer.Answer.{Answer as Found, TheVariants.{Observable as a_graph, Unobservable as a_refutation}}
 
 -- the step's line is a `split` line
 abbrev pub splits : Step Node → Bool

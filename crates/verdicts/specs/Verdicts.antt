@@ -7,7 +7,7 @@ use Rattle.pc_ground.specs.{GroundTree.{ground_tree}, NodeForm.{names_of}, decla
 use Rattle.pc_front.specs.Front.{IsFrontOf}
 use Rattle.refutation.specs.Steps.{step_text, IsStepIn}
 use Rattle.graph_text.specs.Graphs.{graph_nodes, graph_edges, graph_lines, IsKeyIn, IsEdgeIn}
-use Rattle.solver.specs.{Answers.{IsAnswer}, declared.answer.Answer.{Answer as Found, TheVariants.{Observable as a_graph, Unobservable as a_refutation}}}
+use Rattle.solver.specs.{Answers.{IsAnswer}, declared.search.answer.Answer.{Answer as Found, TheVariants.{Observable as a_graph, Unobservable as a_refutation}}}
 use Rattle.verdicts.specs.declared.verdict.FoundVerdict.{FoundVerdict}
 
 -- the front is that of the model and the case, and what is found is of their ground tree

@@ -2,7 +2,7 @@ use Rattle.std.proofs.Common.{ap, arith, map, refl, sym, subst, ◌<◌, ◌≤�
 use Rattle.pc_common.proofs.Writes.{writes_text, writes_more, writes_cut, writes_all}
 use Rattle.pc_ground.specs.{declared.front.Front.{Front}, NodeForm.{names_of}}
 use Rattle.graph_text.specs.declared.graph.Graph.{Graph}
-use Rattle.solver.specs.declared.answer.Answer.TheVariants.{Observable as a_graph}
+use Rattle.solver.specs.declared.search.answer.Answer.TheVariants.{Observable as a_graph}
 use Rattle.verdicts.specs.Verdicts.{IsWritable}
 use Rattle.core_command.{specs.{CoreTexts.{pairs, without_text}, Found.{graph_text}}, proofs.BesideTexts.{images_beside, image_at}}
 use Rattle.core_command.proofs.report.write_graphs.Goals as goal

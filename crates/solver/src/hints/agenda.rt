@@ -1,0 +1,546 @@
+ghost use Rattle.std.specs.Prelude.{◌≡◌, All, length};
+ghost use Rattle.solver.specs.Below.{IsRowBelow};
+
+use super::alternatives::{count_left, count_open};
+use super::bits::Bits;
+use super::changes::{Changes, Others};
+use super::failures::Failures;
+use super::standing::Standing;
+use super::truth::{Truth, or_truth};
+use super::walk::skip_at;
+use super::watch::{Watch, Watched, end_of_ors, ends_of, joint_of, own_of, starts_of};
+use crate::tree::numbered_tree::NumberedTree;
+use crate::tree::ors::is_or;
+use crate::tree::place::Place;
+use order_graph::{Clash, OrderGraph};
+use pc_common::Memory;
+use pc_ground::{Row, Version};
+use refutation::Cut;
+use std::alloc::Global;
+
+/// What stood at a position before a change.
+#[derive(Clone, Copy)]
+struct Change {
+    position: usize,
+    standing: Standing,
+}
+
+/// Where the search looks next: the pending Ors of the first open branch, each with its standing, so that a turn looks
+/// only where something changed. No clause speaks of it: what it proposes is tested, and where it proposes nothing all
+/// rows are looked at.
+pub(crate) struct Agenda {
+    watch: Watch,
+    standings: Vec<Standing>,
+    /// The moment at which each position was last put on the trail.
+    stamps: Vec<u64>,
+    /// How often the search split or went back. What the trail has of one moment is undone together.
+    moment: u64,
+    /// The pending Ors whose truth or whose closed sides are known, which a literal may change; and those whose closed
+    /// sides are known.
+    known_truths: Bits,
+    known_sides: Bits,
+    open: Bits,
+    ready: Bits,
+    forced: Bits,
+    /// Room for the truth of a part's positions.
+    truths: Vec<bool>,
+    /// What the branch changed, the newest last, and how much of it there was at each split that waits.
+    trail: Vec<Change>,
+    marks: Vec<usize>,
+    /// How many asserted positions were looked at.
+    seen: usize,
+    /// Which splits took part in what failed so far.
+    failures: Failures,
+    changes: Changes,
+    /// Whether memory was refused to the trail or the marks.
+    is_refused: bool,
+}
+
+// By hand: docs/DECISIONS.md, "Drops are written by hand".
+impl Drop for Agenda {
+    fn drop(self) {
+        let Agenda {
+            watch: _,
+            standings: _,
+            stamps: _,
+            moment: _,
+            known_truths: _,
+            known_sides: _,
+            open: _,
+            ready: _,
+            forced: _,
+            truths: _,
+            trail: _,
+            marks: _,
+            seen: _,
+            failures: _,
+            changes: _,
+            is_refused: _,
+        } = self;
+    }
+}
+
+impl Agenda {
+    /// That of a search over these rows and so many nodes, before the tree is asserted.
+    pub(crate) fn new(alloc: Global, rows: &[Row<u32>], nodes: u32) -> Agenda {
+        let count = end_of_ors(rows);
+        let mut agenda = Agenda {
+            watch: Watch::empty(alloc),
+            standings: Vec::new(alloc),
+            stamps: Vec::new(alloc),
+            moment: 0,
+            known_truths: Bits::new(alloc),
+            known_sides: Bits::new(alloc),
+            open: Bits::new(alloc),
+            ready: Bits::new(alloc),
+            forced: Bits::new(alloc),
+            truths: Vec::new(alloc),
+            trail: Vec::new(alloc),
+            marks: Vec::new(alloc),
+            seen: 0,
+            failures: Failures::new(alloc, nodes, count),
+            changes: Changes::new(alloc),
+            is_refused: false,
+        };
+        agenda.make_room(count);
+        agenda
+    }
+
+    /// Makes room for so many positions.
+    fn make_room(&mut self, count: usize) {
+        self.is_refused |= self.standings.resize(count, Standing::none()).is_err();
+        self.is_refused |= self.stamps.resize(count, 0).is_err();
+        self.is_refused |= self.known_truths.make_room(count);
+        self.is_refused |= self.known_sides.make_room(count);
+        self.is_refused |= self.open.make_room(count);
+        self.is_refused |= self.ready.make_room(count);
+        self.is_refused |= self.forced.make_room(count);
+        self.is_refused |= self.truths.resize(count, false).is_err();
+    }
+
+    /// Whether memory was refused to any hint. Then that hint went without what it was to keep.
+    fn is_refused(&self) -> bool {
+        self.is_refused
+            | self.watch.is_refused
+            | self.changes.is_refused
+            | self.failures.is_refused()
+    }
+
+    /// What is known of the position.
+    pub(crate) fn standing(&self, position: usize) -> Standing {
+        if position < self.standings.len() {
+            self.standings[position]
+        } else {
+            Standing::none()
+        }
+    }
+
+    /// Sets the standing of the position, and of the four sets those that it changes.
+    fn set(&mut self, position: usize, standing: Standing) {
+        if position >= self.standings.len() {
+            return;
+        }
+        let before = self.standings[position];
+        self.standings[position] = standing;
+        if before.can_stale(true) != standing.can_stale(true) {
+            self.known_truths.put(position, standing.can_stale(true));
+        }
+        if before.can_stale(false) != standing.can_stale(false) {
+            self.known_sides.put(position, standing.can_stale(false));
+        }
+        if before.is_open() != standing.is_open() {
+            self.open.put(position, standing.is_open());
+        }
+        if before.is_ready() != standing.is_ready() {
+            self.ready.put(position, standing.is_ready());
+        }
+        if before.may_be_forced() != standing.may_be_forced() {
+            self.forced.put(position, standing.may_be_forced());
+        }
+    }
+
+    /// Puts the standing of the position on the trail, if a split waits. Once at each moment is enough, since one
+    /// moment is undone together.
+    fn record(&mut self, position: usize) {
+        if self.marks.is_empty() || position >= self.stamps.len() {
+            return;
+        }
+        if self.stamps[position] == self.moment {
+            return;
+        }
+        self.stamps[position] = self.moment;
+        let standing = self.standing(position);
+        self.is_refused |= self.trail.push(Change { position, standing }).is_err();
+    }
+
+    /// Changes the standing of the position. The change can be undone.
+    pub(crate) fn change(&mut self, position: usize, standing: Standing) {
+        if !self.standing(position).is_same(standing) {
+            self.record(position);
+            self.set(position, standing);
+        }
+    }
+
+    /// Makes the lists of what a literal changes, at the first split: before it no standing is known that a literal
+    /// could change.
+    fn begin_watch(
+        &mut self,
+        alloc: Global,
+        tree: &NumberedTree,
+        version: Version,
+        graph: &OrderGraph,
+    )
+        requires { graph.now.nodes ≡ length tree.now.nodes }
+    {
+        if self.watch.is_empty() {
+            self.watch = Watch::new(alloc, tree.rows(), tree.count(), version);
+            self.changes.begin(tree.count() as usize);
+            self.changes.look(tree.count(), graph);
+        }
+    }
+
+    /// The Or is split by this step, and its right side waits. Returns `Memory` where memory was refused to a hint: so
+    /// what is split is never chosen by a hint that lacks something.
+    pub(crate) fn split(
+        &mut self,
+        alloc: Global,
+        tree: &NumberedTree,
+        version: Version,
+        place: Place,
+        graph: &OrderGraph,
+        step: usize,
+    ) -> Result<(), Memory>
+        requires { graph.now.nodes ≡ length tree.now.nodes }
+    {
+        if self.is_refused() {
+            return Err(Memory);
+        }
+        self.begin_watch(alloc, tree, version, graph);
+        self.change(place.position, Standing::none());
+        self.failures.split(place, graph, step);
+        self.changes.split();
+        self.is_refused |= self.marks.push(self.trail.len()).is_err();
+        self.moment = self.moment.wrapping_add(1);
+        Ok(())
+    }
+
+    /// Undoes what came after the last split that waits, before which so many positions were asserted.
+    pub(crate) fn go_back(&mut self, count: usize) {
+        let Some(length) = self.marks.pop() else {
+            return;
+        };
+        for _ in length..self.trail.len() {
+            if let Some(change) = self.trail.pop() {
+                self.set(change.position, change.standing);
+            }
+        }
+        self.changes.go_back();
+        self.moment = self.moment.wrapping_add(1);
+        self.seen = count;
+    }
+
+    /// Looks at the positions that were asserted since the last call: each Or is a choice.
+    fn take(&mut self, tree: &NumberedTree, asserted: &[Place]) {
+        for k in self.seen..asserted.len() {
+            let place = asserted[k];
+            if is_or(tree, place) {
+                self.failures.note_or(place.position);
+                self.change(place.position, Standing::fresh(place.negated));
+            }
+        }
+        self.seen = asserted.len();
+    }
+
+    /// Looks at what is asserted on this branch since the side was to be entered.
+    pub(crate) fn note(&mut self, tree: &NumberedTree, graph: &OrderGraph, asserted: &[Place])
+        requires { graph.now.nodes ≡ length tree.now.nodes }
+    {
+        self.touch_all(tree, graph);
+        self.take(tree, asserted);
+    }
+
+    /// Makes stale what the literals that were asserted since the last call may have changed.
+    fn touch_all(&mut self, tree: &NumberedTree, graph: &OrderGraph)
+        requires { graph.now.nodes ≡ length tree.now.nodes }
+    {
+        if self.watch.is_empty() {
+            return;
+        }
+        self.changes.look(tree.count(), graph);
+        let mut from = 0;
+        for _ in 0..tree.count() {
+            let Some(node) = self.changes.next_touched(from) else {
+                return;
+            };
+            self.touch_node(tree.rows(), node);
+            from = node.saturating_add(1);
+        }
+    }
+
+    /// Makes stale what depends on pairs with the node that may have changed.
+    fn touch_node(&mut self, rows: &[Row<u32>], node: u32) {
+        let (has_grown, is_starting) = (
+            self.changes.has_grown(node),
+            self.changes.is_starting(node),
+        );
+        if has_grown {
+            self.touch_list(rows, starts_of(node), Others::Reached, true);
+            self.touch_list(rows, ends_of(node), Others::Closing, false);
+        }
+        if is_starting {
+            self.touch_list(rows, starts_of(node), Others::Joined, false);
+        }
+        if has_grown | is_starting {
+            self.touch_list(rows, joint_of(node), Others::All, false);
+        }
+        if self.changes.is_named(node) {
+            self.touch_list(rows, own_of(node), Others::All, true);
+        }
+        if self.changes.is_denied(node) {
+            self.touch_list(rows, starts_of(node), Others::All, false);
+            self.touch_list(rows, ends_of(node), Others::All, false);
+        }
+    }
+
+    /// The pending Ors with a standing that a literal may change.
+    fn touchable(&self, in_truth: bool) -> &Bits {
+        if in_truth {
+            &self.known_truths
+        } else {
+            &self.known_sides
+        }
+    }
+
+    /// Makes the pending Or that this is within stale: its closed sides, and with `in_truth` its truth. Returns the
+    /// position from which on the next such Or may stand: past the last row if there is none.
+    fn touch(&mut self, rows: &[Row<u32>], watched: Watched, in_truth: bool) -> usize {
+        let position = watched.position;
+        if let Some(p) = self.touchable(in_truth).last_up_to(position, watched.outer) {
+            let end = p.saturating_add(skip_at(rows, p));
+            if position < end {
+                let standing = self.standing(p).stale(in_truth);
+                self.change(p, standing);
+                return end;
+            }
+        }
+        match self.touchable(in_truth).first_from(position) {
+            Some(next) => next,
+            None => rows.len(),
+        }
+    }
+
+    /// The same for a pair whose other node is among these. Returns the other node and the position from which on there
+    /// may be more.
+    fn touch_watched(
+        &mut self,
+        rows: &[Row<u32>],
+        watched: Watched,
+        others: Others,
+        in_truth: bool,
+    ) -> (u32, usize) {
+        let Some(other) = self.changes.first_other(others, watched.other) else {
+            return (u32::MAX, usize::MAX);
+        };
+        if other > watched.other {
+            return (other, 0);
+        }
+        let position = self.touch(rows, watched, in_truth);
+        (other, position)
+    }
+
+    /// The same for all pairs on the list. Pairs with other nodes are passed over, and so are those within no Or that a
+    /// literal may change.
+    fn touch_list(&mut self, rows: &[Row<u32>], list: u32, others: Others, in_truth: bool) {
+        let (from, end) = self.watch.places(list);
+        let mut at = from;
+        for _ in from..end {
+            if at >= end {
+                return;
+            }
+            let Some(watched) = self.watch.watched(at) else {
+                return;
+            };
+            let (other, position) = self.touch_watched(rows, watched, others, in_truth);
+            let next = at.saturating_add(1);
+            at = self.watch.first_place(next, end, other, position);
+        }
+    }
+
+    /// The standing of the Or with its truth as it is now: it is asked again where it is stale.
+    pub(crate) fn look(&mut self, rows: &[Row<u32>], graph: &OrderGraph, p: usize) -> Standing
+        requires { All (IsRowBelow graph.now.nodes) rows.now }
+    {
+        let before = self.standing(p);
+        if !before.is_truth_stale() {
+            return before;
+        }
+        match or_truth(rows, graph, &mut self.truths, before.is_negated(), p) {
+            Truth::No => before.told(false),
+            Truth::Now => before.told(true),
+            Truth::ForGood => Standing::none(),
+        }
+    }
+
+    /// The same, and keeps it.
+    fn refresh(&mut self, rows: &[Row<u32>], graph: &OrderGraph, p: usize) -> Standing
+        requires { All (IsRowBelow graph.now.nodes) rows.now }
+    {
+        let standing = self.look(rows, graph, p);
+        self.change(p, standing);
+        standing
+    }
+
+    /// The first position from `from` on that may be a choice with a side that is closed at once.
+    pub(crate) fn next_ready(&self, from: usize) -> Option<usize> {
+        self.ready.first_from(from)
+    }
+
+    /// The first choice.
+    pub(crate) fn first_open(&mut self, rows: &[Row<u32>], graph: &OrderGraph) -> Option<Place>
+        requires { All (IsRowBelow graph.now.nodes) rows.now }
+    {
+        let mut from = 0;
+        for _ in 0..rows.len() {
+            let position = self.open.first_from(from)?;
+            let standing = self.refresh(rows, graph, position);
+            if standing.is_open() {
+                return Some(Place {
+                    negated: standing.is_negated(),
+                    position,
+                });
+            }
+            from = position.saturating_add(1);
+        }
+        None
+    }
+
+    /// A leaf closes the side that was entered last by this clash, and the steps so far end with it. From the first one on,
+    /// closed sides are asked in another way. Returns `Memory` where memory was refused to a hint: so which steps are needed
+    /// is never told by a hint that lacks something.
+    pub(crate) fn learn(
+        &mut self,
+        clash: &Clash,
+        graph: &OrderGraph,
+        end: usize,
+    ) -> Result<(), Memory> {
+        if !self.has_failed() {
+            self.renew();
+        }
+        self.failures.learn(clash, graph, end);
+        if self.is_refused() {
+            return Err(Memory);
+        }
+        Ok(())
+    }
+
+    /// Hands out which steps are not needed, as far as was learned.
+    pub(crate) fn take_cuts(&mut self, alloc: Global) -> Vec<Cut> {
+        self.failures.take_cuts(alloc)
+    }
+
+    /// Whether a side has failed.
+    pub(crate) fn has_failed(&self) -> bool {
+        !self.failures.is_empty()
+    }
+
+    /// Forgets which sides are closed, now and at the splits that wait.
+    fn renew(&mut self) {
+        for p in 0..self.standings.len() {
+            let standing = self.standing(p);
+            if standing.is_pending() {
+                self.set(p, standing.renewed());
+            }
+        }
+        for k in 0..self.trail.len() {
+            let Change { position, standing } = self.trail[k];
+            let standing = standing.renewed();
+            self.trail[k] = Change { position, standing };
+        }
+    }
+
+    /// The standing of the Or with its alternatives counted: again where they are stale.
+    fn count(&mut self, rows: &[Row<u32>], graph: &OrderGraph, p: usize) -> Standing
+        requires { All (IsRowBelow graph.now.nodes) rows.now }
+    {
+        let mut standing = self.look(rows, graph, p);
+        if standing.needs_counting() {
+            // two leaves are open where no literal would clash
+            let left = if skip_at(rows, p) == 3 {
+                2
+            } else {
+                count_left(rows, graph, standing.is_negated(), p)
+            };
+            standing = standing.counted(left);
+        }
+        self.change(p, standing);
+        standing
+    }
+
+    /// The first choice of which each alternative is as good as closed; if there is none, the first of which each but one
+    /// is. No choice has a side with a literal that would clash.
+    pub(crate) fn first_forced(&mut self, rows: &[Row<u32>], graph: &OrderGraph) -> Option<Place>
+        requires { All (IsRowBelow graph.now.nodes) rows.now }
+    {
+        let mut forced = None;
+        let mut from = 0;
+        for _ in 0..rows.len() {
+            let Some(position) = self.forced.first_from(from) else {
+                return forced;
+            };
+            from = position.saturating_add(1);
+            let standing = self.count(rows, graph, position);
+            let negated = standing.is_negated();
+            if standing.has_none_left() {
+                return Some(Place { negated, position });
+            }
+            if standing.has_one_left() && forced.is_none() {
+                forced = Some(Place { negated, position });
+            }
+        }
+        forced
+    }
+
+    /// The Or to split next where a failure is replayed, if one is.
+    pub(crate) fn guide(&self) -> Option<Place> {
+        self.failures.guide()
+    }
+
+    /// The choice with the newest failures, of several the one with the fewest alternatives that are not closed, of several
+    /// the one with the most failures, of several the first by position. `first` is the first choice.
+    pub(crate) fn newest(&mut self, rows: &[Row<u32>], graph: &OrderGraph, first: Place) -> Place
+        requires { All (IsRowBelow graph.now.nodes) rows.now }
+    {
+        let mut chosen = first;
+        let mut newest = self.failures.record(first.position);
+        let mut count = usize::MAX;
+        let mut from = first.position;
+        for _ in 0..rows.len() {
+            let Some(position) = self.open.first_from(from) else {
+                return chosen;
+            };
+            from = position.saturating_add(1);
+            let record = self.failures.record(position);
+            let is_newer = record.is_newer(newest);
+            // none has fewer than two open, since none is forced
+            if newest.is_newer(record) || (!is_newer && count <= 2 && !record.has_more(newest)) {
+                continue;
+            }
+            let standing = self.refresh(rows, graph, position);
+            if !standing.is_open() {
+                continue;
+            }
+            let negated = standing.is_negated();
+            if is_newer {
+                count = usize::MAX;
+            }
+            let limit = count.saturating_add(1);
+            let open = count_open(rows, graph, negated, position, limit);
+            if open < count || (open == count && record.has_more(newest)) {
+                chosen = Place { negated, position };
+                newest = record;
+                count = open;
+            }
+        }
+        chosen
+    }
+}

@@ -1,0 +1,400 @@
+use super::conflict_sets::ConflictSets;
+use super::first_literals::FirstLiterals;
+use super::records::{Record, Records};
+use super::scripts::{Script, Scripts};
+use crate::tree::place::Place;
+use order_graph::{Clash, OrderGraph};
+use pc_ground::Literal;
+use refutation::Cut;
+use std::alloc::Global;
+use std::mem;
+
+/// How the left side of a split failed, while its right side is searched.
+#[derive(Clone, Copy)]
+struct LeftFailure {
+    /// Whether the split took no part in the failure: then the same refutation closes the right side.
+    is_independent: bool,
+    script: Option<usize>,
+    /// How many scripts there were after it, and how many levels waited before its conflict set.
+    scripts: usize,
+    waited: usize,
+    /// Where its steps end.
+    end: usize,
+}
+
+/// A split on the way to the first open branch: a decision level of the search.
+#[derive(Clone, Copy)]
+struct Fork {
+    place: Place,
+    /// Which step it is.
+    step: usize,
+    /// The level at which its Or was asserted.
+    origin: usize,
+    /// How many literals, and how many scripts, there were before it.
+    literals: usize,
+    scripts: usize,
+    /// The script that it follows.
+    script: Option<usize>,
+    /// How the left side failed, once the right side is searched.
+    left: Option<LeftFailure>,
+}
+
+/// What the search learns of its failures: which splits to make next. No clause speaks of it, since what it
+/// proposes is tested.
+///
+/// A leaf closes a side by literals that clash. Its *conflict set* has the levels at which they were asserted, and the
+/// level of the side. When both sides of a split have failed and both conflict sets have the level of the split, their
+/// union is the conflict set of the split, with the level at which its Or was asserted in place of its own level. A
+/// conflict set without the level of the split is that of the split as it is (Prosser 1993).
+///
+/// The search still refutes each side, since a refutation has each of them. So where a left side has failed
+/// without its split, the right one is searched by the same splits: they are replayed.
+pub(crate) struct Failures {
+    /// The level of a split is its place here, from 1; level 0 is what the whole tree asserts.
+    forks: Vec<Fork>,
+    literals: FirstLiterals,
+    /// How many positions there are: the list below, of one level a position, is made with the first Or that a split
+    /// asserts.
+    positions: usize,
+    levels: Vec<usize>,
+    /// The conflict set of the failure at hand, and those of left sides.
+    conflicts: ConflictSets,
+    records: Records,
+    scripts: Scripts,
+    /// The script of the failure at hand, and the one that the next split is to follow.
+    found: Option<usize>,
+    guide: Option<usize>,
+    /// Where the steps end that close the side at hand.
+    end: usize,
+    /// Which steps are not needed.
+    cuts: Vec<Cut>,
+    /// Whether memory was refused to the forks, the levels or the cuts.
+    is_refused: bool,
+}
+
+// By hand: docs/DECISIONS.md, "Drops are written by hand".
+impl Drop for Failures {
+    fn drop(self) {
+        let Failures {
+            forks: _,
+            literals: _,
+            positions: _,
+            levels: _,
+            conflicts: _,
+            records: _,
+            scripts: _,
+            found: _,
+            guide: _,
+            end: _,
+            cuts: _,
+            is_refused: _,
+        } = self;
+    }
+}
+
+impl Failures {
+    /// Those of a search over so many nodes and positions, before its first turn.
+    pub(crate) fn new(alloc: Global, nodes: u32, positions: usize) -> Failures {
+        Failures {
+            forks: Vec::new(alloc),
+            literals: FirstLiterals::new(alloc, nodes),
+            positions,
+            levels: Vec::new(alloc),
+            conflicts: ConflictSets::new(alloc),
+            records: Records::new(alloc, positions),
+            scripts: Scripts::new(alloc),
+            found: None,
+            guide: None,
+            end: 0,
+            cuts: Vec::new(alloc),
+            is_refused: false,
+        }
+    }
+
+    /// Hands out which steps are not needed.
+    pub(crate) fn take_cuts(&mut self, alloc: Global) -> Vec<Cut> {
+        mem::replace(&mut self.cuts, Vec::new(alloc))
+    }
+
+    /// Whether memory was refused to any of them.
+    pub(crate) fn is_refused(&self) -> bool {
+        self.is_refused
+            | self.literals.is_refused
+            | self.conflicts.is_refused
+            | self.records.is_refused
+            | self.scripts.is_refused
+    }
+
+    /// Whether nothing failed so far.
+    pub(crate) fn is_empty(&self) -> bool {
+        self.records.is_empty()
+    }
+
+    /// In which failures the splits of the Or took part.
+    pub(crate) fn record(&self, position: usize) -> Record {
+        self.records.record(position)
+    }
+
+    /// The Or is asserted on the side at hand.
+    pub(crate) fn note_or(&mut self, position: usize) {
+        let level = self.forks.len();
+        if level == 0 {
+            return;
+        }
+        if self.levels.is_empty() {
+            self.is_refused |= self.levels.resize(self.positions, 0).is_err();
+        }
+        if position < self.levels.len() {
+            self.levels[position] = level;
+        }
+    }
+
+    /// The level at which the Or was asserted.
+    fn level_of_or(&self, position: usize) -> usize {
+        if position < self.levels.len() {
+            self.levels[position]
+        } else {
+            0
+        }
+    }
+
+    /// Whether the literal at this place, from 1, was asserted before the fork.
+    fn is_before_fork(&self, place: usize, fork: usize) -> bool {
+        fork < self.forks.len() && place <= self.forks[fork].literals
+    }
+
+    /// The level at which the literal at this place was asserted: how many forks were made before it.
+    fn level_of_literal(&self, place: usize) -> usize {
+        let mut low = 0;
+        let mut high = self.forks.len();
+        for _ in 0..self.forks.len() {
+            if low >= high {
+                return low;
+            }
+            let middle = low + (high - low) / 2;
+            if self.is_before_fork(place, middle) {
+                high = middle;
+            } else {
+                low = middle.saturating_add(1);
+            }
+        }
+        low
+    }
+
+    /// The Or that is to be split next, where a failure is to be replayed.
+    pub(crate) fn guide(&self) -> Option<Place> {
+        let script = self.scripts.script(self.guide)?;
+        Some(script.place)
+    }
+
+    /// The Or is split by this step, and its left side is searched next. Where it is another Or than the replay has here,
+    /// the replay ends.
+    pub(crate) fn split(&mut self, place: Place, graph: &OrderGraph, step: usize) {
+        self.literals.add(graph);
+        let mut script = self.guide;
+        self.guide = None;
+        match self.scripts.script(script) {
+            Some(followed) if followed.place.position == place.position => {
+                self.guide = followed.left;
+            }
+            _ => script = None,
+        }
+        let origin = self.level_of_or(place.position);
+        let literals = self.literals.len();
+        let scripts = self.scripts.len();
+        let fork = Fork {
+            place,
+            step,
+            origin,
+            literals,
+            scripts,
+            script,
+            left: None,
+        };
+        self.is_refused |= self.forks.push(fork).is_err();
+    }
+
+    /// A leaf closes the side at hand by this clash, and the steps so far end with it. The graph has the literals that
+    /// clash.
+    pub(crate) fn learn(&mut self, clash: &Clash, graph: &OrderGraph, end: usize) {
+        self.end = end;
+        self.conflicts.clear();
+        self.add_clash(clash, graph);
+        let level = self.forks.len();
+        self.add(level);
+        self.record_conflict();
+        self.found = None;
+        for _ in 0..self.forks.len() {
+            if self.go_up(graph) {
+                return;
+            }
+        }
+    }
+
+    /// Puts the level into the conflict set at hand. Level 0, the whole tree, is in each and is not put there.
+    fn add(&mut self, level: usize) {
+        if level > 0 {
+            self.conflicts.put(level);
+        }
+    }
+
+    /// Puts the level of the literal at this place into the conflict set. A literal after the last split is of the side
+    /// at hand.
+    fn add_place(&mut self, place: usize) {
+        if place > 0 {
+            let level = self.level_of_literal(place);
+            self.add(level);
+        }
+    }
+
+    /// Puts the levels of the literals that clash into the conflict set.
+    fn add_clash(&mut self, clash: &Clash, graph: &OrderGraph) {
+        match clash {
+            Clash::Cycle(nodes) => self.add_cycle(nodes.as_slice(), graph),
+            Clash::Path(nodes) => self.add_path(nodes.as_slice(), graph),
+            Clash::Absent(node) => {
+                let place = self.literals.of_node(*node);
+                self.add_place(place);
+            }
+        }
+    }
+
+    fn add_literal(&mut self, literal: Literal<u32>, graph: &OrderGraph) {
+        let place = self.literals.of_literal(graph, literal);
+        self.add_place(place);
+    }
+
+    /// Puts the levels of the edges from each node to the next into it.
+    fn add_edges(&mut self, nodes: &[u32], graph: &OrderGraph) {
+        for k in 1..nodes.len() {
+            self.add_literal(Literal::Edge(nodes[k - 1], nodes[k]), graph);
+        }
+    }
+
+    /// The same, with the edge from the last node to the first.
+    fn add_cycle(&mut self, nodes: &[u32], graph: &OrderGraph) {
+        if nodes.is_empty() {
+            return;
+        }
+        self.add_edges(nodes, graph);
+        self.add_literal(Literal::Edge(nodes[nodes.len() - 1], nodes[0]), graph);
+    }
+
+    /// The same, with the denied edge from the first node to the last.
+    fn add_path(&mut self, nodes: &[u32], graph: &OrderGraph) {
+        if nodes.is_empty() {
+            return;
+        }
+        self.add_edges(nodes, graph);
+        self.add_literal(Literal::NoEdge(nodes[0], nodes[nodes.len() - 1]), graph);
+    }
+
+    /// Each Or whose split is in the conflict set at hand gets a record of it.
+    fn record_conflict(&mut self) {
+        self.records.count_failure();
+        for k in 0..self.conflicts.len() {
+            let level = self.conflicts.level(k);
+            if 0 < level && level <= self.forks.len() {
+                let position = self.forks[level - 1].place.position;
+                self.records.put(position);
+            }
+        }
+    }
+
+    /// The side of the last fork that is searched has failed. Returns whether a right side is searched next.
+    fn go_up(&mut self, graph: &OrderGraph) -> bool {
+        let Some(fork) = self.forks.pop() else {
+            return true;
+        };
+        self.literals.cut(graph, fork.literals);
+        match fork.left {
+            None => {
+                self.turn_right(fork);
+                true
+            }
+            Some(left) => {
+                self.close(fork, left);
+                false
+            }
+        }
+    }
+
+    /// The left side of the fork, which was the last, has failed: its right side is searched next.
+    fn turn_right(&mut self, fork: Fork) {
+        let level = self.forks.len().saturating_add(1);
+        let is_independent = !self.conflicts.has(level);
+        self.guide = if is_independent {
+            self.found
+        } else {
+            self.right_of(fork.script)
+        };
+        let waited = self.conflicts.set_aside(level);
+        let left = LeftFailure {
+            is_independent,
+            script: self.found,
+            scripts: self.scripts.len(),
+            waited,
+            end: self.end,
+        };
+        let fork = Fork {
+            left: Some(left),
+            ..fork
+        };
+        self.is_refused |= self.forks.push(fork).is_err();
+    }
+
+    /// The script of the right side.
+    fn right_of(&self, script: Option<usize>) -> Option<usize> {
+        self.scripts.script(script)?.right
+    }
+
+    /// Both sides of the fork, which was the last, have failed.
+    fn close(&mut self, fork: Fork, left: LeftFailure) {
+        let level = self.forks.len().saturating_add(1);
+        if left.is_independent {
+            self.take_left(fork, left);
+        } else if self.conflicts.has(level) {
+            self.join(fork, left);
+        } else {
+            self.take_right(fork, left);
+        }
+    }
+
+    /// The fork took no part in the failure of its left side: that conflict set and script stand for both sides, and the
+    /// steps of the left side for the split.
+    fn take_left(&mut self, fork: Fork, left: LeftFailure) {
+        self.scripts.truncate(left.scripts);
+        self.found = left.script;
+        self.conflicts.clear();
+        self.conflicts.unite(left.waited);
+        self.cut(fork.step, fork.step.saturating_add(1));
+        self.cut(left.end, self.end);
+    }
+
+    /// The steps from `start` on, up to the one before `end`, are not needed.
+    fn cut(&mut self, start: usize, end: usize) {
+        self.is_refused |= self.cuts.push(Cut { start, end }).is_err();
+    }
+
+    /// The fork took no part in the failure of its right side: that conflict set and script stand for both sides, and the
+    /// steps of the right side for the split.
+    fn take_right(&mut self, fork: Fork, left: LeftFailure) {
+        self.conflicts.discard(left.waited);
+        self.found = self.scripts.remove(fork.scripts, left.scripts, self.found);
+        self.cut(fork.step, left.end);
+    }
+
+    /// The fork took part in the failures of both sides: their conflict sets and scripts are joined.
+    fn join(&mut self, fork: Fork, left: LeftFailure) {
+        self.conflicts.unite(left.waited);
+        self.record_conflict();
+        self.records.put(fork.place.position);
+        let script = Script {
+            place: fork.place,
+            left: left.script,
+            right: self.found,
+        };
+        self.found = self.scripts.push(script);
+        self.add(fork.origin);
+    }
+}

@@ -1,0 +1,181 @@
+/// It is an asserted Or that no split has taken, and that is not true for good on this branch.
+const PENDING: u16 = 1;
+
+/// The Or is one of the tree's negation.
+const NEGATED: u16 = 2;
+
+/// It is true now.
+const HOLDS: u16 = 4;
+
+/// Whether it is true now may have changed since it was asked.
+const TRUTH_STALE: u16 = 8;
+
+/// Its left side is closed at once, which it stays on this branch.
+const LEFT_CLOSED: u16 = 16;
+
+/// So is its right side.
+const RIGHT_CLOSED: u16 = 128;
+
+/// The search need not ask again, since enough of its sides are closed: one in version 1, both in version 2.
+const SETTLED: u16 = 32;
+
+/// That may have come about since it was asked.
+const SIDES_STALE: u16 = 64;
+
+/// Of its alternatives one is left, or none: the others are as good as closed.
+const ONE_LEFT: u16 = 256;
+
+const NONE_LEFT: u16 = 512;
+
+/// How many are left may have changed since they were counted.
+const COUNT_STALE: u16 = 1024;
+
+/// The state of a position as a choice: whether it is a pending Or of the first open branch, whether it is true now,
+/// and which of its sides are closed at once. It is a hint, and tested before a split.
+///
+/// It is the set of the properties above that hold, a bit each, since a search copies it all the time.
+#[derive(Clone, Copy)]
+pub(crate) struct Standing {
+    bits: u16,
+}
+
+impl Standing {
+    /// That of a position which is no choice.
+    pub(crate) fn none() -> Standing {
+        Standing { bits: 0 }
+    }
+
+    /// That of an Or which was asserted just now.
+    pub(crate) fn fresh(negated: bool) -> Standing {
+        Standing {
+            bits: PENDING | TRUTH_STALE | SIDES_STALE | COUNT_STALE,
+        }
+        .with(NEGATED, negated)
+    }
+
+    fn has(self, property: u16) -> bool {
+        self.bits & property != 0
+    }
+
+    /// The same, with the properties or without them.
+    fn with(self, properties: u16, is_in: bool) -> Standing {
+        let bits = if is_in {
+            self.bits | properties
+        } else {
+            self.bits & !properties
+        };
+        Standing { bits }
+    }
+
+    /// The same, where more of it may be closed now; and where its truth may have changed too.
+    pub(crate) fn stale(self, in_truth: bool) -> Standing {
+        self.with(SIDES_STALE | COUNT_STALE, true)
+            .with(TRUTH_STALE, in_truth | self.has(TRUTH_STALE))
+    }
+
+    /// The same, where all of what is known of its sides is to be asked again in another way.
+    pub(crate) fn renewed(self) -> Standing {
+        self.with(LEFT_CLOSED | RIGHT_CLOSED | SETTLED, false)
+            .with(SIDES_STALE, self.is_pending())
+    }
+
+    /// The same, with whether it is true now.
+    pub(crate) fn told(self, holds: bool) -> Standing {
+        self.with(TRUTH_STALE, false).with(HOLDS, holds)
+    }
+
+    /// The same, with whether one of its sides is closed at once, and whether enough of them are.
+    pub(crate) fn asked(self, left_closed: bool, right_closed: bool, settled: bool) -> Standing {
+        self.with(SIDES_STALE, false)
+            .with(LEFT_CLOSED, left_closed)
+            .with(RIGHT_CLOSED, right_closed)
+            .with(SETTLED, settled)
+    }
+
+    /// The same, with how many alternatives are left, up to two.
+    pub(crate) fn counted(self, left: usize) -> Standing {
+        self.with(COUNT_STALE, false)
+            .with(ONE_LEFT, left == 1)
+            .with(NONE_LEFT, left == 0)
+    }
+
+    pub(crate) fn is_pending(self) -> bool {
+        self.has(PENDING)
+    }
+
+    pub(crate) fn is_negated(self) -> bool {
+        self.has(NEGATED)
+    }
+
+    /// Whether its truth has to be asked, since it may have changed.
+    pub(crate) fn is_truth_stale(self) -> bool {
+        self.has(TRUTH_STALE)
+    }
+
+    /// Whether it is pending and may be made stale so. Where it is true now, its sides need not be until its truth is.
+    pub(crate) fn can_stale(self, in_truth: bool) -> bool {
+        let known = if in_truth {
+            !self.has(TRUTH_STALE) | !self.has(SIDES_STALE | SETTLED)
+        } else {
+            self.is_open() & !self.has(SIDES_STALE | SETTLED)
+        };
+        self.has(PENDING) & known
+    }
+
+    pub(crate) fn is_left_closed(self) -> bool {
+        self.has(LEFT_CLOSED)
+    }
+
+    pub(crate) fn is_right_closed(self) -> bool {
+        self.has(RIGHT_CLOSED)
+    }
+
+    pub(crate) fn is_same(self, other: Standing) -> bool {
+        self.bits == other.bits
+    }
+
+    /// Whether it may be a choice, as far as is known.
+    pub(crate) fn is_open(self) -> bool {
+        self.has(PENDING) & (self.has(TRUTH_STALE) | !self.has(HOLDS))
+    }
+
+    /// Whether it may be a choice with a side that is closed at once, as far as is known.
+    pub(crate) fn is_ready(self) -> bool {
+        self.is_open() & self.has(SIDES_STALE | LEFT_CLOSED | RIGHT_CLOSED)
+    }
+
+    /// Whether its sides have to be asked, since it may be a choice and what is known of them may have changed.
+    pub(crate) fn needs_asking(self) -> bool {
+        self.is_open() & self.has(SIDES_STALE) & !self.has(SETTLED)
+    }
+
+    /// Whether it may be a choice with a side that is closed at once.
+    pub(crate) fn is_closed(self) -> bool {
+        self.is_open() & self.has(LEFT_CLOSED | RIGHT_CLOSED)
+    }
+
+    /// Whether it may be a choice with so many sides closed at once that no other is looked for.
+    pub(crate) fn is_settled(self) -> bool {
+        self.is_open() & self.has(SETTLED)
+    }
+
+    /// Whether it may be a choice with at most one alternative left.
+    pub(crate) fn may_be_forced(self) -> bool {
+        self.is_open() & self.has(COUNT_STALE | ONE_LEFT | NONE_LEFT)
+    }
+
+    /// Whether its alternatives have to be counted, since it may be a choice and how many are left may have changed.
+    pub(crate) fn needs_counting(self) -> bool {
+        self.is_open() & self.has(COUNT_STALE)
+    }
+
+    /// Whether it may be a choice with one alternative left.
+    pub(crate) fn has_one_left(self) -> bool {
+        self.is_open() & self.has(ONE_LEFT)
+    }
+
+    /// Whether it may be a choice with no alternative left.
+    pub(crate) fn has_none_left(self) -> bool {
+        self.is_open() & self.has(NONE_LEFT)
+    }
+}

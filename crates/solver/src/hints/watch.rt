@@ -1,0 +1,388 @@
+use super::walk::{Walk, skip_at};
+use crate::tree::ors::denied_left;
+use pc_ground::{Literal, Row, RowKind, Version};
+use std::alloc::Global;
+
+/// An outermost Or of at most so many rows is watched by each pair that its sides join. A larger one is watched by the
+/// nodes of these pairs, so that the lists grow with the tree.
+const SMALL: usize = 5;
+
+/// What the standing of an Or depends on: a node, or a pair of nodes that a chain may join.
+#[derive(Clone, Copy)]
+pub(crate) struct Watched {
+    /// The list that it is on, which is of one node, and the other node of the pair: the same node where there is no
+    /// pair.
+    list: u32,
+    pub(crate) other: u32,
+    /// The position of its literal, and that of the outermost Or around it.
+    pub(crate) position: usize,
+    pub(crate) outer: usize,
+}
+
+/// What the Ors depend on, by node, as a solver's watch lists have literals. Each node has four lists: the pairs that begin
+/// in it; the pairs that end in it; the literals on the node itself; and the literals with it that a larger Or asserts with
+/// others. A list is sorted by the other nodes, and then by position.
+///
+/// A pair is an edge or a denied edge, or one that a side joins by two literals: where these clash, and neither clashes by
+/// itself, an edge over the pair would clash.
+pub(crate) struct Watch {
+    /// Where each list begins. After the last list there is one place more, where it ends.
+    starts: Vec<usize>,
+    items: Vec<Watched>,
+    /// Whether memory was refused to what is to be watched.
+    pub(crate) is_refused: bool,
+}
+
+// By hand: docs/DECISIONS.md, "Drops are written by hand".
+impl Drop for Watch {
+    fn drop(self) {
+        let Watch {
+            starts: _,
+            items: _,
+            is_refused: _,
+        } = self;
+    }
+}
+
+/// How many lists a node has.
+const LISTS: u32 = 4;
+
+fn list_of(node: u32, kind: u32) -> u32 {
+    node.saturating_mul(LISTS).saturating_add(kind)
+}
+
+/// The list of the pairs that begin in a node.
+pub(crate) fn starts_of(node: u32) -> u32 {
+    list_of(node, 0)
+}
+
+/// The list of the pairs that end in a node.
+pub(crate) fn ends_of(node: u32) -> u32 {
+    list_of(node, 1)
+}
+
+/// The list of a node's own literals.
+pub(crate) fn own_of(node: u32) -> u32 {
+    list_of(node, 2)
+}
+
+/// The list of the literals with a node that others stand beside in a larger Or.
+pub(crate) fn joint_of(node: u32) -> u32 {
+    list_of(node, 3)
+}
+
+/// Where an Or ends that stands at this position, or 0 where none does.
+fn end_of(row: Row<u32>, position: usize) -> usize {
+    match row.kind {
+        RowKind::Or => position.saturating_add(row.skip),
+        _ => 0,
+    }
+}
+
+/// Where the last Or ends, or 0 where there is none.
+pub(crate) fn end_of_ors(rows: &[Row<u32>]) -> usize {
+    let mut end = 0;
+    for p in 0..rows.len() {
+        if p >= end {
+            end = end.max(end_of(rows[p], p));
+        }
+    }
+    end
+}
+
+/// The lists in the making: what is to be watched, in order of positions.
+struct Watching {
+    version: Version,
+    items: Vec<Watched>,
+    /// Where the outermost Or at hand stands, and where it ends; whether it is a small one; and where the outermost And in
+    /// it ends that was met last.
+    outer: usize,
+    end: usize,
+    is_small: bool,
+    and_end: usize,
+    /// The literals of the side at hand.
+    side: Vec<Literal<u32>>,
+    /// Whether memory was refused to what is to be watched.
+    is_refused: bool,
+}
+
+// By hand: docs/DECISIONS.md, "Drops are written by hand".
+impl Drop for Watching {
+    fn drop(self) {
+        let Watching {
+            version: _,
+            items: _,
+            outer: _,
+            end: _,
+            is_small: _,
+            and_end: _,
+            side: _,
+            is_refused: _,
+        } = self;
+    }
+}
+
+impl Watching {
+    /// What was put.
+    fn into_items(self) -> Vec<Watched> {
+        let Watching {
+            version: _,
+            items,
+            outer: _,
+            end: _,
+            is_small: _,
+            and_end: _,
+            side: _,
+            is_refused: _,
+        } = self;
+        items
+    }
+
+    fn put(&mut self, list: u32, other: u32, position: usize) {
+        let watched = Watched {
+            list,
+            other,
+            position,
+            outer: self.outer,
+        };
+        self.is_refused |= self.items.push(watched).is_err();
+    }
+
+    fn put_pair(&mut self, a: u32, b: u32, position: usize) {
+        if a != b {
+            self.put(starts_of(a), b, position);
+            self.put(ends_of(b), a, position);
+        }
+    }
+
+    /// Watches an edge or a denied edge. In version 1 it has others beside it only under an And.
+    fn put_edge(&mut self, a: u32, b: u32, position: usize) {
+        self.put(starts_of(a), b, position);
+        self.put(ends_of(b), a, position);
+        let is_alone = matches!(self.version, Version::One) && position >= self.and_end;
+        if !self.is_small && !is_alone {
+            self.put(joint_of(a), b, position);
+            self.put(joint_of(b), a, position);
+        }
+    }
+
+    /// Watches the pair that two literals of a side join. A node that is both ends joins nothing new.
+    fn put_joined(&mut self, first: Literal<u32>, second: Literal<u32>, position: usize) {
+        match (first, second) {
+            (Literal::Edge(a, _), Literal::Edge(_, d)) => self.put_pair(a, d, position),
+            (Literal::Edge(a, b), Literal::NoEdge(c, d)) => {
+                self.put_pair(a, c, position);
+                self.put_pair(d, b, position);
+            }
+            _ => {}
+        }
+    }
+
+    /// Puts the literals that the part at `root` asserts under this sign to those of the side.
+    fn gather(&mut self, rows: &[Row<u32>], negated: bool, root: usize) {
+        let mut walk = Walk::new(rows, negated, root);
+        for _ in 0..rows.len() {
+            let Some(literal) = walk.next_literal(rows) else {
+                return;
+            };
+            self.is_refused |= self.side.push(literal).is_err();
+        }
+    }
+
+    fn literal(&self, k: usize) -> Option<Literal<u32>> {
+        if k < self.side.len() {
+            Some(self.side[k])
+        } else {
+            None
+        }
+    }
+
+    /// Watches the pairs that each two literals of the side join, and goes on with a side of none.
+    fn put_side(&mut self, position: usize) {
+        for j in 0..self.side.len() {
+            for k in 0..self.side.len() {
+                if j != k {
+                    if let (Some(first), Some(second)) = (self.literal(j), self.literal(k)) {
+                        self.put_joined(first, second, position);
+                    }
+                }
+            }
+        }
+        self.side.clear();
+    }
+
+    /// Watches the pairs that the sides of the Or at `p` join: of the tree, or of its negation.
+    fn put_sides(&mut self, rows: &[Row<u32>], negated: bool, p: usize) {
+        let left = p.saturating_add(1);
+        let right = left.saturating_add(skip_at(rows, left));
+        self.gather(rows, negated, left);
+        self.put_side(p);
+        if let Some(denied) = denied_left(self.version, left) {
+            self.gather(rows, !negated, denied);
+        }
+        self.gather(rows, negated, right);
+        self.put_side(p);
+    }
+
+    fn put_row(&mut self, rows: &[Row<u32>], row: Row<u32>, position: usize) {
+        match row.kind {
+            RowKind::Lit(Literal::Node(a) | Literal::NoNode(a)) => {
+                self.put(own_of(a), a, position);
+            }
+            RowKind::Lit(Literal::Edge(a, b) | Literal::NoEdge(a, b)) => {
+                self.put_edge(a, b, position);
+            }
+            RowKind::Or if self.is_small => self.put_sides(rows, false, position),
+            RowKind::And if self.is_small => {
+                if let Version::Two = self.version {
+                    self.put_sides(rows, true, position);
+                }
+            }
+            RowKind::And => self.and_end = self.and_end.max(position.saturating_add(row.skip)),
+            RowKind::Or | RowKind::True | RowKind::False => {}
+        }
+    }
+
+    /// Puts what the row is watched for, where it is within an Or.
+    fn look_at(&mut self, rows: &[Row<u32>], position: usize) {
+        if position >= rows.len() {
+            return;
+        }
+        let row = rows[position];
+        if position >= self.end {
+            self.outer = position;
+            self.end = end_of(row, position);
+            self.is_small = row.skip <= SMALL;
+            self.and_end = 0;
+        }
+        if position < self.end {
+            self.put_row(rows, row, position);
+        }
+    }
+}
+
+/// By what all are sorted: the list, and on it the other node. Those of one key keep the order of their positions.
+fn key_of(watched: &Watched) -> (u32, u32) {
+    (watched.list, watched.other)
+}
+
+/// Puts where each of so many lists begins among these, which are in order of their lists, with one place more for the
+/// end. Returns whether memory is refused.
+fn put_starts(items: &[Watched], lists: usize, starts: &mut Vec<usize>) -> bool {
+    for k in 0..items.len() {
+        for _ in starts.len()..(items[k].list as usize).saturating_add(1).min(lists) {
+            if starts.push(k).is_err() {
+                return true;
+            }
+        }
+    }
+    for _ in starts.len()..lists.saturating_add(1) {
+        if starts.push(items.len()).is_err() {
+            return true;
+        }
+    }
+    false
+}
+
+impl Watch {
+    /// No list.
+    pub(crate) fn empty(alloc: Global) -> Watch {
+        Watch {
+            starts: Vec::new(alloc),
+            items: Vec::new(alloc),
+            is_refused: false,
+        }
+    }
+
+    pub(crate) fn is_empty(&self) -> bool {
+        self.starts.is_empty()
+    }
+
+    /// What the Ors of these rows depend on in this version, over so many nodes.
+    pub(crate) fn new(alloc: Global, rows: &[Row<u32>], nodes: u32, version: Version) -> Watch {
+        let mut watching = Watching {
+            version,
+            items: Vec::new(alloc),
+            outer: 0,
+            end: 0,
+            is_small: false,
+            and_end: 0,
+            side: Vec::new(alloc),
+            is_refused: false,
+        };
+        for p in 0..rows.len() {
+            watching.look_at(rows, p);
+        }
+        let mut is_refused = watching.is_refused;
+        let mut items = watching.into_items();
+        is_refused |= items.sort_by_key(key_of).is_err();
+        let mut starts = Vec::new(alloc);
+        is_refused |= put_starts(&items, LISTS as usize * nodes as usize, &mut starts);
+        Watch {
+            starts,
+            items,
+            is_refused,
+        }
+    }
+
+    /// The places of the list.
+    pub(crate) fn places(&self, list: u32) -> (usize, usize) {
+        let list = list as usize;
+        let next = list.saturating_add(1);
+        if next < self.starts.len() {
+            (self.starts[list], self.starts[next])
+        } else {
+            (0, 0)
+        }
+    }
+
+    /// What is at this place.
+    pub(crate) fn watched(&self, place: usize) -> Option<Watched> {
+        if place < self.items.len() {
+            Some(self.items[place])
+        } else {
+            None
+        }
+    }
+
+    /// Whether what is at this place has a lower other node, or the same and stands before the position.
+    fn is_before(&self, place: usize, other: u32, position: usize) -> bool {
+        if place >= self.items.len() {
+            return false;
+        }
+        let watched = self.items[place];
+        watched.other < other || (watched.other == other && watched.position < position)
+    }
+
+    /// The first place from `from` up to `end`, all of one list, where this is not so: by steps that double and then
+    /// halve (Bentley and Yao 1976).
+    pub(crate) fn first_place(
+        &self,
+        from: usize,
+        end: usize,
+        other: u32,
+        position: usize,
+    ) -> usize {
+        let mut low = from;
+        let mut step: usize = 1;
+        for _ in from..end {
+            let next = low.saturating_add(step);
+            if next > end || !self.is_before(next.saturating_sub(1), other, position) {
+                break;
+            }
+            low = next;
+            step = step.saturating_mul(2);
+        }
+        for _ in from..end {
+            step /= 2;
+            if step == 0 {
+                return low;
+            }
+            let next = low.saturating_add(step);
+            if next <= end && self.is_before(next.saturating_sub(1), other, position) {
+                low = next;
+            }
+        }
+        low
+    }
+}
