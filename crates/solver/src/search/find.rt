@@ -1,8 +1,8 @@
-ghost use Rattle.std.specs.Prelude.{◌≡◌, ◌<◌, ◌≤◌, ◌+◌, ◌^◌, IfOk, IfSome, length};
+ghost use Rattle.std.specs.Prelude.{◌≡◌, ◌≤◌, ◌+◌, IfOk, MatchOption, length};
 ghost use Rattle.pc_ground.specs.Refutes.{literals_of};
 ghost use Rattle.solver.specs.Spelled.{spelled};
 ghost use Rattle.solver.specs.Numbered.{HasNoFalse};
-ghost use Rattle.solver.specs.Places.{place_signed, side_positions, IsCandidate, IsSideIn};
+ghost use Rattle.solver.specs.Places.{place_signed, side_positions, IsCandidate, AreChosen, IsSideIn};
 ghost use Rattle.solver.specs.Opens.{positions};
 ghost use Rattle.solver.specs.Branches.{branches_with, HasOpenBranch};
 ghost use Rattle.solver.specs.Weights.{weight};
@@ -37,7 +37,7 @@ pub(crate) enum SearchStatus {
     Undecided(Place),
 }
 
-/// The first candidate of the branch, where the agenda proposes one that is.
+/// A candidate of the branch: what the agenda proposes, or else the first one.
 fn next_place(
     alloc: Global,
     tree: &NumberedTree,
@@ -47,18 +47,16 @@ fn next_place(
 ) -> Result<Option<Place>, Memory>
     requires nodes { graph.now.nodes ≡ length tree.now.nodes }
     requires literals { graph.now.literals ≡ literals_of (spelled tree.now.rows) (positions asserted.now) }
-    ensures candidate { IfOk result (λ found. IfSome found (λ q.
-        IsCandidate (spelled tree.now.rows) (positions asserted.now) (place_signed q))) }
-    ensures small { IfOk result (λ found. IfSome found (λ q. q.position < 2 ^ 63)) }
+    ensures { IfOk result (λ found. MatchOption found (AreChosen (spelled tree.now.rows) (positions asserted.now))
+        (λ q. IsCandidate (spelled tree.now.rows) (positions asserted.now) (place_signed q))) }
 {
     agenda.note(tree, graph, asserted.as_slice());
-    let Some(place) = agenda.first_open(tree.rows(), graph) else {
-        return Ok(None);
-    };
-    if is_candidate_now(alloc, tree, graph, asserted, place)? {
-        return Ok(Some(place));
+    if let Some(place) = agenda.first_open(tree.rows(), graph) {
+        if is_candidate_now(alloc, tree, graph, asserted, place)? {
+            return Ok(Some(place));
+        }
     }
-    Ok(None)
+    first_candidate(alloc, tree, graph, asserted)
 }
 
 /// Descends into the side, and looks at the branch that is open then. With no candidate on it
@@ -94,9 +92,6 @@ pub(crate) fn find<L: Ledger>(
         &branch.asserted,
         &mut branch.agenda,
     )? {
-        return Ok(SearchStatus::Undecided(place));
-    }
-    if let Some(place) = first_candidate(alloc, tree, &branch.graph, &branch.asserted)? {
         return Ok(SearchStatus::Undecided(place));
     }
     let shown = graph_of(alloc, tree, &branch.graph)?;

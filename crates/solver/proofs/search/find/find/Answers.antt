@@ -1,8 +1,7 @@
-use Rattle.std.proofs.{Common.{subst, ap, arith, ℕ, Bool}, lemmas.{List.{append-nil}, Option.{MatchOption-at_some, MatchOption-at_none}}}
-use Rattle.std.specs.Prelude.{All, Option, IfSome}
+use Rattle.std.{proofs.{Common.{subst, ap, arith, ℕ, Bool}, lemmas.List.{append-nil}}, specs.Prelude.{All, Option, MatchOption}}
 use Rattle.pc_ground.proofs.FlatRows.{size_pos}
 use Rattle.order_graph.specs.Ways.{IsBelow}
-use Rattle.solver.specs.{declared.tree.place.Place.{Place}, Spelled.{spelled}, Places.{place_signed, IsCandidate}, Opens.{positions, opens}}
+use Rattle.solver.specs.{declared.tree.place.Place.{Place}, Spelled.{spelled}, Places.{place_signed, IsCandidate, AreChosen}, Opens.{positions, opens}}
 use Rattle.solver.{specs.{Weights.{weight}, Descents.{HasDescended}}, proofs.IsTurn.{witness, candidate_small}}
 use Rattle.solver.proofs.search.find.search.find.Goals as goal
 
@@ -27,8 +26,9 @@ returns-in-Some-clause-found g c =
     let descended = subst H c.if-not-is_open.false c.in_ok-is_open.ensures.descended in
     let rows = c.args.tree.now.rows in
     let here = c.descend.new.branch.asserted in
-    let C : Option Place → Type 0 = λ found. IfSome found (λ q. IsCandidate (spelled rows) (positions here) (place_signed q)) in
-    let candidate = subst C c.in-Some.is c.in_ok-place.ensures.candidate in record {
+    let C : Option Place → Type 0 =
+    λ found. MatchOption found (AreChosen (spelled rows) (positions here)) (λ q. IsCandidate (spelled rows) (positions here) (place_signed q)) in
+    let candidate = subst C c.in-Some.is c.in_ok-place.ensures in record {
       no_false = c.requires.no_false;
       state = descended.0;
       candidate = candidate;
@@ -37,40 +37,6 @@ returns-in-Some-clause-found g c =
 
 pub returns-in-Some-clause-lighter : goal.returns-in-Some-clause-lighter
 returns-in-Some-clause-lighter g c =
-    let H : Bool → Type 0 = HasDescended c.args.version c.args.tree.now _ c.descend.new.branch in
-    let descended = subst H c.if-not-is_open.false c.in_ok-is_open.ensures.descended in
-    let t = spelled c.args.tree.now.rows in
-    let here = c.descend.new.branch.asserted in
-    let same = ap (λ ps. weight t (opens t ps here c.descend.new.branch.later.items)) (append-nil (positions here)) in
-    omega (arith, descended.1, same)
-
-pub first_candidate-requires-clause-nodes : goal.first_candidate-requires-clause-nodes
-first_candidate-requires-clause-nodes g c =
-    let H : Bool → Type 0 = HasDescended c.args.version c.args.tree.now _ c.descend.new.branch in
-    let descended = subst H c.if-not-is_open.false c.in_ok-is_open.ensures.descended in
-    descended.0.all_nodes
-
-pub first_candidate-requires-clause-literals : goal.first_candidate-requires-clause-literals
-first_candidate-requires-clause-literals g c =
-    let H : Bool → Type 0 = HasDescended c.args.version c.args.tree.now _ c.descend.new.branch in
-    let descended = subst H c.if-not-is_open.false c.in_ok-is_open.ensures.descended in
-    descended.0.literals
-
-pub returns-in-Some-2-clause-found : goal.returns-in-Some-2-clause-found
-returns-in-Some-2-clause-found g c =
-    let H : Bool → Type 0 = HasDescended c.args.version c.args.tree.now _ c.descend.new.branch in
-    let descended = subst H c.if-not-is_open.false c.in_ok-is_open.ensures.descended in
-    let rows = c.args.tree.now.rows in
-    let here = c.descend.new.branch.asserted in
-    let candidate = MatchOption-at_some _ _ c.in-Some-2.place c.in-Some-2.is c.in_ok-place-2.ensures in record {
-      no_false = c.requires.no_false;
-      state = descended.0;
-      candidate = candidate;
-      small = candidate_small rows (positions here) c.in-Some-2.place c.row-root.ensures.numbered.tree c.row-root.ensures.bound candidate;
-    }
-
-pub returns-in-Some-2-clause-lighter : goal.returns-in-Some-2-clause-lighter
-returns-in-Some-2-clause-lighter g c =
     let H : Bool → Type 0 = HasDescended c.args.version c.args.tree.now _ c.descend.new.branch in
     let descended = subst H c.if-not-is_open.false c.in_ok-is_open.ensures.descended in
     let t = spelled c.args.tree.now.rows in
@@ -90,5 +56,9 @@ pub returns-clause-found : goal.returns-clause-found
 returns-clause-found g c =
     let H : Bool → Type 0 = HasDescended c.args.version c.args.tree.now _ c.descend.new.branch in
     let descended = subst H c.if-not-is_open.false c.in_ok-is_open.ensures.descended in
+    let rows = c.args.tree.now.rows in
+    let here = c.descend.new.branch.asserted in
+    let C : Option Place → Type 0 =
+    λ found. MatchOption found (AreChosen (spelled rows) (positions here)) (λ q. IsCandidate (spelled rows) (positions here) (place_signed q)) in
     witness c.args.version c.args.tree.now c.descend.new.branch c.in_ok-shown.shown c.row-root.ensures.numbered c.requires.no_false descended.0
-    c.len-asserted_so_far.ensures.graph (MatchOption-at_none _ _ c.in_default-2.is c.in_ok-place-2.ensures) c.in_ok-shown.ensures.nodes c.in_ok-shown.ensures.edges
+    c.len-asserted_so_far.ensures.graph (subst C c.in_default.is c.in_ok-place.ensures) c.in_ok-shown.ensures.nodes c.in_ok-shown.ensures.edges
