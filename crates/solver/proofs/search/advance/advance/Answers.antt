@@ -4,7 +4,7 @@ use Rattle.solver.specs.{Spelled.{spelled}, Places.{place_signed, side_positions
 use Rattle.solver.specs.{Statuses.{status_weight}, declared.{search.find.SearchStatus.{SearchStatus}, search.later.Later.{Later}}}
 use Rattle.solver.proofs.HasDescended.{one_open, more_longer, advanced}
 use Rattle.order_graph.proofs.Results.{if_ok}
-use Rattle.solver.proofs.search.advance.search.advance.Goals as goal
+use Rattle.solver.proofs.search.advance.advance.Goals as goal
 
 pub push_split-requires : goal.push_split-requires
 push_split-requires g c =

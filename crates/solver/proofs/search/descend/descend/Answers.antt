@@ -6,7 +6,7 @@ use Rattle.solver.specs.{Renamed.{node_at, renamed_leaf}, Spelled.{spelled}, Pla
 use Rattle.solver.specs.{Opens.{positions, opens, KeepsState, state_of, HasAsserted}, Branches.{branches_with}, Weights.{weight}, declared.tree.side.Side.{Side}}
 use Rattle.solver.{specs.declared.search.later.Later.{Later}, proofs.{ClashLeaf.{clash_leaf, clash_closes}, KeepsState.{closed_kept, closed_all, entered_kept}}}
 use Rattle.solver.proofs.HasDescended.{clash_in, one_open, longer_push, lighter_closed, next_inside}
-use Rattle.solver.proofs.search.descend.search.descend.Goals as goal
+use Rattle.solver.proofs.search.descend.descend.Goals as goal
 
 pub close-requires-clause-below : goal.close-requires-clause-below
 close-requires-clause-below g c =

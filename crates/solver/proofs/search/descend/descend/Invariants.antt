@@ -1,6 +1,6 @@
 use Rattle.std.proofs.Common.{◌≤◌, length}
 use Rattle.solver.specs.{Spelled.{spelled}, Places.{side_positions, IsSideIn}, Branches.{branches_with, HasOpenBranch}, Weights.{weight}, Descents.{IsLonger}}
-use Rattle.solver.proofs.search.descend.search.descend.Given as goal
+use Rattle.solver.proofs.search.descend.descend.Given as goal
 
 abbrev pub invariant-loop-branch : goal.invariant-loop-branch
 invariant-loop-branch g l = record {

@@ -3,7 +3,7 @@ use Rattle.pc_ground.proofs.FlatRows.{size_pos}
 use Rattle.order_graph.specs.Ways.{IsBelow}
 use Rattle.solver.specs.{declared.tree.place.Place.{Place}, Spelled.{spelled}, Places.{place_signed, IsCandidate, AreChosen}, Opens.{positions, opens}}
 use Rattle.solver.{specs.{Weights.{weight}, Descents.{HasDescended}}, proofs.IsTurn.{witness, candidate_small}}
-use Rattle.solver.proofs.search.find.search.find.Goals as goal
+use Rattle.solver.proofs.search.find.find.Goals as goal
 
 pub row-root-requires : goal.row-root-requires
 row-root-requires g c = size_pos (spelled c.args.tree.now.rows)

@@ -1,6 +1,6 @@
 use Rattle.std.proofs.{Common.{◌-◌, length, arith}, lemmas.List.{length-replicate}}
 use Rattle.solver.proofs.AreTruths.{truths_none}
-use Rattle.solver.proofs.search.truths.search.truths.Goals as goal
+use Rattle.solver.proofs.search.truths.truths.Goals as goal
 
 pub loop-k-init : goal.loop-k-init
 loop-k-init c = record {

@@ -1,6 +1,6 @@
 use Rattle.std.proofs.Common.{◌≡◌, ◌-◌, length}
 use Rattle.solver.specs.{Spelled.{spelled}, Flags.{AreTruths}}
-use Rattle.solver.proofs.search.truths.search.truths.Given as goal
+use Rattle.solver.proofs.search.truths.truths.Given as goal
 
 -- told from the last position on
 abbrev pub invariant-loop-k : goal.invariant-loop-k
