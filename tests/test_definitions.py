@@ -13,7 +13,7 @@ from tests.test_pages import shown_by
 
 from tools.pages.antt import Fault, Reached, first_sentence, read_file
 from tools.pages.crate_list import crates_of
-from tools.pages.meaning import Top, only
+from tools.pages.meaning import Top, by_crate, only
 from tools.lint.kinds import KINDS
 from tools.second.predicates import PREDICATES
 
@@ -212,6 +212,8 @@ class Scripts(Cases):
                     "definitions", "observable")
 
     def test_crates(self) -> None:
+        with self.case("the crate of a file, in a checkout within a folder crates"):
+            self.assertEqual(by_crate(["/crates/top/crates/base/specs/Case.antt"]), {"base": ["Case"]})
         self.judge("tables of crates", self.said("crates"), 0, TABLES)
         self.judge("names of crates", self.said("crates", "--names"), 0, NAMES)
         self.fails("another word", "no such words: names. There is --names", "crates", "names")

@@ -166,7 +166,6 @@ def by_crate(paths: Iterable[str]) -> dict[str, list[str]]:
     """The names of files, by their crates, both in the order given."""
     found: dict[str, list[str]] = {}
     for path in paths:
-        parts = path.split("/")
-        crate = parts[parts.index("crates") + 1]
+        crate = path.rpartition("/crates/")[2].partition("/")[0]
         found.setdefault(crate, []).append(os.path.basename(path).removesuffix(".antt"))
     return found

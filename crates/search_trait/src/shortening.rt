@@ -6,9 +6,9 @@ ghost use Rattle.solver.specs.Answers.{IsAnswer};
 
 use pc_common::Memory;
 use pc_ground::{Front, Version};
-use shorten::shorten;
 use solver::Answer;
 use std::alloc::Global;
+use tree_check::shorten;
 
 /// What was found of a front: the same graph, or a refutation without the splits that it does not need. The one error is
 /// that memory was refused.

@@ -5,3 +5,5 @@ pub mod OrRows
 pub mod Closes
 pub mod Runs
 pub mod Steps
+mod Followed
+mod Kept

@@ -3,3 +3,4 @@ pub mod Sides
 pub mod OpenBranches
 pub mod Leaves
 pub mod Laws
+pub mod Subsequences

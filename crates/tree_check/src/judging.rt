@@ -6,11 +6,11 @@ ghost use Rattle.pc_ground.specs.Refutes.{IsRefutation};
 ghost use Rattle.refutation.specs.Kept.{kept};
 ghost use Rattle.tree_check.specs.OpenBranches.{StandsAtRoot};
 
+use super::branches::Branches;
 use pc_common::Memory;
 use pc_ground::{Flat, Version};
 use refutation::Refutation;
 use std::alloc::Global;
-use tree_check::Branches;
 
 /// The one branch of the tree, whose steps are read as those of this version.
 fn begin<'a>(alloc: Global, tree: &'a Flat, version: Version) -> Result<Branches<'a>, Memory>

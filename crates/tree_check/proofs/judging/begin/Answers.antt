@@ -1,5 +1,5 @@
 use Rattle.pc_ground.specs.declared.version.Version.TheVariants.{One}
-use Rattle.shorten.proofs.judging.begin.Goals as goal
+use Rattle.tree_check.proofs.judging.begin.Goals as goal
 
 pub returns-in-One : goal.returns-in-One
 returns-in-One c = rw c.in-One.is c.in_ok-branches.ensures

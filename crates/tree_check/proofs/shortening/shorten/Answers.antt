@@ -1,8 +1,8 @@
 use Rattle.std.proofs.Common.{List, sym, subst}
 use Rattle.pc_common.specs.{World.{Node}, Steps.{Step}}
-use Rattle.shorten.specs.Subsequences.{IsSubsequence}
-use Rattle.shorten.proofs.Kept.{all_stay, kept_within, no_longer}
-use Rattle.shorten.proofs.shortening.shorten.Goals as goal
+use Rattle.tree_check.specs.Subsequences.{IsSubsequence}
+use Rattle.tree_check.proofs.Kept.{all_stay, kept_within, no_longer}
+use Rattle.tree_check.proofs.shortening.shorten.Goals as goal
 
 pub returns-then-is_empty-clause-steps : goal.returns-then-is_empty-clause-steps
 returns-then-is_empty-clause-steps c = all_stay c.args.refutation

@@ -1,9 +1,9 @@
 use Rattle.std.proofs.Common.{◌≤◌, List, length, sym, subst, arith}
 use Rattle.pc_common.specs.{World.{Node}, Steps.{Step}}
 use Rattle.refutation.specs.Kept.{kept}
-use Rattle.shorten.proofs.{Followed.{AreFollowed, none_followed, next_followed, all_followed}, Kept.{next_stays, next_goes, all_kept}}
-use Rattle.shorten.proofs.judging.is_refutation.Goals.{else-stays-k-via-then-stays-k+in_ok-take+else-not-branch, else-stays-k-via-else-stays-k}
-use Rattle.shorten.proofs.judging.is_refutation.Goals as goal
+use Rattle.tree_check.proofs.{Followed.{AreFollowed, none_followed, next_followed, all_followed}, Kept.{next_stays, next_goes, all_kept}}
+use Rattle.tree_check.proofs.judging.is_refutation.Goals.{else-stays-k-via-then-stays-k+in_ok-take+else-not-branch, else-stays-k-via-else-stays-k}
+use Rattle.tree_check.proofs.judging.is_refutation.Goals as goal
 
 pub loop-k-init : goal.loop-k-init
 unfolding kept

@@ -3,7 +3,7 @@ ghost use Rattle.pc_common.specs.World.{Node};
 ghost use Rattle.pc_ground.specs.Tree.{Tree};
 ghost use Rattle.pc_ground.specs.Rows.{rows_of};
 ghost use Rattle.pc_ground.specs.Refutes.{IsRefutation};
-ghost use Rattle.shorten.specs.Subsequences.{IsSubsequence};
+ghost use Rattle.tree_check.specs.Subsequences.{IsSubsequence};
 
 use super::flags::flags_of;
 use super::judging::is_refutation;

@@ -3,8 +3,8 @@ use Rattle.std.proofs.Common.{◌≡◌, take}
 use Rattle.pc_common.specs.World.{Node}
 use Rattle.pc_ground.specs.{Tree.{Tree}, Rows.{rows_of}}
 use Rattle.refutation.specs.Kept.{kept}
-use Rattle.shorten.proofs.Followed.{AreFollowed}
-use Rattle.shorten.proofs.judging.is_refutation.Given as goal
+use Rattle.tree_check.proofs.Followed.{AreFollowed}
+use Rattle.tree_check.proofs.judging.is_refutation.Given as goal
 
 abbrev pub invariant-loop-k : goal.invariant-loop-k
 invariant-loop-k l = (t : Tree Node) → l.fn.tree ≡ rows_of t

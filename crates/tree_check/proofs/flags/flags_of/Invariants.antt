@@ -1,5 +1,5 @@
 use Rattle.std.proofs.Common.{◌≡◌, length}
-use Rattle.shorten.proofs.flags.flags_of.Given as goal
+use Rattle.tree_check.proofs.flags.flags_of.Given as goal
 
 abbrev pub invariant-loop-k : goal.invariant-loop-k
 invariant-loop-k l = length l.stays.items ≡ l.count

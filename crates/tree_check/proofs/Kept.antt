@@ -2,7 +2,7 @@
 use Rattle.std.proofs.Common.{◌≡◌, ◌≤◌, ℕ, ◌+◌, List, [], ◌∷◌, ◌++◌, Bool, true, false, Some, length, min, take, get_or, slice_get, refl, sym, ◌∙◌, ap, arith}
 use Rattle.std.proofs.lemmas.{List.{append-nil, length-take, take_all, take_more}, Option.{slice_get_within, get_or_from_slice_get}}
 use Rattle.refutation.specs.Kept.{kept}
-use Rattle.shorten.specs.Subsequences.{IsSubsequence, none, left_out, stays}
+use Rattle.tree_check.specs.Subsequences.{IsSubsequence, none, left_out, stays}
 
 pub all_stay : {A : Type 0} (xs : List A) → IsSubsequence xs xs
 all_stay [] = none

@@ -1,2 +1,0 @@
-mod Followed
-mod Kept
