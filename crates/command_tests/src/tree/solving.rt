@@ -1,4 +1,5 @@
-//! The search with signs: a model and a test, and the steps of the refutation that `solve` returns.
+//! The search with signs: a model and a test, and the steps of the refutation that `solve` returns; and which steps stay
+//! where others were noted as not needed.
 ghost use Rattle.std.specs.Prelude.{◌≡◌, ◌<◌};
 
 use example_texts::{
@@ -8,13 +9,12 @@ use example_texts::{
 use pc_common::Memory;
 use pc_front::front;
 use pc_ground::{Front, Version};
-use refutation::{Refutation, Step};
-use solver::{Answer, solve};
+use refutation::{Cut, Refutation, Step};
+use search_trait::search_front;
+use solver::Answer;
 use std::alloc::Global;
-use std::marker::Brand;
-use std::sync::ledger::{Blank, Ledger};
 use std::test::Fail;
-use undo_trail::Steps;
+use tree_check::shorten;
 
 /// A step without its nodes.
 #[derive(Clone, Copy, PartialEq, Eq)]
@@ -90,21 +90,6 @@ fn have_shapes(steps: &Refutation, shapes: &[Shape]) -> bool {
     steps.len() == shapes.len()
 }
 
-/// What the search finds of a front.
-fn run_search<L: Ledger>(
-    alloc: Global,
-    front: &Front,
-    version: Version,
-    blank: Blank,
-) -> Result<Answer, Memory>
-    requires name { blank.name ≡ L.name }
-    requires parts { blank.parts ≡ L.parts }
-    requires whole { 0 < L.parts }
-{
-    let mut steps: Steps<L> = Steps::open(blank);
-    solve(alloc, &front.tree, &front.numbering, version, &mut steps)
-}
-
 /// Whether the search refutes the model and the test by these steps.
 fn is_solved_so(
     alloc: Global,
@@ -118,7 +103,7 @@ fn is_solved_so(
     let Ok(front) = front(alloc, model.as_bytes(), test.as_bytes()) else {
         return Ok(false);
     };
-    match run_search::<Brand>(alloc, &front, version, Blank::new(1))? {
+    match search_front(alloc, &front, version)? {
         Answer::Unobservable(steps) => Ok(have_shapes(&steps, shapes)),
         Answer::Observable(_) => Ok(false),
     }
@@ -146,6 +131,43 @@ fn an_and_that_was_denied_is_split(rt: HostRuntime) -> Result<(), Fail> {
     Ok(())
 }
 
+/// Cuts of `Split(1), Path, Path` that are no good, so that all three steps have to stay.
+const WRONG_CUTS: &[&[Cut]] = &[
+    // a branch stays open, or the branch that is left is not closed by the leaf that is
+    &[Cut { start: 2, end: 3 }],
+    &[Cut { start: 1, end: 2 }],
+    &[Cut { start: 0, end: 2 }],
+    // they end or begin past the last step, or end before they begin
+    &[Cut { start: 1, end: 9 }],
+    &[Cut { start: 8, end: 9 }],
+    &[Cut { start: 2, end: 1 }],
+    // they overlap
+    &[Cut { start: 0, end: 2 }, Cut { start: 1, end: 3 }],
+];
+
+/// Whether all steps stay where these were noted as not needed.
+fn all_stay(alloc: Global, cuts: &[Cut]) -> Result<bool, Memory> {
+    let Ok(front) = front(alloc, EITHER_ORDER.as_bytes(), TWO_FORBIDDEN.as_bytes()) else {
+        return Ok(false);
+    };
+    match search_front(alloc, &front, Version::One)? {
+        Answer::Unobservable(mut steps) => {
+            steps.note_cuts(cuts.to_vec(alloc)?);
+            let stay = shorten(alloc, &front.tree, Version::One, steps)?;
+            Ok(have_shapes(&stay, &[Split(1), Path, Path]))
+        }
+        Answer::Observable(_) => Ok(false),
+    }
+}
+
+#[test]
+fn wrong_cuts_cut_nothing(rt: HostRuntime) -> Result<(), Fail> {
+    for cuts in WRONG_CUTS {
+        assert!(rt; all_stay(rt.alloc(), cuts)?);
+    }
+    Ok(())
+}
+
 fn is_split(step: &Step) -> bool {
     matches!(step, Step::Split { .. })
 }
@@ -163,7 +185,7 @@ fn splits(steps: &Refutation) -> usize {
 
 /// How many splits the search makes that refutes the front; none where it finds a world.
 fn splits_of(alloc: Global, front: &Front, version: Version) -> Result<Option<usize>, Memory> {
-    match run_search::<Brand>(alloc, front, version, Blank::new(1))? {
+    match search_front(alloc, front, version)? {
         Answer::Unobservable(steps) => Ok(Some(splits(&steps))),
         Answer::Observable(_) => Ok(None),
     }
