@@ -1,5 +1,5 @@
 -- From what a search keeps to what it hands out.
-use Rattle.std.proofs.Common.{◌≡◌, ◌<◌, inl, inr, ℕ, zero, suc, ◌+◌, ◌-◌, ◌^◌, true, false, List, [], ◌∷◌, Option, Some, None, reverse, length, refl, sym, ap, ◌∙◌, subst, arith, get_or}
+use Rattle.std.proofs.Common.{◌≡◌, ◌<◌, inl, inr, ℕ, zero, suc, ◌+◌, ◌-◌, ◌^◌, false, List, [], ◌∷◌, Option, Some, None, reverse, length, refl, sym, ap, ◌∙◌, subst, arith, get_or}
 use Rattle.std.proofs.lemmas.{List.{append-nil, Elements.{All-contains}}, Option.{slice_get-get_or, get_or_from_slice_get}}
 use Rattle.std.specs.{Prelude.{Contains, All, slice_get, nat_lt}, Option.{option_map}}
 use Rattle.pc_common.{specs.{World.{Node}, Steps.{Step, close, false_step}}, proofs.Elements.{In, contains_from_in, in_front, in_back}}

@@ -1,5 +1,5 @@
 -- Positions of a tree on a branch, each under the sign `~` or not.
-use Rattle.std.specs.Prelude.{ℕ, ◌≡◌, ◌+◌, ◌<◌, ◌⊎◌, Bool, false, not, List, [], ◌∷◌, ◌++◌, Option, Some, None, Contains}
+use Rattle.std.specs.Prelude.{ℕ, ◌≡◌, ◌+◌, ◌<◌, ◌⊎◌, Bool, false, not, List, [], ◌++◌, Option, Some, None, Contains}
 use Rattle.pc_ground.specs.{Tree.{Tree, either, turned, size_of}, declared.version.Version.{Version, TheVariants.{One, Two}}}
 use Rattle.pc_ground.specs.Refutes.{Branch, Signed, signed, all_signed, subtree_at, part_at, asserted, literals_of}
 use Rattle.solver.specs.{Met.{IsMetUnder}, declared.{tree.place.Place.{Place}, tree.side.Side.{Side}}}

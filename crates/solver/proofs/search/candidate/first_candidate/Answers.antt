@@ -1,4 +1,4 @@
-use Rattle.std.proofs.Common.{false, get_or, ap, ◌∙◌, subst, arith, List, ℕ}
+use Rattle.std.proofs.Common.{false, get_or, ap, ◌∙◌, subst, List, ℕ}
 use Rattle.std.{proofs.lemmas.{List.{take_all, Elements.{All-more}}, Bool.{MatchBool-at_true, MatchBool-at_false}}, specs.Prelude.{All}}
 use Rattle.pc_ground.specs.{declared.row.Row.{Row}, Refutes.{literals_of}}
 use Rattle.solver.specs.{Spelled.{spelled}, Places.{place_signed, IsChosen}, Opens.{positions}, Flags.{flag, AreTruths}, declared.tree.place.Place.{Place}}
