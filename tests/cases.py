@@ -17,6 +17,7 @@ import subprocess
 import sys
 import tempfile
 import textwrap
+import time
 import traceback
 import unittest
 from dataclasses import dataclass
@@ -38,6 +39,9 @@ NO_TOOLCHAIN = (
     "pipecheck: the program is not built, and the toolchain that builds it, rt, is missing: README.md, 'Getting started', says "
     "which one\n"
 )
+
+# how many seconds a process may take to come to where it is looked at, on a machine with much else to do
+PATIENCE = 240
 
 # a part of the names of the cases that are to run, where not all are
 wanted: str | None = None
@@ -216,6 +220,16 @@ def without_proofs(done: Done) -> Done:
     if out.endswith(BY_THAT_PROGRAM + "\n"):
         out = out.removesuffix(BY_THAT_PROGRAM + "\n") + "\n"
     return Done(done.status, out, done.err.replace(WITHOUT_PROOFS, ""))
+
+
+def comes(is_so: Callable[[], bool]) -> bool:
+    """Whether something comes true in time."""
+    end = time.monotonic() + PATIENCE
+    while not is_so():
+        if time.monotonic() > end:
+            return False
+        time.sleep(0.05)
+    return True
 
 
 def write(path: str, text: str | bytes) -> str:

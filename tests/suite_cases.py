@@ -15,7 +15,7 @@ import threading
 from typing import Any, Callable, Sequence
 from unittest.mock import patch
 
-from tests.cases import TOP, Cases, Done, apart, call, environment, read, run, script_entry, write
+from tests.cases import PATIENCE, TOP, Cases, Done, apart, call, environment, read, run, script_entry, write
 
 # what a suite imports where it is needed is there before it is forked
 from tools.lint import main as lint
@@ -45,8 +45,6 @@ MP    ok
 SB    ok
 2 pairs: 2 ok, 0 BUG, 0 stricter, 0 time, 0 faults, in N s
 """
-# how many seconds a process may take to come to where it is looked at
-PATIENCE = 240
 LINTING = threading.Lock()
 
 

@@ -8,12 +8,15 @@ import re
 import signal
 import subprocess
 import sys
+import tempfile
 import time
 from functools import cache
 from itertools import permutations, product
 from typing import Callable, Iterable, Iterator
 
-from tests.cases import TOP, Cases, Done, apart, call, environment, pipecheck, program, read, run, tool, tool_entry, write
+from tests.cases import (
+    PATIENCE, TOP, Cases, Done, apart, call, comes, command, environment, pipecheck, program, read, run, tool, tool_entry, write
+)
 
 # what stands apart is imported once, and is there in each process that is forked from this one
 sys.path.insert(0, apart())
@@ -23,8 +26,6 @@ from tools.agree import comparing_programs
 from tools.agree.programs import Program
 from tools.agree.small_programs import Family, Shape, shapes_of
 
-# how many seconds a process may take to come to where it is looked at
-PATIENCE = 240
 AGREE = tool("agree", apart())
 BUFFER, DRAIN = "examples/models/tso-buffer.uspec", "examples/models/tso-drain.uspec"
 EARLY = "examples/buggy/tso-ooo-commit-early.uspec"
@@ -174,10 +175,11 @@ class Ended(AgreeCases):
 
     def wait_until(self, is_so: Callable[[], bool]) -> None:
         """Waits until something comes true, or fails."""
-        end = time.monotonic() + PATIENCE
-        while not is_so():
-            self.assertLess(time.monotonic(), end, "it did not come true in time")
-            time.sleep(0.1)
+        self.assertTrue(comes(is_so), "it did not come true in time")
+
+    def wait_until_all(self, asked: str) -> None:
+        """Waits until each process that compares waits for the program, which notes that in this folder."""
+        self.wait_until(lambda: len(os.listdir(asked)) >= len(os.sched_getaffinity(0)))
 
     def test_goes_on(self) -> None:
         """What it has got goes when it is done, and is taken up for the same bytes alone. The program is called by a script that
@@ -220,16 +222,20 @@ exec "{program()}" "$@"
                 os.remove(kept)
 
     def test_signals(self) -> None:
-        """What ends agree ends the processes that compare, and the programs that they called."""
+        """What ends agree ends the processes that compare, and the programs that they called, and leaves nothing."""
         for name in ("TERM", "INT", "PIPE"):
-            process = self.begun(["env", f"--default-signal={name}", *AGREE, "--random", "7", "100000", BUFFER], {})
-            self.wait_until(lambda: len(children_of(process.pid)) >= min(2, len(os.sched_getaffinity(0))))
+            room, asked = tempfile.mkdtemp(dir=self.work), tempfile.mkdtemp(dir=self.work)
+            waits = command(f"{self.work}/waits", f'[ -s "$3" ] || exec "{program()}" "$@"\n: >"{asked}/$$"\nexec sleep 600\n')
+            process = self.begun(["env", f"--default-signal={name}", *AGREE, "--random", "7", "100000", BUFFER],
+                                 {"PIPECHECK": waits, "TMPDIR": room})
+            self.wait_until_all(asked)
             workers = children_of(process.pid)
             number = signal.Signals[f"SIG{name}"]
             process.send_signal(number)
             self.same(f"{name} ends agree", process.wait(PATIENCE), -number)
             self.wait_until(lambda: not any(map(is_group, workers)))
             self.same(f"{name} ends all processes that compare", [it for it in workers if is_group(it)], [])
+            self.same(f"{name} leaves no file", os.listdir(room), [])
 
     def test_full_device(self) -> None:
         with open("/dev/full", "wb") as full:

@@ -12,14 +12,13 @@ import re
 import signal
 import subprocess
 import sys
-import time
 from contextlib import ExitStack, redirect_stderr
 from dataclasses import dataclass
 from functools import cache
 from glob import glob
 from unittest.mock import patch
 
-from tests.cases import TOP, Cases, call, pipecheck, program, read, run, tool, tool_entry, write
+from tests.cases import PATIENCE, TOP, Cases, call, comes, pipecheck, program, read, run, tool, tool_entry, write
 
 from tools.agree.machines import tso
 from tools.listings import answering
@@ -561,11 +560,9 @@ pipecheck: these words are no command; how compare is called stands above
         sleeper = self.stub("sleeper", 'echo $$ >"$0.pid"; exec sleep 100')
         env = {**os.environ, "PIPECHECK": sleeper, "TMPDIR": f"{self.work}/temporary"}
         with subprocess.Popen([pipecheck(), "compare", BUFFERS, "SB.litmus", "log"], env=env) as called:
-            deadline = time.monotonic() + 60
-            while not (os.path.exists(f"{sleeper}.pid") and os.path.getsize(f"{sleeper}.pid")) and time.monotonic() < deadline:
-                time.sleep(0.05)
+            is_called = comes(lambda: os.path.exists(f"{sleeper}.pid") and os.path.getsize(f"{sleeper}.pid") > 0)
             called.send_signal(signal.SIGTERM)
-            status = called.wait(60)
+            status = called.wait(PATIENCE)
         with self.case("compare: a signal ends all of it"):
             is_there = os.path.exists(f"/proc/{read(f'{sleeper}.pid').strip()}")
-            self.assertEqual((status, is_there, os.listdir("temporary")), (-signal.SIGTERM, False, []))
+            self.assertEqual((is_called, status, is_there, os.listdir("temporary")), (True, -signal.SIGTERM, False, []))

@@ -6,10 +6,9 @@ import signal
 import subprocess
 import sys
 import textwrap
-import time
 from unittest.mock import patch
 
-from tests.cases import TOP, Cases, Done, call, pipecheck, program, read, status_of, write
+from tests.cases import TOP, Cases, Done, call, comes, command, pipecheck, program, read, status_of, write
 
 from tools.mend import main as mend
 from tools.second.standard_output import status_of as status_of_main
@@ -152,13 +151,18 @@ pipecheck: {bad} is a test, and stands for the model: check MODEL TEST
             self.gives(name, words, status, out, err, env={**plain, **env})
 
     def test_end(self) -> None:
-        room = f"{self.work}/room"
+        room, waits = f"{self.work}/room", f"{self.work}/waits"
         os.mkdir(room)
+        # what is asked first of a model that shows the outcome gets no answer
+        checker = command(f"{self.work}/checker", f'[ "$1" != sweep ] || {{ : >{waits}; exec sleep 600; }}\n'
+                          f'exec {program()} "$@"\n')
         words = [pipecheck(), "mend", "examples/buggy/weak-ooo-read-read.uspec", "examples/tests/RSW.test"]
-        with subprocess.Popen(words, cwd=TOP, env={**os.environ, "TMPDIR": room}, stdin=subprocess.DEVNULL,
-                              stdout=subprocess.PIPE, stderr=subprocess.PIPE) as process:
-            while not os.listdir(room) and process.poll() is None:
-                time.sleep(0.05)
+        env = {**os.environ, "TMPDIR": room, "PIPECHECK": checker}
+        with subprocess.Popen(words, cwd=TOP, env=env, stdin=subprocess.DEVNULL, stdout=subprocess.PIPE,
+                              stderr=subprocess.PIPE) as process:
+            with self.case("TERM comes while it asks"):
+                self.assertTrue(comes(lambda: os.path.exists(waits) or process.poll() is not None))
+                self.assertEqual((process.poll(), len(os.listdir(room))), (None, 1))
             process.send_signal(signal.SIGTERM)
             out, err = (it.decode() for it in process.communicate())
         self.judge("TERM ends it", Done(status_of(process.returncode), out, err), 143)

@@ -20,9 +20,10 @@ from dataclasses import replace
 from typing import Callable
 from unittest.mock import patch
 
-from tests.cases import TOP, Done, apart, call, program, read, text_of, tool, write
-from tests.suite_cases import CORR, EARLY, GOOD, MP, NO_FAULTS, PATIENCE, SB, SC, TUTORIAL, SuiteCases, no_lint, of_suite
+from tests.cases import PATIENCE, TOP, Done, apart, call, comes, program, read, text_of, tool, write
+from tests.suite_cases import CORR, EARLY, GOOD, MP, NO_FAULTS, SB, SC, TUTORIAL, SuiteCases, no_lint, of_suite
 
+from tools.ending import SIGNALS as RECEIVED, Interrupted
 from tools.texts.memory_models import memory_model_of
 from tools.texts.quoting import quoted
 from tools.suite import kept
@@ -30,10 +31,10 @@ from tools.suite.beside import Lint
 from tools.suite.calling import Calls, side_by_side
 from tools.suite.files import File, model_file, test_file
 from tools.suite.keeping import Folder, State, write_anew
-from tools.suite.main import handle_signals, interrupt
+from tools.suite.main import ENDING
 from tools.suite.pairs import Found
 from tools.suite.programs import command_of
-from tools.suite.refusing import Interrupted, Refusal
+from tools.suite.refusing import Refusal
 from tools.suite.tables import table_of_models
 
 PATTERN = "examples/patterns/MP.pattern"
@@ -525,7 +526,7 @@ class Signals(SuiteCases):
                 with open(os.devnull, "wb") as out:
                     return calls.status(["sleep", "120"], None, 120, out)
 
-            handle_signals(interrupt)
+            RECEIVED.receive(ENDING)
             begun = time.monotonic()
             try:
                 side_by_side(calls, 1, [task], lambda _, __: None)
@@ -584,16 +585,6 @@ class Signals(SuiteCases):
         status = process.wait(PATIENCE)
         self.same("TERM ends a suite that builds", status, -signal.SIGTERM)
         self.same("TERM ends a suite's build", (os.path.exists(note), left_of(groups)), (False, []))
-
-
-def comes(is_so: Callable[[], bool]) -> bool:
-    """Whether something comes true in time."""
-    end = time.monotonic() + PATIENCE
-    while not is_so():
-        if time.monotonic() > end:
-            return False
-        time.sleep(0.05)
-    return True
 
 
 def running(word: str) -> list[int]:

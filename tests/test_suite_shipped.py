@@ -7,8 +7,8 @@ import signal
 import subprocess
 import time
 
-from tests.cases import TOP, apart, read, text_of, tool
-from tests.suite_cases import BUFFER, PATIENCE, SuiteCases, no_lint, of_suite
+from tests.cases import PATIENCE, TOP, apart, read, text_of, tool
+from tests.suite_cases import BUFFER, SuiteCases, no_lint, of_suite
 
 LOCKED = (
     "2+2W+xchgs", "IRIW+xchgs", "LB+xchgs", "MP+po+xchg", "MP+po+xchg+seen", "MP+xchgs", "R+po+xchg", "R+xchg+po", "SB+xchg+po",

@@ -3,7 +3,6 @@ import os
 import re
 import subprocess
 import sys
-import tempfile
 from dataclasses import dataclass
 from functools import lru_cache
 from glob import glob
@@ -235,10 +234,11 @@ def plain_value(value: int | Entry) -> Value:
 
 def rows_of_program(model_path: str, pattern: bytes) -> set[Reads]:
     """The rows that the built program calls observable."""
-    with tempfile.NamedTemporaryFile() as file:
+    # in memory alone, so that nothing is left of it, however this process ends
+    with open(os.memfd_create("pattern"), "wb") as file:
         file.write(pattern)
         file.flush()
-        command = [*sweeper().words, "sweep", model_path, file.name]
+        command = [*sweeper().words, "sweep", model_path, f"/proc/{os.getpid()}/fd/{file.fileno()}"]
         done = subprocess.run(command, capture_output=True, text=True, errors="replace", check=False)
     lines = done.stdout.splitlines()
     if done.returncode != 0 or not lines or lines[-1] != "end":

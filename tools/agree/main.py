@@ -44,7 +44,6 @@ if signal.getsignal(signal.SIGINT) is not signal.SIG_IGN:
 sys.dont_write_bytecode = True
 
 from tools import TOP
-from tools import TOP
 from tools.agree.comparing import (
     PATTERN, Other, Pair, Refused, Unreadable, contents, difference, is_allowed, machine_of, machine_takes, model_of,
     model_takes, named_memory_model, pattern_of, sweeper, test_of
@@ -52,7 +51,8 @@ from tools.agree.comparing import (
 from tools.agree.comparing_programs import Comparison, Small
 from tools.agree.counts import Counts, tell
 from tools.agree.small_programs import MOST_ACCESSES, MOST_LOCATIONS, Shape, shapes_of
-from tools.agree.working import Ended, Unusable, Workers, end_by, receive_signals
+from tools.agree.working import ENDING, Unusable, Workers
+from tools.ending import SIGNALS
 from tools.second.standard_output import FAILED, UNREAD, status_of
 from tools.suite.words import folder_of
 from tools.texts.quoting import quoted, shown
@@ -184,7 +184,7 @@ def compare(options: Namespace) -> int:
 
 def main(*words: str) -> int:
     """Compares what the words ask for, or says why not, and answers the exit status."""
-    receive_signals()
+    SIGNALS.receive(ENDING)
     options = options_of(words)
     try:
         return compare(options)
@@ -245,7 +245,4 @@ def fault_of(options: Namespace) -> str:
 
 
 if __name__ == "__main__":
-    try:
-        sys.exit(status_of(main, sys.argv[1:]))
-    except Ended as ended:
-        end_by(ended.number)
+    sys.exit(SIGNALS.status_or_end(lambda: status_of(main, sys.argv[1:])))

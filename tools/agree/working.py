@@ -10,8 +10,8 @@ from dataclasses import dataclass
 from itertools import islice
 from multiprocessing import active_children, get_context, parent_process
 from threading import Thread
-from types import FrameType, TracebackType
-from typing import Callable, Generic, Iterable, Iterator, NoReturn, TypeVar
+from types import TracebackType
+from typing import Callable, Generic, Iterable, Iterator, TypeVar
 
 # a reader that goes away asks for an end, too
 ENDING = (
@@ -28,40 +28,11 @@ class Unusable(Exception):
     """Nothing can be compared, and why."""
 
 
-class Ended(BaseException):
-    """A signal asks for an end."""
-
-    def __init__(self, number: int) -> None:
-        super().__init__(number)
-        self.number = number
-
-
 @dataclass(frozen=True)
 class Failed:
     """A task that was not judged, and why."""
 
     why: str
-
-
-def receive_signals() -> None:
-    """Has the first signal that asks for an end raise `Ended`. What is ignored, as under `nohup`, stays so."""
-    for number in ENDING:
-        # Python itself ignores that a reader goes away
-        if number == signal.SIGPIPE or signal.getsignal(number) is not signal.SIG_IGN:
-            signal.signal(number, raise_ended)
-
-
-def raise_ended(number: int, _: FrameType | None) -> NoReturn:
-    """Asks for an end once: what is begun then is done whole."""
-    for other in ENDING:
-        signal.signal(other, signal.SIG_IGN)
-    raise Ended(number)
-
-
-def end_by(number: int) -> None:
-    """Ends this process as the signal would have ended it."""
-    signal.signal(number, signal.SIG_DFL)
-    os.kill(os.getpid(), number)
 
 
 @dataclass(frozen=True)

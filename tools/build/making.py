@@ -26,7 +26,8 @@ from dataclasses import dataclass, field
 from typing import IO, Callable, Iterator
 
 from tools import TOP
-from tools.build.processes import SIGNALS, Ended, end_by, running
+from tools.build.processes import SIGNALS, running
+from tools.ending import Interrupted
 
 # What `rt` and its tools print that says nothing of why they failed.
 WELL = re.compile(r": proved$|^(statements|library|logic|by-macro) ")
@@ -78,28 +79,22 @@ def elapsed(job: Job) -> str:
     return f"{seconds // 60}:{seconds % 60:02}"
 
 
-def folder_in(where: str) -> str:
+def folder_for_copies() -> tempfile.TemporaryDirectory[str]:
+    """A new folder, by its whole path. TMPDIR says where, and no other place is taken."""
+    where = os.path.abspath(os.environ.get("TMPDIR") or "/tmp")
     try:
-        return tempfile.mkdtemp(prefix="pipecheck-", dir=where)
+        return tempfile.TemporaryDirectory(prefix="pipecheck-", dir=where, ignore_cleanup_errors=True)
     except OSError as error:
         raise Failed(f"no folder for temporary files (TMPDIR) can be made in {where}: {error.strerror}") from error
 
 
 @contextlib.contextmanager
 def temporary_folder() -> Iterator[str]:
-    """A new folder, by its whole path, that is removed at the end. TMPDIR says where, and no other place is taken."""
-    where = os.path.abspath(os.environ.get("TMPDIR") or "/tmp")
-    made: list[str] = []
-    try:
-        with SIGNALS.held():
-            made.append(folder_in(where))
+    """A new folder that is removed at the end."""
+    with SIGNALS.temporary_folder(folder_for_copies) as room:
         # where rt runs as root, it runs programs as nobody, in a folder below this one
-        os.chmod(made[0], 0o711)
-        yield made[0]
-    finally:
-        with SIGNALS.held():
-            for it in made:
-                shutil.rmtree(it, ignore_errors=True)
+        os.chmod(room, 0o711)
+        yield room
 
 
 def copy_crates(top: str, crates: list[str], to: str) -> None:
@@ -168,7 +163,11 @@ def put_in_place(job: Job, made: str) -> None:
 
 
 def main(make: Callable[[Job], None]) -> int:
-    """Makes the program, and says what hinders it."""
+    """Makes the program, and says what hinders it. The status."""
+    return SIGNALS.status_or_end(lambda: status_of(make))
+
+
+def status_of(make: Callable[[Job], None]) -> int:
     top, program, note, log, sources, tool, *crates = sys.argv[1:]
     job = Job(top, program, note, log, sources, tool, crates)
     SIGNALS.receive()
@@ -180,7 +179,7 @@ def main(make: Callable[[Job], None]) -> int:
     except (OSError, shutil.Error) as error:
         say(f"the program could not be built: {error}")
         return 1
-    except Ended as ended:
+    except Interrupted:
         put_over("")
-        end_by(ended.number)
+        raise
     return 0

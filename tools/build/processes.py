@@ -7,48 +7,29 @@ import os
 import signal
 import subprocess
 from types import FrameType
-from typing import IO, Callable, Iterator, Optional
+from typing import IO, Iterable, Iterator, Optional
+
+from tools import ending
 
 Process = subprocess.Popen
 
-ENDING = (signal.SIGHUP, signal.SIGINT, signal.SIGQUIT, signal.SIGTERM)
 # how long what is asked to end has for it, in seconds
 PATIENCE = 5
 
 
-class Ended(BaseException):
-    """A signal asks for an end."""
-
-    def __init__(self, number: int) -> None:
-        super().__init__(number)
-        self.number = number
-
-
-class Signals:
-    """What asks for an end. The first signal raises `Ended`, later where it is held. Others after it are passed over,
-    so that what was begun is cleared once, and whole.
-
-    And Ctrl-Z, which the terminal sends to this process's group alone: it stops what was begun here too."""
+class Signals(ending.Signals):
+    """What asks for an end; and Ctrl-Z, which the terminal sends to this process's group alone: it stops what was begun here
+    too."""
 
     def __init__(self) -> None:
-        self.is_held = False
-        self.number = 0
+        super().__init__()
         self.is_stop_held = False
         self.leaders: list[Process[bytes]] = []
 
-    def receive(self) -> None:
-        answers: dict[int, Callable[[int, Optional[FrameType]], None]] = dict.fromkeys(ENDING, self.end)
-        answers[signal.SIGTSTP] = self.stop
-        for it, answer in answers.items():
-            # what is ignored, as under `nohup`, stays so
-            if signal.getsignal(it) is not signal.SIG_IGN:
-                signal.signal(it, answer)
-
-    def end(self, number: int, _: Optional[FrameType]) -> None:
-        if self.number == 0:
-            self.number = number
-            if not self.is_held:
-                raise Ended(number)
+    def receive(self, numbers: Iterable[int] = ending.ENDING) -> None:
+        super().receive(numbers)
+        if signal.getsignal(signal.SIGTSTP) is not signal.SIG_IGN:
+            signal.signal(signal.SIGTSTP, self.stop)
 
     def stop(self, _: int, __: Optional[FrameType]) -> None:
         self.is_stop_held = self.is_held
@@ -61,16 +42,17 @@ class Signals:
 
     @contextlib.contextmanager
     def held(self) -> Iterator[None]:
-        before = self.number
-        self.is_held = True
         try:
-            yield
+            with super().held():
+                yield
         finally:
-            self.is_held = False
-            if self.is_stop_held:
+            if self.is_stop_held and not self.is_held:
                 self.stop(signal.SIGTSTP, None)
-        if self.number != before:
-            raise Ended(self.number)
+
+    def clear(self) -> None:
+        for it in self.leaders:
+            end_group(it)
+        super().clear()
 
 
 SIGNALS = Signals()
@@ -99,30 +81,20 @@ def running(
 ) -> Iterator[Process[bytes]]:
     """Runs a command as a group of processes of its own, which ends at the end."""
     environment = {**os.environ, "TMPDIR": temporary}
-    leaders = []
+    with SIGNALS.held():
+        leader = Process(
+            words,
+            cwd=folder,
+            env=environment,
+            stdin=subprocess.DEVNULL,
+            stdout=out,
+            stderr=err,
+            start_new_session=True,
+        )
+        SIGNALS.leaders.append(leader)
     try:
-        with SIGNALS.held():
-            leaders.append(
-                Process(
-                    words,
-                    cwd=folder,
-                    env=environment,
-                    stdin=subprocess.DEVNULL,
-                    stdout=out,
-                    stderr=err,
-                    start_new_session=True,
-                )
-            )
-            SIGNALS.leaders += leaders
-        yield leaders[0]
+        yield leader
     finally:
         with SIGNALS.held():
-            for it in leaders:
-                end_group(it)
-                SIGNALS.leaders.remove(it)
-
-
-def end_by(number: int) -> None:
-    """Ends this process by a signal, so that the shell sees which."""
-    signal.signal(number, signal.SIG_DFL)
-    os.kill(os.getpid(), number)
+            end_group(leader)
+            SIGNALS.leaders.remove(leader)

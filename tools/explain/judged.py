@@ -14,6 +14,7 @@ import tempfile
 from typing import Sequence
 
 from tools import TOP
+from tools.ending import SIGNALS
 from tools.explain.files import contents, explain_files, parts_of
 from tools.second.listings import ENDING
 from tools.second.queries import InModel
@@ -22,7 +23,7 @@ from tools.second.standard_output import FAILED, UNREAD, UNWRITTEN, status_of
 from tools.second.tokens import Fault
 from tools.suite.calling import Calls, limited, memory_limit, side_by_side
 from tools.suite.programs import command_of
-from tools.suite.refusing import Interrupted, Refusal
+from tools.suite.refusing import Refusal
 from tools.suite.telling import tell
 from tools.telling.files import unreadable
 from tools.telling.refusals import place_of, refusal_of, told
@@ -33,7 +34,6 @@ from tools.texts.quoting import quoted
 
 # how long a model, a test or a query may be, and a certificate
 MOST, MOST_OF_CERTIFICATE = 1_048_576, 67_108_864
-ENDING_SIGNALS = (signal.SIGHUP, signal.SIGINT, signal.SIGQUIT, signal.SIGTERM)
 REFUSED, CERTIFICATE_REFUSED = 3, 6
 VERDICTS = {0: b"verified observable", 1: b"verified unobservable"}
 
@@ -233,8 +233,9 @@ def write(text: bytes) -> None:
 
 def main(program: str, *names: str) -> int:
     """Writes what is said of the certificate, and answers the exit status."""
+    SIGNALS.receive()
     try:
-        with folder_for_texts() as folder:
+        with SIGNALS.temporary_folder(folder_for_texts) as folder:
             paths, status = explained(Judge(program, folder), names)
             for line in explain_files(names[0], *paths, *names[3:]):
                 print(line)
@@ -249,21 +250,8 @@ def main(program: str, *names: str) -> int:
         tell(str(refusal).replace("suite: ", "pipecheck: ", 1))
     except (AnswerRefused, Fault, TooLarge, UnicodeDecodeError) as problem:
         tell(f"explain: not explained: {problem}")
-    except Interrupted as interrupted:
-        signal.signal(interrupted.number, signal.SIG_DFL)
-        os.kill(os.getpid(), interrupted.number)
     return FAILED
 
 
-def interrupt(number: int, _: object) -> None:
-    """Ends this program, once."""
-    for other in ENDING_SIGNALS:
-        signal.signal(other, signal.SIG_IGN)
-    raise Interrupted(number)
-
-
 if __name__ == "__main__":
-    for signal_number in ENDING_SIGNALS:
-        if signal.getsignal(signal_number) is not signal.SIG_IGN:
-            signal.signal(signal_number, interrupt)
-    sys.exit(status_of(main, sys.argv[1:]))
+    sys.exit(SIGNALS.status_or_end(lambda: status_of(main, sys.argv[1:])))

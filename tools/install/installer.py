@@ -18,7 +18,7 @@ from collections.abc import Iterator
 from contextlib import ExitStack, contextmanager, suppress
 
 import tools
-from tools.build.processes import SIGNALS, Ended, end_by
+from tools.build.processes import SIGNALS
 from tools.install.installed import FOLDERS, IN_USE, LINKS, LIST, TREES, Listing, Prefix, Refused, is_below
 
 
@@ -314,6 +314,7 @@ def tell_installed(prefix: Prefix) -> None:
 
 def main(work: str, path: str, *words: str) -> int:
     """Does one of the three, and says what hinders it."""
+    SIGNALS.receive()
     try:
         prefix = Installation(path)
         if work == "judge":
@@ -328,8 +329,6 @@ def main(work: str, path: str, *words: str) -> int:
         print(f"install: {problem}", file=sys.stderr)
     except OSError as error:
         print(f"install: {error.filename2 or error.filename or path}: {error.strerror}", file=sys.stderr)
-    except Ended as ended:
-        end_by(ended.number)
     else:
         return 0
     return 1
@@ -341,5 +340,4 @@ if __name__ == "__main__":
         # a name need not be UTF-8
         if isinstance(stream, io.TextIOWrapper):
             stream.reconfigure(errors="surrogateescape")
-    SIGNALS.receive()
-    sys.exit(main(*sys.argv[1:]))
+    sys.exit(SIGNALS.status_or_end(lambda: main(*sys.argv[1:])))

@@ -1,10 +1,10 @@
 """From the files of a comparison to its lines and its status."""
 import os
-import tempfile
 from collections import Counter
 from functools import partial
 from typing import Mapping, Sequence
 
+from tools.ending import SIGNALS
 from tools.lint.lines import line_of
 from tools.lint.linting import Asked
 from tools.listings.asking import MOST_SWEEPS, Asker, Sweep, Swept, Unasked
@@ -87,8 +87,8 @@ def compare(model_path: str, listing_paths: Sequence[str], log_path: str, top: s
     found = (joined(answer, log_path, result, programs, asked) for result in results)
     comparisons = [comparison for comparison in found if comparison is not None]
     tell_unused(answer, programs, results)
-    checker = checker_of(os.environ, top, SECONDS, Calls())
-    with tempfile.TemporaryDirectory() as folder:
+    with SIGNALS.temporary_folder() as folder:
+        checker = checker_of(os.environ, top, SECONDS, Calls())
         copy = os.path.join(folder, "model.uspec")
         with open(copy, "wb") as file:
             file.write(model_text)

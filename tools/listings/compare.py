@@ -8,26 +8,22 @@ where the log has no state that the model does not show, 1 where it has some, an
 where a file is refused, or a test of the log has no listing, 4 where a file cannot be read, 5 where standard output could
 not be written, 7 where the program was refused memory, and 125 where there is no program or this one fails.
 """
-import os
 import re
-import signal
 import sys
 
 from tools import TOP
+from tools.ending import SIGNALS
 from tools.listings.answering import Unreadable, compare
 from tools.second.standard_output import FAILED, UNREAD, status_of
-from tools.suite.main import ENDING, interrupt
-from tools.suite.refusing import Interrupted, Refusal
+from tools.suite.main import ENDING
+from tools.suite.refusing import Refusal
 from tools.suite.telling import tell
 from tools.texts.quoting import shown
 
 
 def main(model: str, *paths: str) -> int:
     """The status. A signal ends what was called, and then this process."""
-    for number in ENDING:
-        # what is ignored, as HUP behind nohup, stays ignored
-        if signal.getsignal(number) is not signal.SIG_IGN:
-            signal.signal(number, interrupt)
+    SIGNALS.receive(ENDING)
     try:
         lines, status = compare(model, paths[:-1], paths[-1], TOP)
     except Refusal as refusal:
@@ -39,14 +35,10 @@ def main(model: str, *paths: str) -> int:
         # as where the folder for temporary files has no room
         tell(f"compare: {error.strerror}{f': {shown(str(error.filename))}' if error.filename else ''}")
         return FAILED
-    except Interrupted as interrupted:
-        signal.signal(interrupted.number, signal.SIG_DFL)
-        os.kill(os.getpid(), interrupted.number)
-        return FAILED
     for line in lines:
         print(line)
     return status
 
 
 if __name__ == "__main__":
-    sys.exit(status_of(main, sys.argv[1:]))
+    sys.exit(SIGNALS.status_or_end(lambda: status_of(main, sys.argv[1:])))

@@ -7,13 +7,11 @@ is none or the model does not show the outcome, 3 where a file is refused, 4 whe
 output could not be written, 7 where memory was refused, and 125 where this program fails.
 """
 import os
-import signal
 import sys
-import tempfile
-from types import FrameType
 from typing import Iterator
 
 from tools import TOP
+from tools.ending import SIGNALS
 from tools.mend.allowed import outcomes_allowed
 from tools.mend.asking import Questions, Unanswered, answer_of
 from tools.mend.copies import Names, Outcome, program_of
@@ -27,7 +25,7 @@ from tools.suite.allowing import Machines
 from tools.suite.calling import Calls, side_by_side
 from tools.suite.pairs import Checker
 from tools.suite.programs import checker_of
-from tools.suite.refusing import Interrupted, Refusal
+from tools.suite.refusing import Refusal
 from tools.texts.address_names import case_with_names
 from tools.texts.memory_models import memory_model_of
 from tools.texts.naming import Names as ModelNames
@@ -36,7 +34,6 @@ from tools.texts.wrapping import width_of_output, within
 LIMIT = 1_048_576
 # how long one call of the program may take, in seconds
 SECONDS = 60.0
-ENDING_SIGNALS = (signal.SIGHUP, signal.SIGINT, signal.SIGQUIT, signal.SIGTERM)
 # of `check`, and those of a call without an answer that stand for themselves
 SHOWN, NOT_SHOWN, REFUSED, NO_MEMORY = 0, 1, 3, 7
 
@@ -143,8 +140,8 @@ def answer(model_path: str, test_path: str) -> tuple[list[str], int]:
     """What is said of the files, and the status."""
     model_text, test_text = contents(model_path), contents(test_path)
     calls = Calls()
-    checker = checker_of(os.environ, TOP, SECONDS, calls)
-    with tempfile.TemporaryDirectory() as folder:
+    with SIGNALS.temporary_folder() as folder:
+        checker = checker_of(os.environ, TOP, SECONDS, calls)
         paths = os.path.join(folder, "given.uspec"), os.path.join(folder, f"given{os.path.splitext(test_path)[1]}")
         for path, text in zip(paths, (model_text, test_text)):
             with open(path, "wb") as file:
@@ -161,6 +158,7 @@ def answer(model_path: str, test_path: str) -> tuple[list[str], int]:
 
 def main(model_path: str, test_path: str) -> int:
     """Writes what is said of the files, and answers the exit status."""
+    SIGNALS.receive()
     try:
         lines, status = answer(model_path, test_path)
     except Said as said:
@@ -171,10 +169,6 @@ def main(model_path: str, test_path: str) -> int:
         return FAILED
     except OSError as error:
         return UNREAD if error.filename in (model_path, test_path) else unkept(error)
-    except Interrupted as interrupted:
-        signal.signal(interrupted.number, signal.SIG_DFL)
-        os.kill(os.getpid(), interrupted.number)
-        return FAILED
     for line in within(lines, width_of_output()):
         print(line)
     return status
@@ -186,15 +180,5 @@ def unkept(error: OSError) -> int:
     return FAILED
 
 
-def interrupt(number: int, _: FrameType | None) -> None:
-    """Ends this program, once."""
-    for other in ENDING_SIGNALS:
-        signal.signal(other, signal.SIG_IGN)
-    raise Interrupted(number)
-
-
 if __name__ == "__main__":
-    for signal_number in ENDING_SIGNALS:
-        if signal.getsignal(signal_number) is not signal.SIG_IGN:
-            signal.signal(signal_number, interrupt)
-    sys.exit(status_of(main, sys.argv[1:]))
+    sys.exit(SIGNALS.status_or_end(lambda: status_of(main, sys.argv[1:])))

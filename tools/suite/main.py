@@ -2,12 +2,11 @@
 import os
 import signal
 import sys
-import tempfile
 import traceback
 from functools import partial
-from types import FrameType
 from typing import TYPE_CHECKING, Callable, Iterator, Mapping, Sequence
 
+from tools.ending import SIGNALS
 from tools.suite.allowing import Machines, Rows
 from tools.suite.baselines import Baseline, Cells
 from tools.suite.beside import Lint
@@ -17,7 +16,7 @@ from tools.suite.files import Copies
 from tools.suite.keeping import Folder, State
 from tools.suite.kept import Kept
 from tools.suite.programs import checker_of, program_digest
-from tools.suite.refusing import Interrupted, Refusal
+from tools.suite.refusing import Refusal
 from tools.suite.reports import judge_place, write_report
 from tools.suite.running import Result, Suite, run_suite
 from tools.suite.tables import width_of_terminal
@@ -56,9 +55,10 @@ def suite(words: Sequence[str], environ: Mapping[str, str], top: str) -> int:
     if "--axioms" in asked.options:
         from tools.suite.axioms import Axioms, run_axioms
 
-        checker = checker_of(environ, top, seconds, Calls())
-        kept = kept_in(environ, program_digest(checker.command))
-        lines, status = run_axioms(Axioms(asked.models[0], asked.tests, checker, kept), jobs)
+        with SIGNALS.temporary_folder():
+            checker = checker_of(environ, top, seconds, Calls())
+            kept = kept_in(environ, program_digest(checker.command))
+            lines, status = run_axioms(Axioms(asked.models[0], asked.tests, checker, kept), jobs)
         put([*lines[:-1], lines[-1] + checker.said])
         return status
     return pairs(asked, environ, top, seconds, jobs)
@@ -74,14 +74,14 @@ def pairs(asked: Words, environ: Mapping[str, str], top: str, seconds: float, jo
     folder.wait_in_turn()
     for model in asked.models:
         folder.make_room(model)
-    checker = checker_of(environ, top, seconds, Calls())
-    program = program_digest(checker.command)
-    state = State(folder, program)
-    state.read()
-    kept = kept_in(environ, program)
-    machines = Machines(top)
-    lint = Lint(top, asked.tests, checker.calls)
-    with tempfile.TemporaryDirectory() as place:
+    with SIGNALS.temporary_folder() as place:
+        checker = checker_of(environ, top, seconds, Calls())
+        program = program_digest(checker.command)
+        state = State(folder, program)
+        state.read()
+        kept = kept_in(environ, program)
+        machines = Machines(top)
+        lint = Lint(top, asked.tests, checker.calls)
         run = Suite(asked, Copies(place, [*asked.models, *asked.tests]), rows, machines, checker, state, kept)
         result = run_suite(run, lint, top, jobs, seconds, width_of_terminal(environ))
     status = Count([*reports.cells_that_count(result).values()], 0).status
@@ -158,38 +158,16 @@ class Reports:
         return cases
 
 
-def interrupt(number: int, _: FrameType | None) -> None:
-    """Ends the suite, once: what ends it is not ended in turn."""
-    for other in ENDING:
-        signal.signal(other, signal.SIG_IGN)
-    raise Interrupted(number)
-
-
-def handle_signals(handler: Callable[[int, FrameType | None], None] | signal.Handlers) -> None:
-    """Has each signal that ends a process do so. What is ignored, as HUP behind nohup, stays ignored."""
-    for number in ENDING:
-        if signal.getsignal(number) is not signal.SIG_IGN:
-            signal.signal(number, handler)
-
-
 def main(words: Sequence[str], top: str, text: str) -> int:
     """The status. Where a signal ended the suite it ends this process, too, once nothing is left behind."""
     sys.setrecursionlimit(RECURSION)
     open_streams()
-    try:
-        handle_signals(interrupt)
-        status = answer(words, top, text)
-        # nothing is left that would have to be cleared
-        handle_signals(signal.SIG_DFL)
-    except Interrupted as interrupted:
-        signal.signal(interrupted.number, signal.SIG_DFL)
-        os.kill(os.getpid(), interrupted.number)
-        status = NO_TABLE
-    return status
+    return SIGNALS.status_or_end(lambda: answer(words, top, text))
 
 
 def answer(words: Sequence[str], top: str, text: str) -> int:
     """Runs the suite, and says what went wrong with it."""
+    SIGNALS.receive(ENDING)
     try:
         if "--help" in words:
             put([text.strip()])

@@ -1,0 +1,129 @@
+"""Signals that come to a tool while it looks for a place for temporary files, makes a folder of them, or removes it."""
+from __future__ import annotations
+
+import os
+import signal
+import tempfile
+from typing import Any, Callable
+from unittest.mock import patch
+
+from tests.cases import TOP, Cases, Done, call, program, script_entry, tool_entry, write
+
+from tools import ending
+
+MODEL, TEST = "examples/in-order.uspec", "examples/mp.test"
+LISTING = """X86 SB
+{ }
+ P0 | P1 ;
+ MOV [x],$1 | MOV [y],$1 ;
+ MOV EAX,[y] | MOV EAX,[x] ;
+exists (0:EAX=0 /\\ 1:EAX=0)
+"""
+LOG = """Test SB Allowed
+Histogram (1 states)
+5     *>0:EAX=0; 1:EAX=0;
+Ok
+Witnesses
+Positive: 5, Negative: 0
+Condition exists (0:EAX=0 /\\ 1:EAX=0) is validated
+Observation SB Always 5 0
+
+"""
+# each tool that calls the program beside a folder of temporary files: its entry, and the words after its name
+TOOLS: dict[str, tuple[Callable[[], object], list[str]]] = {
+    "mend": (tool_entry("mend.main"), [MODEL, TEST]),
+    "explain": (tool_entry("explain.judged"), ["PROGRAM", MODEL, TEST]),
+    "compare": (tool_entry("listings.compare"), [MODEL, "WORK/SB.litmus", "WORK/log"]),
+    "suite": (script_entry(f"{TOP}/examples/suite"), ["examples/models/tutorial.uspec", TEST]),
+    "suite --axioms": (script_entry(f"{TOP}/examples/suite"), ["--axioms", "examples/models/tutorial.uspec", TEST]),
+}
+
+
+class Ended(Cases):
+    """Each tool is ended by the signal, and leaves nothing in the folder for temporary files."""
+
+    def ended(self, room: str, entry: Callable[[], object], words: list[str], moment: str) -> Done:
+        """What a tool says to which the signal comes at this moment."""
+
+        def begin() -> object:
+            # it looks itself for a place of temporary files
+            tempfile.tempdir = None
+            with self.signalled(room, moment):
+                return entry()
+
+        env = {"TMPDIR": room, "PIPECHECK": program(), "SUITE_FOLDER": f"{self.work}/kept", "SUITE_KEPT": None}
+        said = [it.replace("WORK", self.work).replace("PROGRAM", program()) for it in words]
+        return call(begin, ["tool", *said], env=env)
+
+    def signalled(self, room: str, moment: str) -> Any:
+        """Has the signal come when a function of `os` is first called of what stands in the folder for temporary files: before it is
+        done, or after. That it came is noted beside that folder."""
+        name, _, when = moment.partition(" ")
+        real, came = getattr(os, name), f"{room}-came"
+
+        def signals(path: Any, *words: Any, **how: Any) -> None:
+            is_there = os.path.dirname(str(path)) == room and not os.path.exists(came)
+            if is_there and when == "after":
+                real(path, *words, **how)
+            if is_there:
+                write(came, "")
+                os.kill(os.getpid(), signal.SIGTERM)
+            if not is_there or when == "before":
+                real(path, *words, **how)
+
+        return patch.object(os, name, signals)
+
+    def test_moments(self) -> None:
+        write(f"{self.work}/log", LOG)
+        write(f"{self.work}/SB.litmus", LISTING)
+        for tool, (entry, words) in TOOLS.items():
+            for name, moment in (
+                ("is looked for", "unlink before"), ("is made", "mkdir after"), ("is removed", "rmdir before"),
+            ):
+                # explain takes the place that TMPDIR names, and looks for no other
+                if (tool, moment) != ("explain", "unlink before"):
+                    room = tempfile.mkdtemp(dir=self.work)
+                    done = self.ended(room, entry, words, moment)
+                    with self.case(f"TERM comes to {tool} while a folder {name}"):
+                        self.assertEqual((os.path.exists(f"{room}-came"), done.status, done.err), (True, 143, ""))
+                        self.assertEqual(os.listdir(room), [])
+
+    def test_signals(self) -> None:
+        """A signal that comes just before a folder is to be removed, and one that comes after the first."""
+        room = tempfile.mkdtemp(dir=self.work)
+
+        def begin() -> int:
+            tempfile.tempdir = room
+            signals = ending.Signals()
+
+            # in place of what would remove it
+            def removes(_: object) -> None:
+                os.kill(os.getpid(), signal.SIGTERM)
+
+            def work() -> int:
+                signals.receive()
+                with signals.temporary_folder() as folder:
+                    write(f"{folder}/file", "")
+                return 0
+
+            with patch.object(signals, "remove", removes):
+                return signals.status_or_end(work)
+
+        def twice() -> int:
+            signals = ending.Signals()
+
+            def work() -> int:
+                signals.receive()
+                with signals.held():
+                    os.kill(os.getpid(), signal.SIGHUP)
+                    os.kill(os.getpid(), signal.SIGTERM)
+                    write(f"{self.work}/held", "")
+                return 0
+
+            return signals.status_or_end(work)
+
+        done = call(begin, [])
+        self.same("TERM comes just before a folder is removed", (done, os.listdir(room)), (Done(143, "", ""), []))
+        done = call(twice, [])
+        self.same("what is held is done, and the first of two signals ends the tool", (done, os.path.exists(f"{self.work}/held")),
+                  (Done(129, "", ""), True))

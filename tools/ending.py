@@ -1,0 +1,113 @@
+"""How signals end a tool: what it began is ended, its temporary files go, and then it ends by the signal itself, so that its
+caller sees which.
+
+Python handles signals in the main thread, between any two steps of it. So what has to be done whole is held there.
+"""
+import os
+import signal
+import tempfile
+from contextlib import contextmanager, suppress
+from types import FrameType
+from typing import Callable, Iterable, Iterator
+
+# what a terminal, a shell and `timeout` send
+ENDING = (signal.SIGHUP, signal.SIGINT, signal.SIGQUIT, signal.SIGTERM)
+
+
+class Interrupted(BaseException):
+    """A signal asks for an end. It is no failure, as KeyboardInterrupt is none."""
+
+    def __init__(self, number: int) -> None:
+        super().__init__(f"signal {number}")
+        self.number = number
+
+
+class Signals:
+    """What asks for an end. The first signal raises `Interrupted`, later where it is held. Others after it are passed over,
+    so that what was begun is cleared once, and whole."""
+
+    def __init__(self) -> None:
+        self.received: list[int] = []
+        self.number = 0
+        self.is_held = self.is_due = False
+        self.folders: list[tempfile.TemporaryDirectory[str]] = []
+
+    def receive(self, numbers: Iterable[int] = ENDING) -> None:
+        """Has these signals ask for an end. What is ignored, as HUP behind nohup, stays so."""
+        for it in numbers:
+            if signal.getsignal(it) is not signal.SIG_IGN:
+                self.received.append(it)
+                signal.signal(it, self.end)
+
+    def end(self, number: int, _: FrameType | None) -> None:
+        """Asks for an end, once."""
+        if self.number == 0:
+            self.number, self.is_due = number, self.is_held
+            if not self.is_held:
+                raise Interrupted(number)
+
+    @contextmanager
+    def held(self) -> Iterator[None]:
+        """Has a signal that comes meanwhile raise at the end. It is for the main thread, where signals come."""
+        before = self.is_held
+        self.is_held = True
+        try:
+            yield
+        finally:
+            self.is_held = before
+            if self.is_due and not before:
+                self.is_due = False
+                raise Interrupted(self.number)
+
+    @contextmanager
+    def temporary_folder(
+        self, make: "Callable[[], tempfile.TemporaryDirectory[str]]" = tempfile.TemporaryDirectory
+    ) -> Iterator[str]:
+        """A new folder, which is removed at the end. What else is temporary is made in it meanwhile, by any thread. To look for a
+        place leaves a file for a moment, too."""
+        with self.held():
+            made = make()
+            self.folders.append(made)
+        before, tempfile.tempdir = tempfile.tempdir, made.name
+        try:
+            yield made.name
+        finally:
+            tempfile.tempdir = before
+            # once a signal came, `clear` removes it
+            if self.number == 0:
+                self.remove(made)
+
+    def remove(self, folder: "tempfile.TemporaryDirectory[str]") -> None:
+        """Removes a temporary folder."""
+        with self.held():
+            folder.cleanup()
+            self.folders.remove(folder)
+
+    def clear(self) -> None:
+        """Removes what is left once a signal came. A fault of that changes nothing."""
+        for it in self.folders:
+            with suppress(OSError):
+                it.cleanup()
+
+    def status_or_end(self, call: Callable[[], int]) -> int:
+        """The status of a tool. Where a signal ended it, the signal ends this process, once nothing is left behind."""
+        try:
+            status = call()
+            for it in self.received:
+                # nothing is left that would have to be cleared
+                signal.signal(it, signal.SIG_DFL)
+            return status
+        except Interrupted as interrupted:
+            self.clear()
+            return end_by(interrupted.number)
+
+
+def end_by(number: int) -> int:
+    """Ends this process by a signal. The status is for a process that no signal ends, as the first one of a container."""
+    signal.signal(number, signal.SIG_DFL)
+    os.kill(os.getpid(), number)
+    return 128 + number
+
+
+# those of this process
+SIGNALS = Signals()
