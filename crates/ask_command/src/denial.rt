@@ -8,12 +8,11 @@ ghost use Rattle.ask_command.specs.Queries.{FormulaOf, with_denial as with_denia
 ghost use Rattle.ask_command.specs.Denials.{EndsWithAxiom, EndsWithDenial, IsLastExpansion, IsFirstQueryEnd};
 
 use super::ends::move_end;
-use macro_expand::{MacroFault, expand};
+use macro_expand::{MacroFault, expand, with_short_names};
 use pc_common::{Memory, Place, Which};
 use pc_front::FrontEnd;
 use pc_syntax::{Closed, Expanded, Formula, Item, ModelFile};
 use scope_check::close_query;
-use short_names::with_short_names;
 use std::alloc::Global;
 
 /// The model with the denial of the formula as its last axiom, whose place is the query's first byte.

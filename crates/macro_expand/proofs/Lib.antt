@@ -8,3 +8,6 @@ pub mod RenamedFaults
 pub mod SeenNames
 pub mod Tables
 pub mod Walks
+pub mod ListingLaws
+pub mod RenamedArguments
+pub mod ShortNames

@@ -3,3 +3,7 @@ pub mod Faults
 pub mod Tables
 pub mod Measures
 pub mod Laws
+pub mod Arguments
+pub mod ModelNames
+pub mod Numbered
+pub mod Numbers

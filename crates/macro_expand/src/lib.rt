@@ -1,8 +1,9 @@
-//! Macros: the first fault of a model's stages, and that of its macros and its sizes; and its axioms with each macro in
-//! its place.
+//! Macros: the first fault of a model's stages, and that of its macros and its sizes; its axioms with each macro in its
+//! place; and where a name of it is long, the model with a number in place of each of its names.
 //!
 //! Clause: `expand` returns the axioms with their macros expanded, or the first fault of macros and sizes (`ok`,
-//! `err`).
+//! `err`). Where a name is long, and nowhere else, `with_short_names` returns the model with other names (`long`); one
+//! that changes has eight bytes then, and two are one exactly where they were (`renamed`, `short`).
 //!
 //! `stage_faults` judges the stages. `expand` judges the macros and the expansions in the text's order, measures each
 //! macro's body once, judges the sizes, and only then expands: in place of each `ExpandMacro` stands a binding of the
@@ -20,6 +21,15 @@
 //! assert!(rt; stage_faults(&model).is_none());
 //! let axioms = expand(alloc, &model)?;
 //! assert!(rt; axioms.len() == 1 && matches!(axioms[0].body, Formula::Bind { .. }));
+//!
+//! let text = b"DefineMacro \"a_name_that_has_a_few_more_bytes_than_32\": ~True.";
+//! let model = parse_model(alloc, &tokens(alloc, text)?)?;
+//! if let Some(short) = with_short_names(alloc, &model)? {
+//!     match &short.items.as_slice()[0] {
+//!         Item::Macro { name, .. } => assert!(rt; name.name.as_slice() == [0, 0, 0, 0, 0, 0, 0, 0]),
+//!         Item::Axiom { .. } => {}
+//!     }
+//! }
 //! ```
 #![tactic(auto)]
 
@@ -34,6 +44,7 @@ mod measure;
 mod parameter_names;
 mod parameters;
 mod quantifier;
+mod short_names;
 mod sizes;
 mod stages;
 mod top;
@@ -43,5 +54,6 @@ pub use laws::{
     expansion_keeps_truth, expansions_are_renamed, expansions_satisfy, renaming_keeps_items,
     renaming_keeps_macro_faults, renaming_keeps_size_faults, renaming_keeps_stage_faults,
 };
+pub use short_names::with_short_names;
 pub use stages::stage_faults;
 pub use top::expand;

@@ -14,12 +14,11 @@ ghost use Rattle.pc_front.specs.Ends.{end_of};
 
 use super::faults::{model_refusal, parse_refusal};
 use super::model_front::{FrontEnd, ModelFront};
-use macro_expand::{expand, stage_faults};
+use macro_expand::{expand, stage_faults, with_short_names};
 use pc_common::{Listed, Memory};
 use pc_ground::{Axioms, Stage, Stages};
 use pc_syntax::{Expanded, ModelFile, StageItems};
 use scope_check::{NameFault, close};
-use short_names::with_short_names;
 use std::alloc::Global;
 use uspec_lexer::{Tokens, tokens};
 use uspec_parser::parse_model;

@@ -1,9 +1,9 @@
 //! A model's names by their numbers.
 use super::texts::written_model;
 use crate::formula_texts::{put, show};
+use macro_expand::with_short_names;
 use pc_common::Memory;
 use pc_syntax::{Item, ModelFile};
-use short_names::with_short_names;
 use std::alloc::Global;
 use std::test::Fail;
 

@@ -1,3 +1,0 @@
-pub mod ListingLaws
-pub mod RenamedArguments
-pub mod ShortNames

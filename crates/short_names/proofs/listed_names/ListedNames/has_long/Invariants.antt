@@ -1,6 +1,0 @@
-use Rattle.std.{proofs.Common.{◌≡◌, false, take}, specs.List.{list_any}}
-use Rattle.short_names.specs.Numbered.{is_long}
-use Rattle.short_names.proofs.listed_names.ListedNames.has_long.Given as goal
-
-abbrev pub invariant-loop-name : goal.invariant-loop-name
-invariant-loop-name l = list_any (λ name. is_long name.now) (take l.name-index l.name-items) ≡ false

@@ -1,5 +1,0 @@
-use Rattle.std.proofs.Common.{◌≡◌, ◌++◌, take, map}
-use Rattle.short_names.proofs.listing.list_stages.Given as goal
-
-abbrev pub invariant-loop-stage : goal.invariant-loop-stage
-invariant-loop-stage l = l.names ≡ l.initial.names ++ map (λ s. s.name.name) (take l.stage-index l.stages)

@@ -1,4 +1,0 @@
-pub mod Arguments
-pub mod ModelNames
-pub mod Numbered
-pub mod Numbers
