@@ -40,8 +40,9 @@ NO_TOOLCHAIN = (
     "which one\n"
 )
 
-# how many seconds a process may take to come to where it is looked at, on a machine with much else to do
-PATIENCE = 240
+# How many seconds a process may take to come to where it is looked at, and how many to its end, on a machine with much else to do.
+# What is waited for longer than that comes no more.
+PATIENCE, LONGEST = 240, 1800
 
 # a part of the names of the cases that are to run, where not all are
 wanted: str | None = None
@@ -125,7 +126,7 @@ def environment(more: Mapping[str, str | None] | None = None) -> dict[str, str]:
 
 def run(
     words: Sequence[str | bytes], *, cwd: str = TOP, env: Mapping[str, str | None] | None = None, stdin: bytes | int = b"",
-    seconds: float = 300, **how: Any,
+    seconds: float = LONGEST, **how: Any,
 ) -> Done:
     """Runs a command with nothing, these bytes or this file as standard input. `how` are further words of `subprocess.run`."""
     options: dict[str, Any] = {"stdout": subprocess.PIPE, "stderr": subprocess.PIPE, "cwd": cwd, "timeout": seconds}

@@ -188,7 +188,7 @@ class Ended(AgreeCases):
 #!/bin/sh
 [ ! -e "{self.work}/go" ] || exec "{program()}" "$@"
 echo >>"{self.work}/calls"
-[ $(wc -l <"{self.work}/calls") -lt 40 ] || sleep 100
+[ $(wc -l <"{self.work}/calls") -lt 40 ] || sleep 600
 exec "{program()}" "$@"
 """)
         os.chmod(waits, 0o755)

@@ -65,7 +65,7 @@ OTHERS: list[Row] = [
     ("bench/peers.py on a ring of 2 cores, and judges of another verdict for shipped tests", ("peers", "2"), "sat", 1,
      "ring of 2 "),
     ("bench/runs.py of a question that is not there", ("runs", "none"), "unsat", 2, ""),
-    ("bench/families.py of one seed on one model", ("families", "1", "1", "sc-inorder"), "unsat", 0, " 6 questions: 0 over 1 s"),
+    ("bench/families.py of one seed on one model", ("families", "1", "1", "sc-inorder"), "unsat", 0, " 6 questions: "),
     ("bench/families.py of a model that is not there", ("families", "1", "1", "none"), "unsat", 2, ""),
     ("bench/families.py of a family that is not there", ("families", "none", "1"), "unsat", 2, ""),
     ("bench/families.py of seeds that end before they begin", ("families", "2", "1"), "unsat", 2, ""),
@@ -77,10 +77,10 @@ OTHERS: list[Row] = [
      "predicate-unknown; with half of it want of memory"),
     ("bench/reading.py of a part that is not there", ("reading", "none"), "unsat", 2, ""),
     ("bench/same.py on a random pair that the new program answers a little later than the old one may",
-     ("same", "--random", "1", "--seconds", "1", "refuses_at_once", "refuses_late"), "unsat", 0,
+     ("same", "--random", "1", "--seconds", "5", "refuses_at_once", "refuses_late"), "unsat", 0,
      "1 random pairs, 0 with a verdict, 0 wrong; 0 answers"),
     ("bench/same.py on a random pair that the old program answers too late",
-     ("same", "--random", "1", "--seconds", "1", "refuses_late", "refuses_at_once"), "unsat", 0,
+     ("same", "--random", "1", "--seconds", "5", "refuses_late", "refuses_at_once"), "unsat", 0,
      "1 random pairs, 0 with a verdict, 0 wrong; 2 answers"),
 ]
 COSTS: list[Row] = [
@@ -130,7 +130,7 @@ class Benches(Cases):
         self.put("z3", SMT.format(says))
         for name in ("cadical", "minisat"):
             self.put(name, DIMACS.format(says.upper()))
-        for name, wait in (("refuses_at_once", "0"), ("refuses_late", "1.5")):
+        for name, wait in (("refuses_at_once", "0"), ("refuses_late", "8")):
             self.put(name, REFUSER.format(wait))
         return self.again(*words)
 

@@ -557,7 +557,7 @@ pipecheck: these words are no command; how compare is called stands above
 
     def test_signal(self) -> None:
         os.mkdir("temporary")
-        sleeper = self.stub("sleeper", 'echo $$ >"$0.pid"; exec sleep 100')
+        sleeper = self.stub("sleeper", 'echo $$ >"$0.pid"; exec sleep 600')
         env = {**os.environ, "PIPECHECK": sleeper, "TMPDIR": f"{self.work}/temporary"}
         with subprocess.Popen([pipecheck(), "compare", BUFFERS, "SB.litmus", "log"], env=env) as called:
             is_called = comes(lambda: os.path.exists(f"{sleeper}.pid") and os.path.getsize(f"{sleeper}.pid") > 0)

@@ -552,14 +552,14 @@ class Fails(Installs):
 
     def test_signals(self) -> None:
         is_left, begun = self.older_one(), f"{self.work}/begun"
-        with self.manual(f": >'{begun}'\nexec sleep 60\n"):
+        with self.manual(f": >'{begun}'\nexec sleep 600\n"):
             for name, status in (("HUP", 129), ("INT", 130), ("QUIT", 131), ("TERM", 143)):
                 done = self.ended([self.way], begun, signal.Signals[f"SIG{name}"], {}, False)
                 self.judge(f"an install that {name} ends", done, status)
                 is_left("... leaves the older one")
         # Ctrl-C reaches all that the script began, also a Python that loads, and would say then where it was
         command(f"{self.work}/late/python3", """[ "${6-}" = "$LATE" ] || exec "$PYTHON" "$@"
-exec "$PYTHON" -c 'import sys, time; open(sys.argv[1], "w").close(); time.sleep(60)' "$BEGUN"
+exec "$PYTHON" -c 'import sys, time; open(sys.argv[1], "w").close(); time.sleep(600)' "$BEGUN"
 """)
         for late in ("judge", "install", "uninstall"):
             env: dict[str, str | None] = {
