@@ -23,8 +23,6 @@ from dataclasses import dataclass
 from typing import Any, Callable, Iterator, Mapping, Sequence
 
 TOP = os.path.dirname(os.path.dirname(os.path.realpath(__file__)))
-# where the modules of bench/ stand
-sys.path.append(f"{TOP}/bench")
 
 # What the script says where the program without its proofs answers. Where that one is tested, cases say what stands on standard
 # error beside this line, and on standard output beside the last words of scripts that call it.
@@ -387,7 +385,7 @@ def as_proved(checkout: str, path: str) -> None:
     """Has a copy of this program stand as the proved one in a checkout."""
     script = (
         'top=$PWD; . script/calls; mkdir -p "$out" && cp "$1" "$out/pipecheck_cli" && '
-        '{ hash_sources && echo "a kit logic 0123456789abcdef"; } >"$out/begun" && take_program "$out/begun"'
+        'take_program "$(hash_sources)" "a kit logic 0123456789abcdef"'
     )
     subprocess.run(["bash", "-c", script, "as_proved", path], cwd=checkout, check=True)
 

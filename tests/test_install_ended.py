@@ -40,7 +40,6 @@ FILES = {
     "script/completion.bash": "bash\n",
     "script/completion.fish": "fish\n",
     "script/completion.zsh": "zsh\n",
-    "script/manual": '#!/bin/sh\necho "the page $1"\n',
     "tools/agree/machines/sc.py": "machine\n",
 }
 Texts = dict[str, str]
@@ -350,8 +349,8 @@ def run_again_and_again(room: Room, new: Texts) -> int:
     return count
 
 
-def page(name: str) -> str:
-    """A man page, as the script of the small checkout writes it; a shell for each would be started thousands of times."""
+def page(_: str, name: str) -> str:
+    """A man page. The small checkout has none of the pages that one is made of."""
     return f"the page {name}\n"
 
 

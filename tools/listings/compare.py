@@ -14,11 +14,12 @@ import signal
 import sys
 
 from tools import TOP
-from tools.listings.answering import Unreadable, compare
+from tools.listings.answering import compare
 from tools.second.standard_output import FAILED, UNREAD, status_of
 from tools.suite.main import ENDING, interrupt
 from tools.suite.refusing import Interrupted, Refusal
 from tools.suite.telling import tell
+from tools.texts.contents import Unreadable
 from tools.texts.quoting import shown
 
 
