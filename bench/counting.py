@@ -181,7 +181,7 @@ def timed(limit: float, out: str, *words: str, calls: int = 1, room: int = 0) ->
     clock, and has so many bytes of address space, where a number is given."""
     # a child has what its parent has until its program begins, so a small parent stands between
     ended = [] if limit == math.inf else ["timeout", str(limit)]
-    command = [sys.executable, "-c", MEASURED, out, str(room), str(calls), str(LONG), *ended, *words]
+    command = [sys.executable, "-S", "-c", MEASURED, out, str(room), str(calls), str(LONG), *ended, *words]
     seconds, clock, peak, status = subprocess.run(command, stdout=subprocess.PIPE, check=True).stdout.split()
     return Timed(float(seconds), float(clock), 1024 * int(peak), int(status))
 

@@ -239,6 +239,12 @@ class Cases(unittest.TestCase):
         self.work = tempfile.mkdtemp(prefix="pipecheck-tests-")
         self.addCleanup(shutil.rmtree, self.work, ignore_errors=True)
 
+    @classmethod
+    def replace(cls, owner: object, name: str, value: object) -> None:
+        """Has a module or a class this in place of its own in the cases of this class."""
+        cls.addClassCleanup(setattr, owner, name, getattr(owner, name))
+        setattr(owner, name, value)
+
     def is_wanted(self, name: str) -> bool:
         """Whether the case of this name is to run."""
         return wanted is None or wanted in name
@@ -388,6 +394,18 @@ def as_proved(checkout: str, path: str) -> None:
         'take_program "$(hash_sources)" "a kit logic 0123456789abcdef"'
     )
     subprocess.run(["bash", "-c", script, "as_proved", path], cwd=checkout, check=True)
+
+
+@contextlib.contextmanager
+def replaced(owner: object, name: str, value: object) -> Iterator[None]:
+    """Has a module or a class this in place of its own meanwhile. `unittest.mock` does so too, and takes longer to load than most
+    families take to run."""
+    was = getattr(owner, name)
+    setattr(owner, name, value)
+    try:
+        yield
+    finally:
+        setattr(owner, name, was)
 
 
 def files_below(folder: str) -> list[str]:

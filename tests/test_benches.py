@@ -131,7 +131,7 @@ class Benches(Cases):
     def again(self, name: str, *words: str) -> Done:
         """A call beside the programs that are there."""
         env = {"PATH": f"{self.work}:{os.environ['PATH']}", "PIPECHECK": program()}
-        return run([sys.executable, f"{TOP}/bench/{name}.py", *words], env=env)
+        return run([sys.executable, "-S", f"{TOP}/bench/{name}.py", *words], env=env, seconds=3600)
 
     def judge_rows(self, rows: list[Row], is_counted: bool = False) -> None:
         """Each call ends as it should."""

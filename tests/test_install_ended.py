@@ -15,7 +15,6 @@ import signal
 import sys
 import tempfile
 from typing import Callable, NamedTuple, Sequence
-from unittest import mock
 
 from tests.cases import Cases
 
@@ -366,9 +365,7 @@ class InARoom(Cases):
         memory = "/dev/shm"
         folder = tempfile.mkdtemp(prefix="pipecheck-tests-", dir=memory if os.access(memory, os.W_OK) else None)
         cls.addClassCleanup(shutil.rmtree, folder, ignore_errors=True)
-        patched = mock.patch.object(installer, "manual", page)
-        patched.start()
-        cls.addClassCleanup(patched.stop)
+        cls.replace(installer, "manual", page)
         cls.addClassCleanup(os.umask, os.umask(0o022))
         cls.room = Room(folder)
         for version in ("1", "2"):

@@ -7,9 +7,8 @@ import subprocess
 import sys
 import textwrap
 import time
-from unittest.mock import patch
 
-from tests.cases import TOP, Cases, Done, call, pipecheck, program, read, status_of, write
+from tests.cases import TOP, Cases, Done, call, pipecheck, program, read, replaced, status_of, write
 
 from tools.mend import main as mend
 from tools.second.standard_output import status_of as status_of_main
@@ -101,7 +100,7 @@ class Orders(Cases):
 
     def mends(self) -> int:
         """mend.py of a checkout in the folder of these cases."""
-        with patch.object(mend, "TOP", self.work):
+        with replaced(mend, "TOP", self.work):
             return status_of_main(mend.main, sys.argv[1:])
 
 

@@ -18,7 +18,7 @@ from tools.second.queries import InModel
 from tools.second.scopes import read_model
 from tools.second.standard_output import UNREAD, status_of
 from tools.second.tokens import Fault
-from tools.telling.files import sentence
+from tools.telling.files import sentence, unreadable
 from tools.texts.contents import Unreadable, contents, read_within
 from tools.texts.expecting import sentence_of
 from tools.texts.quoting import shown
@@ -79,6 +79,8 @@ def main(model_path: str, *paths: str) -> int:
         read = [files.read_query(path, model_path, model) for path in asked] if isinstance(model, Model) else []
         queries = [query for query in read if query is not None]
     except Unreadable:
+        for line in unreadable([model_path, *paths]):
+            print(line, file=sys.stderr)
         return UNREAD
     count = 0
     if isinstance(model, Model):

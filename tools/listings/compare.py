@@ -19,6 +19,7 @@ from tools.second.standard_output import FAILED, UNREAD, status_of
 from tools.suite.main import ENDING, interrupt
 from tools.suite.refusing import Interrupted, Refusal
 from tools.suite.telling import tell
+from tools.telling.files import unreadable
 from tools.texts.contents import Unreadable
 from tools.texts.quoting import shown
 
@@ -35,6 +36,8 @@ def main(model: str, *paths: str) -> int:
         tell(re.sub("^suite: ", "compare: ", str(refusal)))
         return FAILED
     except Unreadable:
+        for line in unreadable([model, *paths]):
+            tell(line)
         return UNREAD
     except OSError as error:
         # as where the folder for temporary files has no room

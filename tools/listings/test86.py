@@ -16,6 +16,7 @@ from tools.listings.writing import test_of_herd
 from tools.second.standard_output import UNREAD, status_of
 from tools.second.tokens import Fault
 from tools.suite.telling import tell
+from tools.telling.files import unreadable
 from tools.telling.refusals import listing_lines
 from tools.texts.contents import Unreadable, contents, read_within
 from tools.texts.naming import line_and_column
@@ -41,6 +42,8 @@ def main(path: str) -> int:
     try:
         data = contents(path)
     except Unreadable:
+        for line in unreadable([path]):
+            tell(line)
         return UNREAD
     notes = Notes()
     try:
