@@ -13,9 +13,10 @@ import signal
 import subprocess
 import threading
 from typing import Any, Callable, Sequence
-from unittest.mock import patch
 
-from tests.cases import LONGEST, PATIENCE, TOP, Cases, Done, apart, call, environment, read, run, script_entry, write
+from tests.cases import (
+    LONGEST, PATIENCE, TOP, Cases, Done, apart, call, environment, read, replaced, run, script_entry, write
+)
 
 # what a suite imports where it is needed is there before it is forked
 from tools.lint import main as lint
@@ -123,7 +124,7 @@ class SuiteCases(Cases):
         def entry() -> None:
             # no call may wait for what never comes
             signal.alarm(LONGEST)
-            with patch.object(Lint, "lines", self.lint_lines):
+            with replaced(Lint, "lines", self.lint_lines), replaced(tools, "TOP", self.top or apart()):
                 script_entry(path)()
 
         return call(entry, [path, *map(self.at, words)], env=self.variables(env))

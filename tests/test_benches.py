@@ -12,10 +12,9 @@ from __future__ import annotations
 import os
 import re
 import shutil
+import sys
 
-from tests.cases import TOP, Cases, Done, call, read, script_entry, write
-
-import counting
+from tests.cases import TOP, Cases, Done, program, read, run, write
 
 # a question is whole where its last line, or its first, is there
 SMT = """#!/bin/sh
@@ -110,11 +109,6 @@ TURNS = re.compile(r"^    check2? .* (\d+) turns,(?: .* x (\d+) )?", re.M)
 class Benches(Cases):
     """Calls of the scripts beside programs that stand in for others."""
 
-    def setUp(self) -> None:
-        super().setUp()
-        # which program stands is asked once
-        counting.program()
-
     def put(self, name: str, text: str) -> None:
         """A program of this name and text."""
         os.chmod(write(f"{self.work}/{name}", text), 0o755)
@@ -136,8 +130,8 @@ class Benches(Cases):
 
     def again(self, name: str, *words: str) -> Done:
         """A call beside the programs that are there."""
-        path = f"{TOP}/bench/{name}.py"
-        return call(script_entry(path), [path, *words], env={"PATH": f"{self.work}:{os.environ['PATH']}"})
+        env = {"PATH": f"{self.work}:{os.environ['PATH']}", "PIPECHECK": program()}
+        return run([sys.executable, "-S", f"{TOP}/bench/{name}.py", *words], env=env, seconds=3600)
 
     def judge_rows(self, rows: list[Row], is_counted: bool = False) -> None:
         """Each call ends as it should."""

@@ -18,9 +18,8 @@ import threading
 import time
 from dataclasses import replace
 from typing import Callable
-from unittest.mock import patch
 
-from tests.cases import PATIENCE, TOP, Done, apart, call, comes, program, read, text_of, tool, write
+from tests.cases import PATIENCE, TOP, Done, apart, call, comes, program, read, replaced, text_of, tool, write
 from tests.suite_cases import CORR, EARLY, GOOD, MP, NO_FAULTS, SB, SC, TUTORIAL, SuiteCases, no_lint, of_suite
 
 from tools.ending import SIGNALS as RECEIVED, Interrupted
@@ -760,7 +759,7 @@ class Parts(SuiteCases):
             verdicts.keep(model, test, found, text)
             os.utime(verdicts.place(model, test), (1000 - age, 1000 - age))
         self.same("a verdict is taken", verdicts.found(model, tests[2]), (found, text))
-        with patch.object(kept, "MOST_BYTES", 2500):
+        with replaced(kept, "MOST_BYTES", 2500):
             verdicts.shorten()
         left = {os.path.basename(verdicts.place(model, test)) for test in (tests[0], tests[2])}
         name = "the one that was not taken for longest goes, with what is half written"
