@@ -17,11 +17,6 @@ from dataclasses import dataclass
 from functools import cache
 
 TOP = os.path.dirname(os.path.dirname(os.path.realpath(__file__)))
-sys.path.insert(0, TOP)
-
-# pylint: disable=wrong-import-position
-from tools.standing import standing
-
 MIB = 1 << 20
 # a call that takes so many seconds by the clock is made once
 LONG = 10.0
@@ -81,9 +76,17 @@ class Timed:
 
 @cache
 def program() -> str:
-    """The proved program, which is made first, unless the environment says another one."""
-    os.environ.setdefault("PIPECHECK_PROVED", "yes")
-    return standing(TOP).path
+    """The program that PIPECHECK names, or the proved one, which is made first, unless PIPECHECK_PROVED says the other one."""
+    environment = {"PIPECHECK_PROVED": "yes", **os.environ}
+    named = environment.get("PIPECHECK")
+    if named:
+        return named
+    done = subprocess.run(
+        [os.path.join(TOP, "script", "standing")], env=environment, stdin=subprocess.DEVNULL, stdout=subprocess.PIPE, check=False
+    )
+    if done.returncode != 0:
+        raise SystemExit(f"there is no program to call in {TOP}")
+    return os.fsdecode(done.stdout).rstrip("\n").partition(" ")[2]
 
 
 def saved(folder: str, name: str, text: str) -> str:
@@ -178,7 +181,7 @@ def timed(limit: float, out: str, *words: str, calls: int = 1, room: int = 0) ->
     clock, and has so many bytes of address space, where a number is given."""
     # a child has what its parent has until its program begins, so a small parent stands between
     ended = [] if limit == math.inf else ["timeout", str(limit)]
-    command = [sys.executable, "-c", MEASURED, out, str(room), str(calls), str(LONG), *ended, *words]
+    command = [sys.executable, "-S", "-c", MEASURED, out, str(room), str(calls), str(LONG), *ended, *words]
     seconds, clock, peak, status = subprocess.run(command, stdout=subprocess.PIPE, check=True).stdout.split()
     return Timed(float(seconds), float(clock), 1024 * int(peak), int(status))
 

@@ -1,6 +1,6 @@
 # shellcheck shell=bash
 # Completion of `pipecheck` for bash. ./install puts it where bash looks; in a checkout: . script/completion.bash
-_pipecheck_says=$(readlink -f "${BASH_SOURCE[0]}") && _pipecheck_says=${_pipecheck_says%/*}/completing
+_pipecheck_says=$(readlink -f "${BASH_SOURCE[0]}") && _pipecheck_says=${_pipecheck_says%/*/*}/tools
 
 _pipecheck() {
     local current=${COMP_WORDS[COMP_CWORD]} kind what
@@ -14,7 +14,7 @@ _pipecheck() {
             ;;
         esac
         [ "$kind" = word ] || compopt -o filenames 2>/dev/null
-    done < <("$_pipecheck_says" "${COMP_WORDS[@]:1:COMP_CWORD-1}")
+    done < <(python3 -E -S "$_pipecheck_says" completing "${COMP_WORDS[@]:1:COMP_CWORD-1}" 2>/dev/null)
     # a folder may have come more than once
     [ ${#COMPREPLY[@]} -lt 2 ] || mapfile -t COMPREPLY < <(printf '%s\n' "${COMPREPLY[@]}" | sort -u)
 }

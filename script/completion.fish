@@ -1,9 +1,9 @@
 # Completion of `pipecheck` for fish. ./install puts it where fish looks; in a checkout: source script/completion.fish
-set -g __pipecheck_says (dirname (realpath (status filename)))/completing
+set -g __pipecheck_says (dirname (dirname (realpath (status filename))))/tools
 
 function __pipecheck
     set -l before (commandline -opc)
-    for line in ($__pipecheck_says $before[2..-1])
+    for line in (python3 -E -S $__pipecheck_says completing $before[2..-1] 2>/dev/null)
         set -l what (string split -m 1 ' ' -- $line)
         if test $what[1] = word
             echo $what[2]

@@ -3,7 +3,7 @@
 # PREFIX/share/zsh/site-functions; that folder has to be in fpath before compinit is called.
 local line
 local -a said described endings
-said=("${(@f)$(${functions_source[_pipecheck]:A:h}/completing "${(@Q)words[2,CURRENT-1]}")}")
+said=("${(@f)$(python3 -E -S ${functions_source[_pipecheck]:A:h:h}/tools completing "${(@Q)words[2,CURRENT-1]}" 2>/dev/null)}")
 for line in $said; do
     case $line in
     (word\ *) described+=("${${line#word }/$'\t'/:}") ;;

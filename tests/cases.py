@@ -24,8 +24,6 @@ from dataclasses import dataclass
 from typing import Any, Callable, Iterator, Mapping, Sequence
 
 TOP = os.path.dirname(os.path.dirname(os.path.realpath(__file__)))
-# where the modules of bench/ stand
-sys.path.append(f"{TOP}/bench")
 
 # What the script says where the program without its proofs answers. Where that one is tested, cases say what stands on standard
 # error beside this line, and on standard output beside the last words of scripts that call it.
@@ -40,8 +38,9 @@ NO_TOOLCHAIN = (
     "which one\n"
 )
 
-# how many seconds a process may take to come to where it is looked at, on a machine with much else to do
-PATIENCE = 240
+# How many seconds a process may take to come to where it is looked at, and how many to its end, on a machine with much else to do.
+# What is waited for longer than that comes no more.
+PATIENCE, LONGEST = 240, 1800
 
 # a part of the names of the cases that are to run, where not all are
 wanted: str | None = None
@@ -125,7 +124,7 @@ def environment(more: Mapping[str, str | None] | None = None) -> dict[str, str]:
 
 def run(
     words: Sequence[str | bytes], *, cwd: str = TOP, env: Mapping[str, str | None] | None = None, stdin: bytes | int = b"",
-    seconds: float = 300, **how: Any,
+    seconds: float = LONGEST, **how: Any,
 ) -> Done:
     """Runs a command with nothing, these bytes or this file as standard input. `how` are further words of `subprocess.run`."""
     options: dict[str, Any] = {"stdout": subprocess.PIPE, "stderr": subprocess.PIPE, "cwd": cwd, "timeout": seconds}
@@ -254,6 +253,12 @@ class Cases(unittest.TestCase):
     def setUp(self) -> None:
         self.work = tempfile.mkdtemp(prefix="pipecheck-tests-")
         self.addCleanup(shutil.rmtree, self.work, ignore_errors=True)
+
+    @classmethod
+    def replace(cls, owner: object, name: str, value: object) -> None:
+        """Has a module or a class this in place of its own in the cases of this class."""
+        cls.addClassCleanup(setattr, owner, name, getattr(owner, name))
+        setattr(owner, name, value)
 
     def is_wanted(self, name: str) -> bool:
         """Whether the case of this name is to run."""
@@ -401,9 +406,21 @@ def as_proved(checkout: str, path: str) -> None:
     """Has a copy of this program stand as the proved one in a checkout."""
     script = (
         'top=$PWD; . script/calls; mkdir -p "$out" && cp "$1" "$out/pipecheck_cli" && '
-        '{ hash_sources && echo "a kit logic 0123456789abcdef"; } >"$out/begun" && take_program "$out/begun"'
+        'take_program "$(hash_sources)" "a kit logic 0123456789abcdef"'
     )
     subprocess.run(["bash", "-c", script, "as_proved", path], cwd=checkout, check=True)
+
+
+@contextlib.contextmanager
+def replaced(owner: object, name: str, value: object) -> Iterator[None]:
+    """Has a module or a class this in place of its own meanwhile. `unittest.mock` does so too, and takes longer to load than most
+    families take to run."""
+    was = getattr(owner, name)
+    setattr(owner, name, value)
+    try:
+        yield
+    finally:
+        setattr(owner, name, was)
 
 
 def files_below(folder: str) -> list[str]:

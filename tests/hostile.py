@@ -1,8 +1,7 @@
-#!/usr/bin/env python3
 """Runs the program that stands on random texts, some made to break it, and judges each answer. It is no part of the gate.
 
-    tests/hostile.py [SECONDS [SEED]]      60 seconds, and a seed of the system's
-    tests/hostile.py --again CASE          one case, by the name that is told where it was wrong
+    python3 -m tests.hostile [SECONDS [SEED]]      60 seconds, and a seed of the system's
+    python3 -m tests.hostile --again CASE          one case, by the name that is told where it was wrong
 
 A run is one call of the program. What it may answer is said by docs/faults.md and, of these very files, by the second
 reading under tools/second, which also judges each certificate that the program writes, each lifted refutation that it makes
@@ -31,17 +30,12 @@ from concurrent.futures import ProcessPoolExecutor
 from dataclasses import dataclass, field
 from glob import escape as glob_escape
 from glob import glob
+from importlib import import_module
 from random import Random
 from typing import Any, Callable
 
-TOP = os.path.dirname(os.path.dirname(os.path.realpath(__file__)))
-sys.dont_write_bytecode = True
-sys.path.insert(0, TOP)
-
-# pylint: disable=wrong-import-position
-from importlib import import_module
-
 from tests import random_texts
+from tools import TOP
 from tools.agree.litmus import read_test
 from tools.second.cases import Case, read_case
 from tools.second.evaluating import false_axioms

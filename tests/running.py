@@ -113,7 +113,7 @@ def families() -> dict[str, list[Part]]:
     for it in sorted(os.listdir(f"{cases.TOP}/tests")):
         if it.startswith("test_") and it.endswith(".py"):
             family, module = it[5:-3], it[:-3]
-            start = [sys.executable, "-m", "tests.running", "--class"]
+            start = [sys.executable, "-S", "-m", "tests.running", "--class"]
             found[family] = [Part(family, [*start, f"tests.{module}.{name}"]) for name in classes_of(f"{cases.TOP}/tests/{it}")]
     return dict(sorted(found.items(), key=lambda it: LONGEST.index(it[0]) if it[0] in LONGEST else len(LONGEST)))
 
@@ -146,9 +146,7 @@ def shorten_python(folder: str) -> None:
     """A python3 of a manager of versions looks each time for the one that is meant, which takes several times as long as to start
     it. Here that one is found once."""
     os.mkdir(folder)
-    with open(f"{folder}/python3", "w", encoding="utf-8") as file:
-        file.write(f"#!/bin/sh\nexec '{sys.executable}' \"$@\"\n")
-    os.chmod(f"{folder}/python3", 0o755)
+    os.symlink(sys.executable, f"{folder}/python3")
     os.environ["PATH"] = f"{folder}:{os.environ['PATH']}"
 
 

@@ -13,9 +13,10 @@ import signal
 import subprocess
 import threading
 from typing import Any, Callable, Sequence
-from unittest.mock import patch
 
-from tests.cases import PATIENCE, TOP, Cases, Done, apart, call, environment, read, run, script_entry, write
+from tests.cases import (
+    LONGEST, PATIENCE, TOP, Cases, Done, apart, call, environment, read, replaced, run, script_entry, write
+)
 
 # what a suite imports where it is needed is there before it is forked
 from tools.lint import main as lint
@@ -112,8 +113,8 @@ class SuiteCases(Cases):
         return text.replace("WORK", self.work)
 
     def variables(self, env: dict[str, str]) -> dict[str, str | None]:
-        """The environment of a suite; SUITE_TESTS and SUITE_FOLDER are in WORK where nothing else is said."""
-        said = {"SUITE_TESTS": "WORK/tests", "SUITE_FOLDER": "WORK/kept", **env}
+        """The environment of a suite; SUITE_TESTS and SUITE_FOLDER are in WORK where nothing else is said, and no call is late."""
+        said = {"SUITE_TESTS": "WORK/tests", "SUITE_FOLDER": "WORK/kept", "SUITE_SECONDS": str(PATIENCE), **env}
         return {**dict.fromkeys(("PIPECHECK", "SUITE_KEPT", "COLUMNS")), **{name: self.at(it) for name, it in said.items()}}
 
     def called(self, *words: str, **env: str) -> Done:
@@ -122,8 +123,8 @@ class SuiteCases(Cases):
 
         def entry() -> None:
             # no call may wait for what never comes
-            signal.alarm(PATIENCE)
-            with patch.object(Lint, "lines", self.lint_lines):
+            signal.alarm(LONGEST)
+            with replaced(Lint, "lines", self.lint_lines), replaced(tools, "TOP", self.top or apart()):
                 script_entry(path)()
 
         return call(entry, [path, *map(self.at, words)], env=self.variables(env))

@@ -7,7 +7,6 @@ import os
 import re
 import signal
 import subprocess
-import sys
 import tempfile
 import time
 from functools import cache
@@ -18,10 +17,7 @@ from tests.cases import (
     PATIENCE, TOP, Cases, Done, apart, call, comes, command, environment, pipecheck, program, read, run, tool, tool_entry, write
 )
 
-# what stands apart is imported once, and is there in each process that is forked from this one
-sys.path.insert(0, apart())
-
-# pylint: disable=wrong-import-position
+# what is imported here is there in each process that is forked from this one
 from tools.agree import comparing_programs
 from tools.agree.programs import Program
 from tools.agree.small_programs import Family, Shape, shapes_of
@@ -105,7 +101,7 @@ class AgreeCases(Cases):
 
     def variables(self, env: dict[str, str]) -> dict[str, str | None]:
         """The environment of agree, whose comparisons that are ended are kept in WORK/kept."""
-        return {"PIPECHECK": None, "SUITE_FOLDER": f"{self.work}/kept", **env}
+        return {"PIPECHECK": program(), "SUITE_FOLDER": f"{self.work}/kept", **env}
 
     def agrees(self, name: str, status: int, out: str, err: str, *words: str, **env: str) -> None:
         """Agree writes these two texts."""
@@ -188,7 +184,7 @@ class Ended(AgreeCases):
 #!/bin/sh
 [ ! -e "{self.work}/go" ] || exec "{program()}" "$@"
 echo >>"{self.work}/calls"
-[ $(wc -l <"{self.work}/calls") -lt 40 ] || sleep 100
+[ $(wc -l <"{self.work}/calls") -lt 40 ] || sleep 600
 exec "{program()}" "$@"
 """)
         os.chmod(waits, 0o755)

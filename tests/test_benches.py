@@ -12,10 +12,9 @@ from __future__ import annotations
 import os
 import re
 import shutil
+import sys
 
-from tests.cases import TOP, Cases, Done, call, read, script_entry, write
-
-import counting
+from tests.cases import TOP, Cases, Done, program, read, run, write
 
 # a question is whole where its last line, or its first, is there
 SMT = """#!/bin/sh
@@ -65,7 +64,7 @@ OTHERS: list[Row] = [
     ("bench/peers.py on a ring of 2 cores, and judges of another verdict for shipped tests", ("peers", "2"), "sat", 1,
      "ring of 2 "),
     ("bench/runs.py of a question that is not there", ("runs", "none"), "unsat", 2, ""),
-    ("bench/families.py of one seed on one model", ("families", "1", "1", "sc-inorder"), "unsat", 0, " 6 questions: 0 over 1 s"),
+    ("bench/families.py of one seed on one model", ("families", "1", "1", "sc-inorder"), "unsat", 0, " 6 questions: "),
     ("bench/families.py of a model that is not there", ("families", "1", "1", "none"), "unsat", 2, ""),
     ("bench/families.py of a family that is not there", ("families", "none", "1"), "unsat", 2, ""),
     ("bench/families.py of seeds that end before they begin", ("families", "2", "1"), "unsat", 2, ""),
@@ -77,10 +76,10 @@ OTHERS: list[Row] = [
      "predicate-unknown; with half of it want of memory"),
     ("bench/reading.py of a part that is not there", ("reading", "none"), "unsat", 2, ""),
     ("bench/same.py on a random pair that the new program answers a little later than the old one may",
-     ("same", "--random", "1", "--seconds", "1", "refuses_at_once", "refuses_late"), "unsat", 0,
+     ("same", "--random", "1", "--seconds", "5", "refuses_at_once", "refuses_late"), "unsat", 0,
      "1 random pairs, 0 with a verdict, 0 wrong; 0 answers"),
     ("bench/same.py on a random pair that the old program answers too late",
-     ("same", "--random", "1", "--seconds", "1", "refuses_late", "refuses_at_once"), "unsat", 0,
+     ("same", "--random", "1", "--seconds", "5", "refuses_late", "refuses_at_once"), "unsat", 0,
      "1 random pairs, 0 with a verdict, 0 wrong; 2 answers"),
 ]
 COSTS: list[Row] = [
@@ -110,11 +109,6 @@ TURNS = re.compile(r"^    check2? .* (\d+) turns,(?: .* x (\d+) )?", re.M)
 class Benches(Cases):
     """Calls of the scripts beside programs that stand in for others."""
 
-    def setUp(self) -> None:
-        super().setUp()
-        # which program stands is asked once
-        counting.program()
-
     def put(self, name: str, text: str) -> None:
         """A program of this name and text."""
         os.chmod(write(f"{self.work}/{name}", text), 0o755)
@@ -130,14 +124,14 @@ class Benches(Cases):
         self.put("z3", SMT.format(says))
         for name in ("cadical", "minisat"):
             self.put(name, DIMACS.format(says.upper()))
-        for name, wait in (("refuses_at_once", "0"), ("refuses_late", "1.5")):
+        for name, wait in (("refuses_at_once", "0"), ("refuses_late", "8")):
             self.put(name, REFUSER.format(wait))
         return self.again(*words)
 
     def again(self, name: str, *words: str) -> Done:
         """A call beside the programs that are there."""
-        path = f"{TOP}/bench/{name}.py"
-        return call(script_entry(path), [path, *words], env={"PATH": f"{self.work}:{os.environ['PATH']}"})
+        env = {"PATH": f"{self.work}:{os.environ['PATH']}", "PIPECHECK": program()}
+        return run([sys.executable, "-S", f"{TOP}/bench/{name}.py", *words], env=env, seconds=3600)
 
     def judge_rows(self, rows: list[Row], is_counted: bool = False) -> None:
         """Each call ends as it should."""

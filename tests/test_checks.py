@@ -11,7 +11,7 @@ from glob import glob
 from tests.cases import TOP, Cases, Done, read, run
 
 SHELL = re.compile(r"#!.*(/|[ \t])(ba|da)?sh$|# shellcheck shell=")
-PYTHON = re.compile(r"#!.*[ \t]python3( -E -S)?$")
+PYTHON = re.compile(r"#!.*[ \t]python3( -I -S)?$")
 # where scripts find modules by their bare names
 FOLDERS = ("bench", "tests")
 

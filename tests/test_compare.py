@@ -12,11 +12,10 @@ import re
 import signal
 import subprocess
 import sys
-from contextlib import ExitStack, redirect_stderr
+from contextlib import redirect_stderr
 from dataclasses import dataclass
 from functools import cache
 from glob import glob
-from unittest.mock import patch
 
 from tests.cases import PATIENCE, TOP, Cases, call, comes, pipecheck, program, read, run, tool, tool_entry, write
 
@@ -444,15 +443,19 @@ def log_of_tso(path: str) -> str:
 class Compared(Cases):
     """In a folder with the listings, whose logs are named as in it."""
 
+    @classmethod
+    def setUpClass(cls) -> None:
+        super().setUpClass()
+        # each model is read once
+        cls.replace(answering, "read_model", READ)
+
     def setUp(self) -> None:
         super().setUp()
         self.addCleanup(os.chdir, os.getcwd())
         os.chdir(self.work)
-        # of a program that this names nothing is said; each model is read once
-        with ExitStack() as stack:
-            stack.enter_context(patch.dict(os.environ, {"PIPECHECK": program()}))
-            stack.enter_context(patch.object(answering, "read_model", READ))
-            self.addCleanup(stack.pop_all().close)
+        # of a program that this names nothing is said
+        os.environ["PIPECHECK"] = program()
+        self.addCleanup(os.environ.pop, "PIPECHECK")
         for name, text in LISTINGS.items():
             write(f"{name}.litmus", text)
 
@@ -557,7 +560,7 @@ pipecheck: these words are no command; how compare is called stands above
 
     def test_signal(self) -> None:
         os.mkdir("temporary")
-        sleeper = self.stub("sleeper", 'echo $$ >"$0.pid"; exec sleep 100')
+        sleeper = self.stub("sleeper", 'echo $$ >"$0.pid"; exec sleep 600')
         env = {**os.environ, "PIPECHECK": sleeper, "TMPDIR": f"{self.work}/temporary"}
         with subprocess.Popen([pipecheck(), "compare", BUFFERS, "SB.litmus", "log"], env=env) as called:
             is_called = comes(lambda: os.path.exists(f"{sleeper}.pid") and os.path.getsize(f"{sleeper}.pid") > 0)

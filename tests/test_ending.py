@@ -4,10 +4,9 @@ from __future__ import annotations
 import os
 import signal
 import tempfile
-from typing import Any, Callable
-from unittest.mock import patch
+from typing import Any, Callable, ContextManager
 
-from tests.cases import TOP, Cases, Done, call, program, script_entry, tool_entry, write
+from tests.cases import TOP, Cases, Done, call, program, replaced, script_entry, tool_entry, write
 
 from tools import ending
 
@@ -55,7 +54,7 @@ class Ended(Cases):
         said = [it.replace("WORK", self.work).replace("PROGRAM", program()) for it in words]
         return call(begin, ["tool", *said], env=env)
 
-    def signalled(self, room: str, moment: str) -> Any:
+    def signalled(self, room: str, moment: str) -> ContextManager[None]:
         """Has the signal come when a function of `os` is first called of what stands in the folder for temporary files: before it is
         done, or after. That it came is noted beside that folder."""
         name, _, when = moment.partition(" ")
@@ -71,7 +70,7 @@ class Ended(Cases):
             if not is_there or when == "before":
                 real(path, *words, **how)
 
-        return patch.object(os, name, signals)
+        return replaced(os, name, signals)
 
     def test_moments(self) -> None:
         write(f"{self.work}/log", LOG)
@@ -106,7 +105,7 @@ class Ended(Cases):
                     write(f"{folder}/file", "")
                 return 0
 
-            with patch.object(signals, "remove", removes):
+            with replaced(signals, "remove", removes):
                 return signals.status_or_end(work)
 
         def twice() -> int:

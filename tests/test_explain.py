@@ -14,10 +14,10 @@ import time
 from dataclasses import dataclass
 from threading import Thread
 from typing import Any, Sequence
-from unittest.mock import patch
 
 from tests.cases import (
-    TOP, Cases, Done, call, commands_without, pipecheck, program, read, run, status_of, without_output, without_proofs, write
+    TOP, Cases, Done, call, commands_without, pipecheck, program, read, replaced, run, status_of, without_output, without_proofs,
+    write
 )
 
 from tools.explain import main as explain
@@ -373,7 +373,7 @@ class Words(Cases):
     def test_too_much(self) -> None:
         """three quantifiers over 64 micro-ops, without guards, are too much"""
         graph = "observable\ntest unstated\n" + "".join(f"node {k}.0@{k % 8}:S\n" for k in range(64)) + "end\n"
-        with patch.object(origins, "MOST_STEPS", origins.MOST_STEPS // 10):
+        with replaced(origins, "MOST_STEPS", origins.MOST_STEPS // 10):
             done = explained(self.work, self.file("m", MANY), self.file("t", OF_64), self.file("c", graph))
         self.assertEqual(done, Done(125, "", "explain: not explained: the axioms ask too much of so many micro-ops; "
                                              "guards in front of quantifiers make it less\n"))

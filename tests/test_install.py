@@ -214,8 +214,7 @@ pipecheck: in-order.uspec is a model, and stands for the test: check MODEL TEST
                 self.assertRegex(self.answer("pipecheck", *words).out, f"(?m){line}")
         with self.case("installed: of script/ what an installed copy calls"):
             self.assertEqual(sorted(os.listdir(f"{self.tree}/script")), [
-                "calls", "completing", "completion.bash", "completion.fish", "completion.zsh", "explaining", "python",
-                "standing", "telling",
+                "calls", "completion.bash", "completion.fish", "completion.zsh", "standing", "telling",
             ])
         os.rename(f"{self.tree}/docs", f"{self.tree}/away")
         self.holds(
@@ -521,14 +520,15 @@ class Fails(Installs):
         is_left("... leaves the older one")
         with self.manual("exit 1\n"):
             self.is_refused(
-                "a man page that cannot be made", "install: the man page pipecheck(1) could not be made\n", ["./install", self.way]
+                "a man page that cannot be made", "install: the man page pipecheck-suite(1) could not be made\n",
+                ["./install", self.way],
             )
         is_left("... leaves the older one")
 
     @contextlib.contextmanager
     def manual(self, text: str) -> Iterator[str]:
-        """Has this make the man pages meanwhile."""
-        path = f"{self.top}/script/manual"
+        """Has this say meanwhile what a man page is made of."""
+        path = f"{self.top}/examples/suite"
         shutil.move(path, f"{self.work}/manual")
         command(path, text)
         try:
@@ -552,22 +552,22 @@ class Fails(Installs):
 
     def test_signals(self) -> None:
         is_left, begun = self.older_one(), f"{self.work}/begun"
-        with self.manual(f": >'{begun}'\nexec sleep 60\n"):
+        with self.manual(f": >'{begun}'\nexec sleep 600\n"):
             for name, status in (("HUP", 129), ("INT", 130), ("QUIT", 131), ("TERM", 143)):
                 done = self.ended([self.way], begun, signal.Signals[f"SIG{name}"], {}, False)
                 self.judge(f"an install that {name} ends", done, status)
                 is_left("... leaves the older one")
         # Ctrl-C reaches all that the script began, also a Python that loads, and would say then where it was
-        command(f"{self.work}/late/python3", """[ "${6-}" = "$LATE" ] || exec "$PYTHON" "$@"
-exec "$PYTHON" -c 'import sys, time; open(sys.argv[1], "w").close(); time.sleep(60)' "$BEGUN"
+        command(f"{self.work}/late/python3", """[ "${5-}" = "$LATE" ] || exec "$PYTHON" "$@"
+exec "$PYTHON" -c 'import sys, time; open(sys.argv[1], "w").close(); time.sleep(600)' "$BEGUN"
 """)
-        for late in ("judge", "install", "uninstall"):
+        way = [self.way]
+        for name, late, words in (("judge", "judge", way), ("install", "install", way), ("uninstall", "judge", ["--uninstall", *way])):
             env: dict[str, str | None] = {
                 "PYTHON": f"{self.plain}/python3", "BEGUN": begun, "LATE": late, "PATH": f"{self.work}/late:{self.plain}",
             }
-            words = ["--uninstall", self.way] if late == "uninstall" else [self.way]
             done = self.ended(words, begun, signal.SIGINT, env, True)
-            self.judge(f"Ctrl-C while Python loads to {late}: nothing is said", done, 130)
+            self.judge(f"Ctrl-C while Python loads to {name}: nothing is said", done, 130)
         is_left("... and the older one is left")
         # Ctrl-\ reaches what the script waits for, too; a shell names the signal then
         for name in ("readlink", "python3"):

@@ -15,7 +15,6 @@ import signal
 import sys
 import tempfile
 from typing import Callable, NamedTuple, Sequence
-from unittest import mock
 
 from tests.cases import Cases
 
@@ -40,7 +39,6 @@ FILES = {
     "script/completion.bash": "bash\n",
     "script/completion.fish": "fish\n",
     "script/completion.zsh": "zsh\n",
-    "script/manual": '#!/bin/sh\necho "the page $1"\n',
     "tools/agree/machines/sc.py": "machine\n",
 }
 Texts = dict[str, str]
@@ -350,8 +348,8 @@ def run_again_and_again(room: Room, new: Texts) -> int:
     return count
 
 
-def page(name: str) -> str:
-    """A man page, as the script of the small checkout writes it; a shell for each would be started thousands of times."""
+def page(_: str, name: str) -> str:
+    """A man page. The small checkout has none of the pages that one is made of."""
     return f"the page {name}\n"
 
 
@@ -367,9 +365,7 @@ class InARoom(Cases):
         memory = "/dev/shm"
         folder = tempfile.mkdtemp(prefix="pipecheck-tests-", dir=memory if os.access(memory, os.W_OK) else None)
         cls.addClassCleanup(shutil.rmtree, folder, ignore_errors=True)
-        patched = mock.patch.object(installer, "manual", page)
-        patched.start()
-        cls.addClassCleanup(patched.stop)
+        cls.replace(installer, "manual", page)
         cls.addClassCleanup(os.umask, os.umask(0o022))
         cls.room = Room(folder)
         for version in ("1", "2"):

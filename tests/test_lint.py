@@ -12,10 +12,9 @@ import shutil
 import sys
 from dataclasses import dataclass, field
 from typing import Any, Callable, Iterable, Sequence
-from unittest.mock import patch
 
 from tests.cases import (
-    TOP, Cases, Done, call, commands_without, pipecheck, program, read, run, without_output, without_proofs, write
+    TOP, Cases, Done, call, commands_without, pipecheck, program, read, replaced, run, without_output, without_proofs, write
 )
 
 from tools.lint import main as lint
@@ -780,10 +779,14 @@ def once(method: Callable[..., Iterable[Slip]]) -> Callable[..., list[Slip]]:
     return first
 
 
-@patch.object(Linter, "part_slips", once(Linter.part_slips))
-@patch.object(FreeNodes, "of_made", once(FreeNodes.of_made))
 class Shipped(Cases):
     """Lint says nothing of what is shipped."""
+
+    @classmethod
+    def setUpClass(cls) -> None:
+        super().setUpClass()
+        cls.replace(Linter, "part_slips", once(Linter.part_slips))
+        cls.replace(FreeNodes, "of_made", once(FreeNodes.of_made))
 
     def says_nothing(self, model: str, tests: Sequence[str], query: str | None = None) -> None:
         read_queries = [read_query_file(it, read(it).encode(), model_of(model)) for it in [query] if it]
@@ -877,7 +880,7 @@ class Large(Cases):
         names = [f"i{k}" for k in range(32)]
         reads, nodes = " /\\ ".join(f"IsAnyRead {it}" for it in names), "; ".join(f"({it}, S)" for it in names)
         # lint gives it up, here after a third of the steps
-        with patch.object(linting_nodes, "STEPS", 500_000), patch.object(linting_idle, "STEPS", 170_000):
+        with replaced(linting_nodes, "STEPS", 500_000), replaced(linting_idle, "STEPS", 170_000):
             self.is_quick("32 quantifiers over 64 micro-ops",
                           f'StageName 0 "S".\nAxiom "a": {over(names)}{reads} => NodesExist [{nodes}].\n',
                           alone(*(f"{k} 0 0 0 (Fence)" for k in range(64))), [])

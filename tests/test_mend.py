@@ -6,9 +6,8 @@ import signal
 import subprocess
 import sys
 import textwrap
-from unittest.mock import patch
 
-from tests.cases import TOP, Cases, Done, call, comes, command, pipecheck, program, read, status_of, write
+from tests.cases import TOP, Cases, Done, call, comes, command, pipecheck, program, read, replaced, status_of, write
 
 from tools.mend import main as mend
 from tools.second.standard_output import status_of as status_of_main
@@ -100,7 +99,7 @@ class Orders(Cases):
 
     def mends(self) -> int:
         """mend.py of a checkout in the folder of these cases."""
-        with patch.object(mend, "TOP", self.work):
+        with replaced(mend, "TOP", self.work):
             return status_of_main(mend.main, sys.argv[1:])
 
 

@@ -18,9 +18,8 @@ import threading
 import time
 from dataclasses import replace
 from typing import Callable
-from unittest.mock import patch
 
-from tests.cases import PATIENCE, TOP, Done, apart, call, comes, program, read, text_of, tool, write
+from tests.cases import PATIENCE, TOP, Done, apart, call, comes, program, read, replaced, text_of, tool, write
 from tests.suite_cases import CORR, EARLY, GOOD, MP, NO_FAULTS, SB, SC, TUTORIAL, SuiteCases, no_lint, of_suite
 
 from tools.ending import SIGNALS as RECEIVED, Interrupted
@@ -168,8 +167,8 @@ class Checkers(SuiteCases):
                 "a status with another verdict", "echo observable; echo test forbidden: BUG; exit 1",
                 "echo verified unobservable; exit 1", "status:1", "0 time, 2 faults",
             ),
-            ("a judge that is late", said, "sleep 30", "time", "2 time, 0 faults"),
-            ("a checker that is late", "sleep 30", "exit 1", "time", "2 time, 0 faults"),
+            ("a judge that is late", said, "sleep 600", "time", "2 time, 0 faults"),
+            ("a checker that is late", "sleep 600", "exit 1", "time", "2 time, 0 faults"),
             ("a judge without its line", said, "exit 1", "certificate", "0 time, 2 faults"),
             (
                 "a certificate that is refused", said, "echo certificate refused at line 3; exit 6", "certificate",
@@ -183,8 +182,8 @@ test  sc-inorder
 MP    {cell}
 SB    {cell}
 2 pairs: 0 ok, 0 BUG, 0 stricter, {counts}, in N s
-""", SC, PIPECHECK=self.liar(checks, verifies), SUITE_SECONDS="2" if "late" in name else "60")
-        leaving = self.liar(f"sleep 30 & {said}", "sleep 30 & echo verified unobservable; exit 1")
+""", SC, PIPECHECK=self.liar(checks, verifies), **({"SUITE_SECONDS": "10"} if "late" in name else {}))
+        leaving = self.liar(f"sleep 600 & {said}", "sleep 600 & echo verified unobservable; exit 1")
         self.table("a checker that leaves something running", 0, GOOD, SC, PIPECHECK=leaving)
 
     def test_memory(self) -> None:
@@ -304,7 +303,7 @@ test   sc-inorder
 large  observable
 not compared with a machine within the limit of time: 1 test, the first WORK/large.test
 1 pairs: 0 ok, 0 BUG, 0 stricter, 1 unstated, 0 time, 0 faults, in N s
-""", SC, "WORK/large.test", PIPECHECK=liar, SUITE_SECONDS="2")
+""", SC, "WORK/large.test", PIPECHECK=liar, SUITE_SECONDS="5")
 
     def test_environment(self) -> None:
         """What the suite starts of Python has nothing of the environment."""
@@ -485,8 +484,8 @@ class Signals(SuiteCases):
         signal.signal(signal.SIGINT, signal.default_int_handler)
         # a child of the checker goes on where the checker alone is ended, and so does one that ignores signals
         ignored = " ".join(number.name.removeprefix("SIG") for number in SIGNALS)
-        self.checker = self.script("checker", f'[ $# -gt 0 ] || exit 2\ntrap "" {ignored}\necho observable\nsleep 300 &\nwait')
-        self.env = {"PIPECHECK": self.checker, "SUITE_SECONDS": "300"}
+        self.checker = self.script("checker", f'[ $# -gt 0 ] || exit 2\ntrap "" {ignored}\necho observable\nsleep 600 &\nwait')
+        self.env = {"PIPECHECK": self.checker, "SUITE_SECONDS": "600"}
 
     def wait_for(self, is_so: Callable[[], bool]) -> None:
         """Waits until something comes true, or fails."""
@@ -524,14 +523,14 @@ class Signals(SuiteCases):
                 time.sleep(1)
                 signal.pthread_kill(threading.get_ident(), signal.SIGTERM)
                 with open(os.devnull, "wb") as out:
-                    return calls.status(["sleep", "120"], None, 120, out)
+                    return calls.status(["sleep", "600"], None, 600, out)
 
             RECEIVED.receive(ENDING)
             begun = time.monotonic()
             try:
                 side_by_side(calls, 1, [task], lambda _, __: None)
             except Interrupted as interrupted:
-                return interrupted.number if time.monotonic() < begun + 60 else 1
+                return interrupted.number if time.monotonic() < begun + PATIENCE else 1
             return 0
 
         self.same("a signal that Python does not see at once ends a call", call(entry, []).status, signal.SIGTERM)
@@ -565,19 +564,19 @@ class Signals(SuiteCases):
     def test_limits(self) -> None:
         """A call has a limit of processor time, which holds where its suite was ended by force; one that stands is kept."""
         checker = self.script("limited", '[ $# -gt 0 ] || exit 2\nulimit -S -t >"$0.limit"')
-        whole = 3 * len(os.sched_getaffinity(0)) + 1
+        whole = 30 * len(os.sched_getaffinity(0)) + 1
         for name, shell, wanted in (
-            ("3 seconds on each processor, and one more", 'exec "$@"', whole),
-            ("a lower limit that stands", 'ulimit -S -t 3; exec "$@"', 3),
+            ("30 seconds on each processor, and one more", 'exec "$@"', whole),
+            ("a lower limit that stands", 'ulimit -S -t 30; exec "$@"', 30),
         ):
-            self.started(TUTORIAL, MP, env={"PIPECHECK": checker, "SUITE_SECONDS": "2.5"}, before=["sh", "-c", shell, "sh"])
+            self.started(TUTORIAL, MP, env={"PIPECHECK": checker, "SUITE_SECONDS": "29.5"}, before=["sh", "-c", shell, "sh"])
             self.same(f"the processor time of a call: {name}", read(f"{checker}.limit"), f"{wanted}\n")
 
     def test_build(self) -> None:
         """A build ends with the suite, and may clean up before."""
         self.top, note = f"{self.work}/copy", f"{self.work}/built"
         shutil.copytree(apart(), self.top, symlinks=True)
-        write(f"{self.top}/script/calls", f"ensure_built() {{ trap 'rm -f {note}' EXIT; : >{note}; sleep 300; }}\n")
+        write(f"{self.top}/script/calls", f"ensure_built() {{ trap 'rm -f {note}' EXIT; : >{note}; sleep 600; }}\n")
         process = self.begun(TUTORIAL, MP)
         self.wait_for(lambda: os.path.exists(note))
         groups = groups_of(running(self.top)) - {os.getpgid(0)}
@@ -760,7 +759,7 @@ class Parts(SuiteCases):
             verdicts.keep(model, test, found, text)
             os.utime(verdicts.place(model, test), (1000 - age, 1000 - age))
         self.same("a verdict is taken", verdicts.found(model, tests[2]), (found, text))
-        with patch.object(kept, "MOST_BYTES", 2500):
+        with replaced(kept, "MOST_BYTES", 2500):
             verdicts.shorten()
         left = {os.path.basename(verdicts.place(model, test)) for test in (tests[0], tests[2])}
         name = "the one that was not taken for longest goes, with what is half written"

@@ -72,7 +72,7 @@ class Shipped(SuiteCases):
     def test_all(self) -> None:
         """The first suite is ended when it has some, and the next one goes on from there."""
         self.lint_lines = no_lint
-        env = {"SUITE_TESTS": f"{TOP}/examples/tests", "SUITE_FOLDER": "WORK/ended", "SUITE_SECONDS": "60"}
+        env = {"SUITE_TESTS": f"{TOP}/examples/tests", "SUITE_FOLDER": "WORK/ended"}
         process = self.begun(env={**env, "SUITE_JOBS": "1"}, stderr=subprocess.PIPE)
         while process.poll() is None and len(glob.glob(f"{self.work}/ended/*/*.certificate")) < 50:
             time.sleep(0.1)

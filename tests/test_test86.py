@@ -28,6 +28,8 @@ from tools.telling.refusals import refusal_of as read_refusal
 from tools.listings.test86 import test_of
 
 # one that asks for values and program order, and one that asks for fences, too
+# what the script calls, in a process that is forked from this one
+TEST86 = tool_entry("listings.test86")
 MODELS = [f"{TOP}/examples/store-buffer.uspec", f"{TOP}/examples/models/tso-buffer.uspec"]
 LOCATIONS = ["x", "y", "z", "flag", "MOV", "exists", "x_1"]
 REGISTERS = ["EAX", "EBX", "RAX", "MFENCE", "r9"]
@@ -334,7 +336,8 @@ class Typed(Cases):
         for name, listing, text, said in [*((*it, "") for it in TYPED), *BEYOND]:
             path = self.put(listing)
             lines = "".join(f"{path}:{it}" for it in said.splitlines(True))
-            self.gives(f"test86: {name}", [pipecheck(), "test86", path], 0, text, lines)
+            self.judge(f"test86: {name}", call(TEST86, ["test86", path]), 0, text, lines)
+        self.gives("test86: by the script", [pipecheck(), "test86", path], 0, text, lines)
 
     def test_refusals(self) -> None:
         for cell, below, wanted in REFUSED_BEYOND:
@@ -343,10 +346,9 @@ class Typed(Cases):
                 self.assertEqual(refusal_of(text.encode("ascii")), f"refused test {wanted}\n")
         many = b"".join(b"v%d=1;" % number for number in range(110_000))
         large = b"X86 m\n{ " + many + b" }\n P0 ;\n MFENCE ;\nexists x=1\n"
-        entry = tool_entry("listings.test86")
         for name, listing, line in [*REFUSED, ("a test that would be too large", large, "refused test too-large at 1:1\n")]:
             path = self.put(listing)
-            done = call(entry, ["test86", path])
+            done = call(TEST86, ["test86", path])
             with self.case(f"test86: {name} is refused"):
                 self.assertEqual((done.status, done.out), (3, line))
                 _, _, fault, _, place = line.split()

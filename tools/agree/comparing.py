@@ -8,8 +8,7 @@ from functools import lru_cache
 from glob import glob
 from importlib import import_module
 from types import ModuleType
-from typing import Collection, NamedTuple
-
+from typing import Callable, Collection, NamedTuple
 
 from tools import TOP
 from tools.agree.listing import read_file
@@ -19,7 +18,6 @@ from tools.agree.verdicts import is_alike, runs
 from tools.agree.working import Unusable
 from tools.lint.lines import line_of
 from tools.lint.linting import Asked
-from tools.lint.main import LIMIT, sentence
 from tools.second.cases import Case, Entry
 from tools.second.evaluating import false_axioms
 from tools.second.grounding import ground
@@ -32,6 +30,8 @@ from tools.second.tokens import Fault
 from tools.standing import standing
 from tools.suite.programs import command_of, held
 from tools.suite.refusing import Refusal
+from tools.telling.files import sentence
+from tools.texts.contents import Read, Unreadable, contents, read_within
 from tools.texts.memory_models import memory_model_of
 from tools.texts.quoting import shown
 
@@ -43,10 +43,6 @@ LOCKED = "Locked"
 # a module of the folder of machines, or of one in it
 NAME = re.compile(r"[a-z0-9_-]+(?:\.[a-z0-9_-]+)*")
 MACHINE = re.compile(r"^def outcomes\(", re.MULTILINE)
-
-
-class Unreadable(Exception):
-    """A file cannot be read, and why."""
 
 
 class Refused(Exception):
@@ -86,18 +82,12 @@ class Other:
         return test.rows_shown_by(machine_of(self.name).outcomes(test))
 
 
-def contents(path: str) -> bytes:
-    """The bytes of a file, with one more than the limit where there are more."""
+def judged(kind: str, path: str, text: bytes, read: Callable[[bytes], Read]) -> Read:
+    """What a reader makes of a file's text, or the line that tells its fault."""
     try:
-        with open(path, "rb") as file:
-            return file.read(LIMIT + 1)
-    except OSError as error:
-        raise Unreadable(f"{shown(path)}: {error.strerror}") from error
-
-
-def refusal(kind: str, path: str, text: bytes, fault: Fault) -> Refused:
-    """The fault of a file as a line."""
-    return Refused(line_of(path, text, fault.place, f"{fault.word}: {sentence(kind, fault.word)}"))
+        return read_within(read, text)
+    except Fault as fault:
+        raise Refused(line_of(path, text, fault.place, f"{fault.word}: {sentence(TOP, kind, fault.word)}")) from fault
 
 
 def named_memory_model(path: str) -> str:
@@ -134,25 +124,13 @@ def is_machine_file(path: str) -> bool:
 @lru_cache(None)
 def model_of(path: str) -> Model:
     """The model of a file, as the second implementation reads it."""
-    text = contents(path)
-    try:
-        if len(text) > LIMIT:
-            raise Fault("too-large", 0)
-        return read_model(text)
-    except Fault as fault:
-        raise refusal("model", path, text, fault) from fault
+    return judged("model", path, contents(path), read_model)
 
 
 @lru_cache(None)
 def case_of(path: str) -> Case:
     """The case of a file, as the second implementation reads it."""
-    text = contents(path)
-    try:
-        if len(text) > LIMIT:
-            raise Fault("too-large", 0)
-        return read_file_items(path, text)[0]
-    except Fault as fault:
-        raise refusal("test", path, text, fault) from fault
+    return judged("test", path, contents(path), lambda text: read_file_items(path, text)[0])
 
 
 @lru_cache(None)
@@ -212,10 +190,7 @@ def pattern_of(path: str, is_opened: bool) -> bytes:
     """The text of a pattern; of a test whose reads are opened, the pattern that it is then."""
     text = contents(path)
     text = READ.sub(OPEN, text) if is_opened else text
-    try:
-        read_pattern(text)
-    except Fault as fault:
-        raise refusal("test", path, text, fault) from fault
+    judged("test", path, text, read_pattern)
     return text
 
 

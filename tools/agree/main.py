@@ -45,8 +45,8 @@ sys.dont_write_bytecode = True
 
 from tools import TOP
 from tools.agree.comparing import (
-    PATTERN, Other, Pair, Refused, Unreadable, contents, difference, is_allowed, machine_of, machine_takes, model_of,
-    model_takes, named_memory_model, pattern_of, sweeper, test_of
+    PATTERN, Other, Pair, Refused, difference, is_allowed, machine_of, machine_takes, model_of, model_takes, named_memory_model,
+    pattern_of, sweeper, test_of
 )
 from tools.agree.comparing_programs import Comparison, Small
 from tools.agree.counts import Counts, tell
@@ -55,6 +55,7 @@ from tools.agree.working import ENDING, Unusable, Workers
 from tools.ending import SIGNALS
 from tools.second.standard_output import FAILED, UNREAD, status_of
 from tools.suite.words import folder_of
+from tools.texts.contents import Unreadable, contents
 from tools.texts.quoting import quoted, shown
 
 KINDS = ("tests/*.test", "x86/*.litmus", "locked/*.test", "translation/*.test", "patterns/*.pattern")
@@ -199,23 +200,29 @@ def main(*words: str) -> int:
         return FAILED
 
 
+def parser() -> ArgumentParser:
+    """What reads the words of the command line."""
+    found = ArgumentParser("pipecheck agree", description=__doc__, formatter_class=RawDescriptionHelpFormatter)
+    found.add_argument("--open", action="store_true")
+    found.add_argument("--reading", action="store_true")
+    found.add_argument("--as", dest="machine", metavar="MACHINE")
+    found.add_argument("--random", nargs=2, type=int, metavar=("SEED", "COUNT"))
+    found.add_argument("--all", type=named_shapes, metavar="SHAPES")
+    found.add_argument("--locations", type=int, choices=range(1, MOST_LOCATIONS + 1), metavar="N")
+    found.add_argument("--fences", action="store_true")
+    found.add_argument("--locked", action="store_true")
+    found.add_argument("--between", nargs=2, metavar=("MODEL", "MODEL"))
+    found.add_argument("files", nargs="*")
+    return found
+
+
 def options_of(words: Sequence[str]) -> Namespace:
     """The words of the command line."""
-    parser = ArgumentParser("pipecheck agree", description=__doc__, formatter_class=RawDescriptionHelpFormatter)
-    parser.add_argument("--open", action="store_true")
-    parser.add_argument("--reading", action="store_true")
-    parser.add_argument("--as", dest="machine", metavar="MACHINE")
-    parser.add_argument("--random", nargs=2, type=int, metavar=("SEED", "COUNT"))
-    parser.add_argument("--all", type=named_shapes, metavar="SHAPES")
-    parser.add_argument("--locations", type=int, choices=range(1, MOST_LOCATIONS + 1), metavar="N")
-    parser.add_argument("--fences", action="store_true")
-    parser.add_argument("--locked", action="store_true")
-    parser.add_argument("--between", nargs=2, metavar=("MODEL", "MODEL"))
-    parser.add_argument("files", nargs="*")
-    options = parser.parse_args(words)
+    reader = parser()
+    options = reader.parse_args(words)
     fault = fault_of(options)
     if fault:
-        parser.error(fault)
+        reader.error(fault)
     return options
 
 

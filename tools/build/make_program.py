@@ -1,13 +1,10 @@
-"""Proves the program's crates and builds the program, and says on standard error how that goes. making.py says how it is
-called. `rt ci` proves the libraries, in a copy, since it takes no repository inside another one; the program over them is
-one call more.
-"""
+"""Proves the program's crates and builds the program, and says on standard error how that goes. `rt ci` proves the libraries, in a
+copy, since it takes no repository inside another one; the program over them is one call more."""
 
 from __future__ import annotations
 
 import os
 import re
-import sys
 import tempfile
 from dataclasses import dataclass
 from typing import IO
@@ -76,8 +73,8 @@ def make(job: making.Job) -> None:
     with making.temporary_folder() as room, open(job.log, "wb") as log:
         build = Build(job, f"{room}/libraries", f"{room}/checkout", f"{room}/temporary", log)
         os.mkdir(build.temporary, 0o711)
-        making.copy_crates(job.top, [it for it in job.crates if it != one_call.PROGRAM], build.libraries)
-        making.copy_crates(job.top, job.crates, build.checkout)
+        making.copy_crates([it for it in job.crates if it != one_call.PROGRAM], build.libraries)
+        making.copy_crates(job.crates, build.checkout)
         making.refuse_changes(job)
         os.environ.update(jobs.environment())
         if not build.is_made():
@@ -85,7 +82,3 @@ def make(job: making.Job) -> None:
             raise making.Failed(f"all that rt printed stands in {job.log}")
         making.put_in_place(job, f"{build.checkout}/crates/{one_call.PROGRAM}/out/{one_call.PROGRAM}")
     making.say(f"proved and built after {making.elapsed(job)}")
-
-
-if __name__ == "__main__":
-    sys.exit(making.main(make))

@@ -1,15 +1,5 @@
-"""What both makers of the program share: make_program.py, which proves it, and make_unproved.py, which compiles it without
-its proofs. Each is called so, by script/build:
-
-    make_NAME.py TOP PROGRAM NOTE LOG SOURCES TOOL CRATE..
-
-TOP is a checkout, PROGRAM the file that the program stands in, NOTE the one beside it that says what it is of, LOG the one
-that gets what the toolchain prints. SOURCES is the hash of the sources, TOOL what the toolchain says of itself, and CRATE..
-are the crates that the program is made of.
-
-The status is 0 where PROGRAM was made, and stands for these sources by NOTE; what stood before is kept until then. A signal
-that asks for an end ends all that was started here, and removes the copy.
-"""
+"""What both makers of the program share: make_program.py, which proves it, and make_unproved.py, which compiles it without its
+proofs. A program that was made stands for its sources by its note; what stood before is kept until then."""
 
 from __future__ import annotations
 
@@ -19,44 +9,63 @@ import os
 import re
 import shutil
 import subprocess
-import sys
 import tempfile
 import time
 from dataclasses import dataclass, field
-from typing import IO, Callable, Iterator
+from typing import IO, Callable, Iterator, Optional
 
 from tools import TOP
 from tools.build.processes import SIGNALS, running
-from tools.ending import Interrupted
 
 # What `rt` and its tools print that says nothing of why they failed.
 WELL = re.compile(r": proved$|^(statements|library|logic|by-macro) ")
-# the hash that script/build has of the sources
-HASH = 'top=$1; . "$top/script/calls" && hash_sources'
+# where the programs stand
+OUT = f"{TOP}/crates/pipecheck_cli/out"
+ASKED = 'top=$1; . "$top/script/calls" && '
 
 
 class Failed(Exception):
     """The program is not made."""
 
-    status = 1
+    def __str__(self) -> str:
+        return f"the program could not be built: {self.args[0]}"
 
 
 class NothingMade(Failed):
     """The toolchain did nothing by the words that it was given, as where its words are others."""
 
-    status = 3
-
 
 @dataclass
 class Job:
-    top: str
-    program: str
-    note: str
-    log: str
+    """A program that is made: its kind, the hash of its sources, what the toolchain says of itself, and the crates that it is made
+    of. `log` gets what the toolchain prints."""
+
+    kind: str
     sources: str
     tool: str
     crates: list[str]
     begun: float = field(default_factory=time.monotonic)
+
+    @property
+    def program(self) -> str:
+        return f"{OUT}/{self.kind}_cli"
+
+    @property
+    def note(self) -> str:
+        return f"{OUT}/{self.kind}_built"
+
+    @property
+    def log(self) -> str:
+        return f"{OUT}/{self.kind}_build.log"
+
+
+def asked(words: str) -> Optional[str]:
+    """What a function of script/build prints; None where it fails."""
+    done = subprocess.run(
+        ["bash", "-p", "-c", ASKED + words, "asked", TOP], stdin=subprocess.DEVNULL, stdout=subprocess.PIPE,
+        stderr=subprocess.DEVNULL, check=False,
+    )
+    return os.fsdecode(done.stdout).rstrip("\n") if done.returncode == 0 else None
 
 
 def put(text: str) -> None:
@@ -97,16 +106,16 @@ def temporary_folder() -> Iterator[str]:
         yield room
 
 
-def copy_crates(top: str, crates: list[str], to: str) -> None:
+def copy_crates(crates: list[str], to: str) -> None:
     """Makes a repository of these crates alone, without their edits that must fail."""
     os.makedirs(f"{to}/.git")
-    shutil.copy(f"{top}/HANDLES", to)
-    with open(f"{top}/crates.txt", encoding="utf-8") as given:
+    shutil.copy(f"{TOP}/HANDLES", to)
+    with open(f"{TOP}/crates.txt", encoding="utf-8") as given:
         lines = [line for line in given if re.split("[ :]", line)[0] in crates]
     with open(f"{to}/crates.txt", "w", encoding="utf-8") as kept:
         kept.writelines(lines)
     for name in crates:
-        crate = f"{top}/crates/{name}"
+        crate = f"{TOP}/crates/{name}"
 
         def left_out(folder: str, _: list[str], crate: str = crate) -> list[str]:
             return ["out", "must-fail"] if folder == crate else []
@@ -117,10 +126,7 @@ def copy_crates(top: str, crates: list[str], to: str) -> None:
 
 def refuse_changes(job: Job) -> None:
     """Refuses copies that may have more than one state of the sources: they are all made by now."""
-    asked = subprocess.run(
-        ["bash", "-c", HASH, "making", job.top], stdin=subprocess.DEVNULL, capture_output=True, check=False
-    )
-    if asked.returncode != 0 or os.fsdecode(asked.stdout).strip() != job.sources:
+    if asked("hash_sources") != job.sources:
         raise Failed("a source changed while it was copied, so call again")
 
 
@@ -160,26 +166,3 @@ def put_in_place(job: Job, made: str) -> None:
             for it in new.values():
                 with contextlib.suppress(OSError):
                     os.remove(it)
-
-
-def main(make: Callable[[Job], None]) -> int:
-    """Makes the program, and says what hinders it. The status."""
-    return SIGNALS.status_or_end(lambda: status_of(make))
-
-
-def status_of(make: Callable[[Job], None]) -> int:
-    top, program, note, log, sources, tool, *crates = sys.argv[1:]
-    job = Job(top, program, note, log, sources, tool, crates)
-    SIGNALS.receive()
-    try:
-        make(job)
-    except Failed as failed:
-        say(f"the program could not be built: {failed}")
-        return failed.status
-    except (OSError, shutil.Error) as error:
-        say(f"the program could not be built: {error}")
-        return 1
-    except Interrupted:
-        put_over("")
-        raise
-    return 0

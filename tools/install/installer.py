@@ -1,26 +1,36 @@
-"""Puts pipecheck under a prefix, updates what stands there, or takes it away. `install` calls it.
+"""Installs pipecheck under a folder, or takes away what was installed there.
 
-    python3 tools installer judge PREFIX                       whether it may be installed there; nothing is changed
-    python3 tools installer install PREFIX PROGRAM VERSION     VERSION is the text of the file `version`
-    python3 tools installer uninstall PREFIX
+    ./install [PREFIX]               default: the user's ~/.local; over an older one it updates
+    ./install --uninstall [PREFIX]
 
-installed.py says how an installation stands. An update makes the other tree, and one rename of the link puts it in use.
-The list of a tree stands before anything that it lists is made, and goes after all of it. So what was ended halfway is
-known, and the next call takes it away. To take away needs no room on the disk: nothing is written for it.
+PREFIX/lib/pipecheck gets the program, the scripts without what builds, the pages, the examples, the machines of the
+memory models and the files for editors; PREFIX/bin the commands pipecheck and pipecheck-suite; PREFIX/share their man
+pages, and the completion for bash, zsh and fish. What is installed needs neither this checkout nor the toolchain.
+
+Ended at any moment it leaves what stood there whole, or the new installation whole, and can be called again. A file of
+yours under one of these names is left, and nothing is installed. To take away needs no room on the disk. The status is
+0 where it is done, 1 where it is not, 125 where the program could not be proved; HUP, INT, QUIT and TERM end it by the
+signal.
 """
+# The script `install` calls it twice: with `judge` and its words, which does all but to install; the status is 3 where that is to
+# be done; and then, once a program stands, with `install`, that program and its words.
+#
+# installed.py says how an installation stands. An update makes the other tree, and one rename of the link puts it in use.
+# The list of a tree stands before anything that it lists is made, and goes after all of it. So what was ended halfway is
+# known, and the next call takes it away. To take away needs no room on the disk: nothing is written for it.
 import fcntl
 import io
 import os
 import shutil
-import subprocess
 import sys
-from collections.abc import Iterator
+from collections.abc import Iterator, Sequence
 from contextlib import ExitStack, contextmanager, suppress
 
 import tools
 from tools.build.processes import SIGNALS
+from tools.build.versions import origin
 from tools.install.installed import FOLDERS, IN_USE, LINKS, LIST, TREES, Listing, Prefix, Refused, is_below
-
+from tools.install.manual import NAMES, Unmade, manual
 
 TOP = tools.TOP
 
@@ -28,12 +38,8 @@ TOP = tools.TOP
 COPIED = ("README.md", "CONTRIBUTING.md", "NEWS.md", "commands.txt", "docs", "editors", "examples", "pipecheck", "script",
           "tools")
 # what builds, and what says what the crates and their definitions are
-LEFT_OUT = {"script/build", "script/keep_module", "script/manual", "tools/build", "tools/install", "tools/pages"}
+LEFT_OUT = {"script/build", "tools/build", "tools/install", "tools/pages"}
 LEFT_OUT_NAMES = {"__pycache__", ".gitignore"}
-
-
-class Failed(Exception):
-    """A step failed, and why."""
 
 
 def write_new(path: str, text: str) -> None:
@@ -72,14 +78,6 @@ def copy(source: str, target: str) -> None:
     else:
         shutil.copyfile(source, target)
         os.chmod(target, 0o755 if os.access(source, os.X_OK) else 0o644)
-
-
-def manual(name: str) -> str:
-    """The text of a man page."""
-    done = subprocess.run([os.path.join(TOP, "script", "manual"), name], stdout=subprocess.PIPE, check=False)
-    if done.returncode != 0:
-        raise Failed(f"the man page {name}(1) could not be made")
-    return done.stdout.decode("utf-8")
 
 
 class Installation(Prefix):
@@ -124,8 +122,8 @@ class Installation(Prefix):
         copy(program, os.path.join(folder, "pipecheck_cli"))
         write_new(os.path.join(folder, "version"), version + "\n")
         os.mkdir(os.path.join(folder, "man"))
-        for name in ("pipecheck", "pipecheck-suite"):
-            write_new(os.path.join(folder, "man", f"{name}.1"), manual(name))
+        for name in NAMES:
+            write_new(os.path.join(folder, "man", f"{name}.1"), manual(TOP, name))
 
     def put_link(self, name: str, end: str) -> None:
         """Puts a link in its place by one rename; its end is a path from the prefix."""
@@ -312,25 +310,46 @@ def tell_installed(prefix: Prefix) -> None:
         print(f"{prefix.at('bin')} is not in PATH")
 
 
-def main(work: str, path: str, *words: str) -> int:
-    """Does one of the three, and says what hinders it."""
+def prefix_of(words: Sequence[str]) -> str:
+    """The folder that words name."""
+    if len(words) > 1 or words and (not words[0] or words[0].startswith("-")):
+        raise Refused("call it as ./install [PREFIX], or ./install --uninstall [PREFIX]; --help says more")
+    if not words and not os.environ.get("HOME"):
+        raise Refused("HOME says no folder, so name one: ./install PREFIX")
+    return words[0] if words else os.path.join(os.environ["HOME"], ".local")
+
+
+def judge(*words: str) -> int:
+    """Does what needs no program, and answers the status."""
+    if words[:1] == ("--help",):
+        print(__doc__, end="")
+        return 0
+    if words[:1] == ("--uninstall",):
+        prefix = Installation(prefix_of(words[1:]))
+        prefix.uninstall()
+        print(f"removed from {prefix.path}")
+        return 0
+    Installation(prefix_of(words)).refuse()
+    return 3
+
+
+def install(program: str, *words: str) -> int:
+    """Installs this program."""
+    prefix = Installation(prefix_of(words))
+    prefix.install(program, origin())
+    tell_installed(prefix)
+    return 0
+
+
+def main(work: str, *words: str) -> int:
+    """Does it, and says what hinders it."""
     SIGNALS.receive()
     try:
-        prefix = Installation(path)
-        if work == "judge":
-            prefix.refuse()
-        elif work == "install":
-            prefix.install(*words)
-            tell_installed(prefix)
-        else:
-            prefix.uninstall()
-            print(f"removed from {prefix.path}")
-    except (Refused, Failed) as problem:
+        return judge(*words) if work == "judge" else install(*words)
+    except (Refused, Unmade) as problem:
         print(f"install: {problem}", file=sys.stderr)
     except OSError as error:
-        print(f"install: {error.filename2 or error.filename or path}: {error.strerror}", file=sys.stderr)
-    else:
-        return 0
+        print(f"install: {error.filename2 or error.filename or ' '.join(words[-1:])}: {error.strerror}", file=sys.stderr)
     return 1
 
 

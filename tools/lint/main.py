@@ -6,9 +6,9 @@ Each slip is a line `FILE:LINE:COLUMN: KIND: ..` on standard output, and so is a
 The exit status is 0 where there is no slip, 1 where there are some, 3 where a file is refused, 4 where one cannot be
 read, 5 where standard output could not be written, and 125 where this program fails.
 """
-import os
 import re
 import sys
+from functools import partial
 
 from tools import TOP
 from tools.lint.lines import line_of
@@ -18,38 +18,13 @@ from tools.second.queries import InModel
 from tools.second.scopes import read_model
 from tools.second.standard_output import UNREAD, status_of
 from tools.second.tokens import Fault
+from tools.telling.files import sentence, unreadable
+from tools.texts.contents import Unreadable, contents, read_within
 from tools.texts.expecting import sentence_of
 from tools.texts.quoting import shown
 
-LIMIT = 1_048_576
 # how the name of a query ends; any other file is a test, a listing or a pattern
 QUERY = ".query"
-PAGE = os.path.join(TOP, "docs", "faults.md")
-
-
-class Unreadable(Exception):
-    """A file cannot be read."""
-
-
-def contents(path: str) -> bytes:
-    """The bytes of a file, with one more than the limit where there are more."""
-    try:
-        with open(path, "rb") as file:
-            return file.read(LIMIT + 1)
-    except OSError as error:
-        raise Unreadable from error
-
-
-def sentence(kind: str, word: str) -> str:
-    """What docs/faults.md says of a fault's word; nothing where the page is missing."""
-    try:
-        with open(PAGE, encoding="utf-8") as file:
-            text = file.read()
-    except OSError:
-        return ""
-    table = text.partition(f"| word of a {kind} |")[2].partition("\n\n")[0]
-    found = re.search(rf"^\| [^|]*`{re.escape(word)}`[^|]* \| (.*) \|$", table, re.MULTILINE)
-    return found.group(1) if found else ""
 
 
 def is_test(text: bytes) -> bool:
@@ -68,9 +43,7 @@ class Files:
         """A model or a test; None where it is refused, which is told."""
         text = self.texts[path] = contents(path)
         try:
-            if len(text) > LIMIT:
-                raise Fault("too-large", 0)
-            return read_model(text) if kind == "model" else read_test(path, text)
+            return read_within(read_model, text) if kind == "model" else read_within(partial(read_test, path), text)
         except Fault as fault:
             self.tell(kind, path, fault)
             return None
@@ -79,9 +52,7 @@ class Files:
         """A query beside its model; None where it is refused, which is told: of the model where the fault is there."""
         text = self.texts[path] = contents(path)
         try:
-            if len(text) > LIMIT:
-                raise Fault("too-large", 0)
-            return read_query_file(path, text, model)
+            return read_within(lambda it: read_query_file(path, it, model), text)
         except Fault as fault:
             self.tell("model", model_path if isinstance(fault, InModel) else path, fault)
             return None
@@ -89,7 +60,7 @@ class Files:
     def tell(self, kind: str, path: str, fault: Fault) -> None:
         """The line of a fault."""
         self.is_refused = True
-        print(line_of(path, self.texts[path], fault.place, f"{fault.word}: {sentence(kind, fault.word)}"))
+        print(line_of(path, self.texts[path], fault.place, f"{fault.word}: {sentence(TOP, kind, fault.word)}"))
         expected = sentence_of(fault)
         if expected:
             print(f"pipecheck: {expected}", file=sys.stderr)
@@ -108,6 +79,8 @@ def main(model_path: str, *paths: str) -> int:
         read = [files.read_query(path, model_path, model) for path in asked] if isinstance(model, Model) else []
         queries = [query for query in read if query is not None]
     except Unreadable:
+        for line in unreadable([model_path, *paths]):
+            print(line, file=sys.stderr)
         return UNREAD
     count = 0
     if isinstance(model, Model):

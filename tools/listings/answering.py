@@ -21,20 +21,15 @@ from tools.suite.counting import Progress
 from tools.suite.pairs import Checker
 from tools.suite.programs import checker_of
 from tools.suite.telling import tell
+from tools.texts.contents import contents, read_within
 from tools.texts.quoting import shown
 
-# the program refuses longer models and tests
-LIMIT = 1_048_576
 LOG_LIMIT = 67_108_864
 # a sweep has no limit of time of its own
 SECONDS = 1e9
 # how many lines of one kind are told
 MOST_TOLD = 20
 NONE, SOME, REFUSED, MEMORY = 0, 1, 3, 7
-
-
-class Unreadable(Exception):
-    """A file cannot be read."""
 
 
 class Answer:
@@ -63,19 +58,10 @@ class Answer:
         return SOME if differing else next(iter(self.problems), NONE)
 
 
-def contents(path: str, limit: int) -> bytes:
-    """The bytes of a file, with one more than the limit where there are more."""
-    try:
-        with open(path, "rb") as file:
-            return file.read(limit + 1)
-    except OSError as error:
-        raise Unreadable from error
-
-
 def compare(model_path: str, listing_paths: Sequence[str], log_path: str, top: str) -> tuple[list[str], int]:
     """The lines and the status."""
-    model_text = contents(model_path, LIMIT)
-    listings = [(path, contents(path, LIMIT)) for path in listing_paths]
+    model_text = contents(model_path)
+    listings = [(path, contents(path)) for path in listing_paths]
     log_text = contents(log_path, LOG_LIMIT)
     answer = Answer()
     model = read_or_tell(answer, model_path, model_text)
@@ -101,9 +87,7 @@ def compare(model_path: str, listing_paths: Sequence[str], log_path: str, top: s
 def read_or_tell(answer: Answer, path: str, text: bytes) -> Model | None:
     """The model; None where it is refused, which is told."""
     try:
-        if len(text) > LIMIT:
-            raise Fault("too-large", 0)
-        return read_model(text)
+        return read_within(read_model, text)
     except Fault as fault:
         line = line_of(path, text, fault.place, f"{fault.word}: the model is refused")
         answer.tell("a refused model", line, REFUSED)
@@ -115,9 +99,7 @@ def read_listings(answer: Answer, listings: Sequence[tuple[str, bytes]]) -> dict
     found: dict[str, tuple[str, Program]] = {}
     for path, text in listings:
         try:
-            if len(text) > LIMIT:
-                raise Fault("too-large", 0)
-            program = read_program(text, Notes())
+            program = read_within(lambda it: read_program(it, Notes()), text)
         except Fault as fault:
             sentence = f"{fault.word}: the listing is refused; pipecheck test86 says what to do"
             answer.tell("refused listings", line_of(path, text, fault.place, sentence), REFUSED)

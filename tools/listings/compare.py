@@ -13,11 +13,13 @@ import sys
 
 from tools import TOP
 from tools.ending import SIGNALS
-from tools.listings.answering import Unreadable, compare
+from tools.listings.answering import compare
 from tools.second.standard_output import FAILED, UNREAD, status_of
 from tools.suite.main import ENDING
 from tools.suite.refusing import Refusal
 from tools.suite.telling import tell
+from tools.telling.files import unreadable
+from tools.texts.contents import Unreadable
 from tools.texts.quoting import shown
 
 
@@ -30,6 +32,8 @@ def main(model: str, *paths: str) -> int:
         tell(re.sub("^suite: ", "compare: ", str(refusal)))
         return FAILED
     except Unreadable:
+        for line in unreadable([model, *paths]):
+            tell(line)
         return UNREAD
     except OSError as error:
         # as where the folder for temporary files has no room

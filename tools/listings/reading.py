@@ -129,33 +129,18 @@ class HerdReader(ListingReader):
 
     def written(self, title: str, start: int) -> Written:
         """The whole of it."""
-        starts = self.first_block()
-        head = [self.expect_kind("name")]
-        while self.sees("|"):
-            self.take()
-            head.append(self.expect_kind("name"))
-        self.expect(";")
+        starts = self.within("{", "}", self.start_value)
+        head, _ = self.cells(lambda: self.expect_kind("name"))
         rows = []
         while not self.sees("~", "exists", "forall", "locations"):
-            rows.append(self.line())
+            rows.append(Row(*self.cells(self.instruction)))
         while self.sees("locations"):
             self.pass_locations()
         condition = self.condition()
         self.expect_kind("end")
-        return Written(self.is_wide, title, start, tuple(starts), tuple(head), tuple(rows), condition)
+        return Written(self.is_wide, title, start, tuple(starts), head, tuple(rows), condition)
 
     # the first block
-
-    def first_block(self) -> list[Equation]:
-        """The values at the start."""
-        found = []
-        self.expect("{")
-        while not self.sees("}"):
-            found.append(self.start_value())
-            if not self.sees("}"):
-                self.expect(";")
-        self.take()
-        return found
 
     def start_value(self) -> Equation:
         """The value of a location, or of a register, at the start; a type may stand before it."""
@@ -177,14 +162,6 @@ class HerdReader(ListingReader):
         return Equation(variable, self.number(), token)
 
     # the threads
-
-    def line(self) -> Row:
-        """A line of cells."""
-        cells = [self.instruction()]
-        while self.sees("|"):
-            self.take()
-            cells.append(self.instruction())
-        return Row(tuple(cells), self.expect(";"))
 
     def instruction(self) -> Instruction | None:
         """A cell, which may be empty."""
@@ -253,12 +230,7 @@ class HerdReader(ListingReader):
     def pass_locations(self) -> None:
         """What herd is to print beside the condition's."""
         self.notes.note(Beyond.LOCATIONS, self.take().at)
-        self.expect("[")
-        while not self.sees("]"):
-            self.variable()
-            if not self.sees("]"):
-                self.expect(";")
-        self.take()
+        self.within("[", "]", self.variable)
 
     def condition(self) -> Condition:
         """The quantifier and the formula."""

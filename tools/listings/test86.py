@@ -13,21 +13,21 @@ from tools import TOP
 from tools.lint.lines import line_of
 from tools.listings.beyond import Notes
 from tools.listings.writing import test_of_herd
-from tools.second.standard_output import status_of
+from tools.second.standard_output import UNREAD, status_of
 from tools.second.tokens import Fault
 from tools.suite.telling import tell
+from tools.telling.files import unreadable
 from tools.telling.refusals import listing_lines
+from tools.texts.contents import Unreadable, contents, read_within
 from tools.texts.naming import line_and_column
-from tools.texts.writing_tests import LIMIT, test_of_listing
+from tools.texts.writing_tests import test_of_listing
 
 
 def test_of(data: bytes, notes: Notes) -> str:
     """The test that a listing says: as `check86` reads it, or else as herd does. The fault is that of `check86` where
     nothing was read beyond it."""
     try:
-        if len(data) > LIMIT:
-            raise Fault("too-large", 0)
-        return test_of_listing(data)
+        return read_within(test_of_listing, data)
     except Fault as fault:
         if fault.word == "too-large":
             raise
@@ -40,10 +40,11 @@ def test_of(data: bytes, notes: Notes) -> str:
 def main(path: str) -> int:
     """Writes the test, with what was read beyond `check86`, or the refusal of the listing."""
     try:
-        with open(path, "rb") as file:
-            data = file.read(LIMIT + 1)
-    except OSError:
-        return 4
+        data = contents(path)
+    except Unreadable:
+        for line in unreadable([path]):
+            tell(line)
+        return UNREAD
     notes = Notes()
     try:
         text = test_of(data, notes)

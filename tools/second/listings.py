@@ -1,12 +1,14 @@
 """Herd's X86 listings: bytes to the case that a listing says, by docs/tests.md."""
 import re
 from dataclasses import dataclass
+from typing import Callable, TypeVar
 
 from tools.second.cases import GREATEST_CORE, MOST_OPS, Case, ExpectationItem, Item, Location, Op, OpItem, ValueItem, read_items
 from tools.second.patterns import ENDING as PATTERN_ENDING
 from tools.second.patterns import read_pattern_items
 from tools.second.tokens import Fault, Reader, Token, tokens
 
+Part = TypeVar("Part")
 # the ending of a file that is read as a listing where no command says how
 ENDING = ".litmus"
 BLANKS = b" \t\r"
@@ -107,41 +109,37 @@ class ListingReader(Reader):
 
     def listing(self) -> Listing:
         """The whole of it."""
-        inits = self.inits()
-        head = [self.expect_kind("name")]
-        while self.sees("|"):
-            self.take()
-            head.append(self.expect_kind("name"))
-        self.expect(";")
+        inits = self.within("{", "}", self.of_location)
+        head, _ = self.cells(lambda: self.expect_kind("name"))
         rows = []
         while not self.sees("~", "exists"):
-            rows.append(self.row())
+            rows.append(Row(*self.cells(self.cell)))
         condition = self.next
         if self.sees("~"):
             self.take()
         self.expect("exists")
         equations = self.equations()
         self.expect_kind("end")
-        return Listing(tuple(inits), tuple(head), tuple(rows), condition, tuple(equations))
+        return Listing(tuple(inits), head, tuple(rows), condition, tuple(equations))
 
-    def inits(self) -> list[Equation]:
-        """The first block."""
+    def within(self, opening: str, closing: str, read: Callable[[], Part]) -> list[Part]:
+        """What this reads between these two, with `;` between each and the next."""
         found = []
-        self.expect("{")
-        while not self.sees("}"):
-            found.append(self.of_location())
-            if not self.sees("}"):
+        self.expect(opening)
+        while not self.sees(closing):
+            found.append(read())
+            if not self.sees(closing):
                 self.expect(";")
         self.take()
         return found
 
-    def row(self) -> Row:
-        """A line of cells."""
-        cells = [self.cell()]
+    def cells(self, read: Callable[[], Part]) -> tuple[tuple[Part, ...], Token]:
+        """The cells of a line, as this reads them, and the `;` after them."""
+        cells = [read()]
         while self.sees("|"):
             self.take()
-            cells.append(self.cell())
-        return Row(tuple(cells), self.expect(";"))
+            cells.append(read())
+        return tuple(cells), self.expect(";")
 
     def cell(self) -> Instruction | None:
         """A cell, which may be empty."""

@@ -8,12 +8,13 @@ from tools.suite.refusing import Refusal
 from tools.texts.quoting import shown
 
 # what no XML may have, and what not all that read JSON take
-UNWRITABLE = re.compile("[^\t\n\r\x20-\ud7ff\ue000-\ufffd\U00010000-\U0010ffff]")
+UNWRITABLE = "[^\t\n\r\x20-\ud7ff\ue000-\ufffd\U00010000-\U0010ffff]"
 
 
 def writable(text: str) -> str:
     """A text with all that a report cannot have as an escape."""
-    return UNWRITABLE.sub(lambda found: ascii(found[0])[1:-1], text)
+    # it takes longer to compile than most suites take to read their words
+    return re.sub(UNWRITABLE, lambda found: ascii(found[0])[1:-1], text)
 
 
 def judge_place(option: str, path: str) -> None:

@@ -24,7 +24,12 @@ def unreadable(paths: Sequence[str]) -> Iterator[str]:
             yield f"pipecheck: {quoted(path)} {why}"
 
 
-def sentence(top: str, head: str, word: str) -> str:
+def sentence(top: str, kind: str, word: str) -> str:
+    """What docs/faults.md says of a fault's word, of a `model` or of a `test`; nothing where the page is missing."""
+    return row(top, f"word of a {kind}", word)
+
+
+def row(top: str, head: str, word: str) -> str:
     """What the table of docs/faults.md with this head says of a word; nothing where the page is missing."""
     try:
         with open(os.path.join(top, "docs", "faults.md"), encoding="utf-8") as file:

@@ -6,8 +6,10 @@
     python3 tools telling unreadable FILE..       which of these files can't be opened
     python3 tools telling refusal LINE WORD..     where a file of these words has the fault that the program's line names
     python3 tools telling place LINE FILE         the same of one file
+    python3 tools telling unread                  says nothing; the status is 0 where nobody reads standard output, a pipe, any more
 """
 import os
+import select
 import sys
 from typing import Iterator
 
@@ -22,6 +24,9 @@ def lines(what: str, words: list[str]) -> Iterator[str]:
     """What is said."""
     if what == "forms":
         yield from Forms(TOP).lines(*words)
+        if words == ["agree"]:
+            yield ""
+            yield from options()
     elif what == "misuse":
         yield from Forms(TOP).misuse(words)
     elif what == "before":
@@ -34,8 +39,26 @@ def lines(what: str, words: list[str]) -> Iterator[str]:
         yield from place_of(TOP, words[1], refusal_of(words[0]))
 
 
+def options() -> list[str]:
+    """What `agree` says of its options."""
+    # it takes longer to load than all else here
+    from tools.agree.main import parser
+
+    return parser().format_help().splitlines()
+
+
+def is_unread() -> bool:
+    """Whether nobody reads standard output, a pipe, any more. Nothing is written to find that."""
+    output = select.poll()
+    output.register(1, 0)
+    # without a reader, and else nothing is told
+    return bool(output.poll(0))
+
+
 def main(what: str, *words: str) -> int:
     """Writes it."""
+    if what == "unread":
+        return 0 if is_unread() else 1
     for line in lines(what, list(words)):
         print(line)
     return 0

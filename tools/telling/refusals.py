@@ -4,7 +4,7 @@ import re
 from dataclasses import dataclass
 from typing import Iterator
 
-from tools.telling.files import sentence
+from tools.telling.files import row, sentence
 from tools.telling.forms import Forms
 from tools.texts.expecting import sentence_of, syntax_fault
 from tools.texts.naming import line_and_column
@@ -62,8 +62,8 @@ def marked_line(data: bytes, line: int, column: int) -> Iterator[str]:
 
 def place_of(top: str, path: str, refusal: Refusal) -> Iterator[str]:
     """The place in the form that editors jump to, the fault's sentence and the line."""
-    head = f"word of a {'test' if refusal.kind == 'test' else 'model'}"
-    yield f"{shown(path)}:{refusal.place}: {refusal.word}: {sentence(top, head, refusal.word)}"
+    kind = "test" if refusal.kind == "test" else "model"
+    yield f"{shown(path)}:{refusal.place}: {refusal.word}: {sentence(top, kind, refusal.word)}"
     yield from marked_line(contents(path), refusal.line, refusal.column)
 
 
@@ -107,7 +107,7 @@ def left_out(top: str, path: str, refusal: Refusal) -> Iterator[str]:
     if refusal.word in ("lexical", "syntax"):
         word = left_out_word(contents(path), refusal)
         if word:
-            yield f"pipecheck: {sentence(top, 'left out of a listing', word)}"
+            yield f"pipecheck: {row(top, 'left out of a listing', word)}"
 
 
 def left_out_word(data: bytes, refusal: Refusal) -> str:

@@ -1,0 +1,85 @@
+"""What `--version` says in a checkout: its commit, the logic that the program was proved by, and which program stands."""
+from __future__ import annotations
+
+import hashlib
+import os
+import subprocess
+
+from tools import TOP
+from tools.build.making import OUT, asked
+
+
+def here(*words: str) -> bytes | None:
+    """What a command of git writes of this checkout; None where it fails. Variables of git's own would name another one, or other
+    files."""
+    own = {name: value for name, value in os.environ.items() if not name.startswith("GIT_")}
+    try:
+        done = subprocess.run(
+            ["git", "-C", TOP, *words], env=own, stdin=subprocess.DEVNULL, stdout=subprocess.PIPE, stderr=subprocess.DEVNULL,
+            check=False,
+        )
+    except OSError:
+        return None
+    return done.stdout if done.returncode == 0 else None
+
+
+def committed(paths: list[str]) -> dict[str, str]:
+    """The hash of each file of the commit below these paths."""
+    rows = (here("ls-tree", "-r", "-z", "HEAD", "--", *paths) or b"").split(b"\0")[:-1]
+    return {os.fsdecode(name): os.fsdecode(head.split()[2]) for head, _, name in (row.partition(b"\t") for row in rows)}
+
+
+def hash_of(path: str, kind: str) -> str:
+    """The hash that git has of a file with these bytes."""
+    with open(path, "rb") as file:
+        data = file.read()
+    return hashlib.new(kind, b"blob %d\0" % len(data) + data).hexdigest()
+
+
+def has_changed() -> bool:
+    """Whether a source of the program is not as in the commit, by the hashes of both: git may be told to look away from a file."""
+    names = (asked("parts") or "").split()
+    paths = ["crates.txt", *(f"crates/{name}/{folder}" for name in names for folder in ("src", "specs", "proofs"))]
+    wanted = committed(paths)
+    kind = "sha256" if any(len(it) == 64 for it in wanted.values()) else "sha1"
+    found = [f"{place}/{name}" for it in paths for place, _, files in os.walk(f"{TOP}/{it}", followlinks=True) for name in files]
+    return wanted != {os.path.relpath(it, TOP): hash_of(it, kind) for it in [f"{TOP}/crates.txt", *found]}
+
+
+def origin() -> str:
+    """The lines of the checkout: its commit, and the logic."""
+    # a checkout without its history may stand in another one
+    is_top = (here("rev-parse", "--show-toplevel") or b"") == os.fsencode(f"{TOP}\n")
+    commit = os.fsdecode(here("rev-parse", "HEAD") or b"").strip() if is_top else ""
+    changed = ", changed since" if commit and has_changed() else ""
+    tool = note_line(1)
+    if not tool:
+        try:
+            tool = os.fsdecode(subprocess.run(["rt", "--version"], capture_output=True, check=True).stdout)
+        except (OSError, subprocess.CalledProcessError):
+            tool = ""
+    return f"commit {commit or 'unknown'}{changed}\nlogic {tool.rpartition(' logic ')[2].strip() if ' logic ' in tool else 'unknown'}"
+
+
+def note_line(number: int) -> str:
+    """A line of the note of the proved program, from 0; nothing where there is none."""
+    try:
+        with open(f"{OUT}/pipecheck_built", encoding="utf-8", errors="surrogateescape") as file:
+            return [*file.read().splitlines(), "", "", ""][number]
+    except OSError:
+        return ""
+
+
+def program_line() -> str:
+    """The line of the program."""
+    kind = asked('find_program pipecheck unproved && echo "$kind"')
+    path = f"{OUT}/{kind or 'pipecheck'}_cli"
+    if not os.path.exists(path):
+        return "program not built"
+    with open(path, "rb") as file:
+        own = hashlib.sha256(file.read()).hexdigest()
+    if kind is None:
+        what = "built from other sources" if own == note_line(2) else "not the one that was built here"
+    else:
+        what = "proved" if kind == "pipecheck" else "without its proofs"
+    return f"program sha256 {own}, {what}"

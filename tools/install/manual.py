@@ -1,0 +1,148 @@
+"""Makes the man pages: that of `pipecheck` from the table commands.txt and pages of docs/, and that of `pipecheck-suite` from what
+`examples/suite --help` says."""
+import os
+import re
+import subprocess
+from typing import Iterator
+
+from tools.telling.forms import Forms
+
+NAMES = ("pipecheck", "pipecheck-suite")
+# the pages of docs/ that a man page has whole
+PAGES = ("explain", "lint", "mend", "agree", "compare")
+HEAD = """\
+.TH PIPECHECK 1 "" "pipecheck" "User Commands"
+.SH NAME
+pipecheck \\- says whether the outcome of a litmus test is observable on a model of a pipeline
+.SH SYNOPSIS"""
+FOOT = """\
+.SH FILES
+The pages, the examples and files for editors stand beside the installed script, in
+.I lib/pipecheck
+.
+.SH SEE ALSO
+.BR pipecheck\\-suite (1)"""
+SUITE_HEAD = """\
+.TH PIPECHECK\\-SUITE 1 "" "pipecheck" "User Commands"
+.SH NAME
+pipecheck\\-suite \\- runs litmus tests on models of pipelines, and prints one table
+.SH SYNOPSIS"""
+SUITE_FOOT = ".SH SEE ALSO\n.BR pipecheck (1)"
+BEGIN_BLOCK, END_BLOCK = ".PP\n.RS\n.nf", ".fi\n.RE"
+# the command by the name that it has in a checkout
+SUITE = re.compile(r"(^|[ `])[^ `]*examples/suite(?=[ `]|$)", re.MULTILINE)
+
+
+class Unmade(Exception):
+    """A man page could not be made."""
+
+
+def plain(text: str) -> str:
+    """A text without what roff would take for its own."""
+    return text.replace("\\", "\\e").replace("-", "\\-")
+
+
+def marked(text: str) -> str:
+    """The same of a text with names in backticks."""
+    parts = [f"\\fB{plain(it)}\\fR" if number % 2 else plain(it) for number, it in enumerate(text.split("`"))]
+    return "".join(parts).replace("**", "")
+
+
+def line_of(text: str) -> str:
+    """A line that does not begin as a request does."""
+    return ("\\&" if text.startswith((".", "'")) else "") + text
+
+
+class Markdown:
+    """Markdown to roff: headings, paragraphs, lists, tables (a row is an item: its first cell, and the others after it) and blocks
+    of text. Of a page that is not taken whole the title is left out, and what stands before the first heading below it."""
+
+    def __init__(self, is_whole: bool) -> None:
+        self.is_begun = is_whole
+        self.sections = {"# ": ".SH", "## ": ".SS"} if is_whole else {"## ": ".SH", "### ": ".SS"}
+        self.is_block = self.is_table = False
+
+    def lines(self, text: str) -> Iterator[str]:
+        for line in text.splitlines():
+            self.is_begun = self.is_begun or line.startswith("## ")
+            if not self.is_begun:
+                continue
+            if re.match(" *```", line):
+                self.is_block = not self.is_block
+                yield BEGIN_BLOCK if self.is_block else END_BLOCK
+            elif self.is_block:
+                yield line_of(plain(line))
+            elif not line.startswith("|---"):
+                yield self.line(line)
+
+    def line(self, line: str) -> str:
+        """A line that is no block's, as roff has it."""
+        if line.startswith("|"):
+            return self.row([marked(it) for it in re.split(r" *\| *", line)[1:-1]])
+        self.is_table = False
+        for head, request in {**self.sections, "### ": ".SS"}.items():
+            if line.startswith(head):
+                title = line.removeprefix(head)
+                return f"{request} {marked(title.upper() if request == '.SH' else title)}"
+        if found := re.match(r"\d+\. ", line):
+            return f".IP {found[0].rstrip()} 4\n{line_of(marked(line[found.end():]))}"
+        if line.startswith("- "):
+            return f".IP \\(bu 2\n{line_of(marked(line[2:]))}"
+        return line_of(marked(line.lstrip(" "))) if line else ".PP"
+
+    def row(self, cells: list[str]) -> str:
+        """A row of a table; its heading is one line."""
+        if not self.is_table:
+            self.is_table = True
+            return f".PP\n\\fI{'; '.join(cells)}\\fR"
+        return f".TP\n{cells[0]}\n{line_of('; '.join(it for it in cells[1:] if it))}"
+
+
+def page(top: str, name: str, is_whole: bool) -> Iterator[str]:
+    """The lines of a page of docs/."""
+    with open(os.path.join(top, "docs", f"{name}.md"), encoding="utf-8") as file:
+        yield from Markdown(is_whole).lines(file.read())
+
+
+def program_page(top: str) -> Iterator[str]:
+    """The page of `pipecheck`."""
+    forms = Forms(top).forms
+    yield HEAD
+    yield from (f".B pipecheck {plain(it.word)}\n.I {it.after}\n.br" for it in forms)
+    yield ".SH DESCRIPTION"
+    yield from (f".TP\n.B {plain(it.word)} {it.after}\n{it.sentence}" for it in forms)
+    yield from page(top, "faults", False)
+    for name in PAGES:
+        yield from page(top, name, True)
+    yield FOOT
+
+
+def suite_page(top: str) -> Iterator[str]:
+    """The page of the suite. A help text knows paragraphs, and blocks that are moved in. The command gets the name that it is
+    installed by, and the lines that begin with it are the synopsis."""
+    done = subprocess.run([os.path.join(top, "examples", "suite"), "--help"], stdout=subprocess.PIPE, check=False)
+    if done.returncode != 0:
+        raise Unmade("the man page pipecheck-suite(1) could not be made")
+    lines = SUITE.sub(r"\1pipecheck-suite", done.stdout.decode("utf-8")).splitlines()
+    calls = [it for it in lines if re.match(" +pipecheck-suite( |$)", it)]
+    yield SUITE_HEAD
+    yield from (f".B {plain(it.lstrip(' '))}\n.br" for it in calls)
+    yield ".SH DESCRIPTION"
+    is_block = False
+    rest = [it for it in lines if it not in calls]
+    for line, following in zip(rest, [*rest[1:], ""]):
+        if is_block and not line and following.startswith(" "):
+            yield ""
+            continue
+        if is_block != line.startswith(" "):
+            is_block = not is_block
+            yield BEGIN_BLOCK if is_block else END_BLOCK
+        yield (line_of(plain(line)) if is_block else line_of(marked(line))) if line else ".PP"
+    if is_block:
+        yield END_BLOCK
+    yield SUITE_FOOT
+
+
+def manual(top: str, name: str) -> str:
+    """The text of a man page."""
+    return "".join(f"{line}\n" for line in (program_page if name == "pipecheck" else suite_page)(top))

@@ -1,0 +1,79 @@
+"""Runs every test of a folder on every model of examples/models, or what words name, and prints one table.
+
+    examples/suite [--differ] [--bad] [--baseline CELLS] [--junit FILE] [--sarif FILE] [MODEL | TEST | FOLDER]..
+    examples/suite --axioms MODEL [TEST | FOLDER]..
+
+The words stand in any order; after -- none is an option. A file that ends with .test is a test, one with .litmus a
+listing of herd's for X86, one with .pattern a pattern, one with .query a query; each other file is a model. A folder
+stands for its tests, listings, patterns and queries. Where no word names a model all of examples/models are taken, and
+where none names a test those of examples/tests. Only tests have no ending in the table. A file that is named twice is
+taken once.
+
+A model names its memory model once, in a comment `% Memory model: NAME`; examples/memory-models.tsv says what that
+allows of each shipped test, whose bytes it knows by their hash. Of a test of one's own its own `Permitted` or
+`Forbidden` decides, or the `~exists` of a listing, also where the model names no memory model. A cell compares the
+verdict with that:
+
+    ok        both agree
+    BUG       the model shows an outcome that is forbidden
+    stricter  the model does not show an outcome that is allowed: no bug, but something lost
+    observable, unobservable   the verdict, where nothing says what it should be
+    not taken   the test has locked instructions, and no axiom of the model asks for the type `Locked`
+    time      no verdict, or no judgement of it, within the limit
+    another   a fault: `model:WORD` or `test:WORD`, the word by which a file is refused; `unreadable`; `unnamed` (the
+              model names no memory model that a row or a machine has); `certificate` (the verdict's certificate was
+              judged again and refused); `unwritten` (no certificate could be kept); `machine` (that of the memory
+              model failed on a pattern, or on a test of one's own: a line below the table says how); `status:N`; or
+              `fault` (the program could not be called, or its text is none)
+
+A pattern is swept, and its rows are compared with those of the memory model's machine in tools/agree: `BUG` where a
+row is shown that does not come up, `stricter` where one is missing, `swept` where no machine runs the pattern.
+
+A query is a formula that is asked of a test (`docs/ask.md`). Comments of its own say which answer is right, always,
+sometimes or never, and name the test: `% Expect: sometimes` and `% Test: NAME`. That test is NAME.test beside the query,
+beside other tests that are named, or of examples/tests. The cell is `ok`, or `BUG (never)` with another answer. In a
+folder a query without these comments is passed over.
+
+--differ shows only the tests on which the models differ, --bad only those with a cell that is not ok. Below the table
+stand the models without a memory model; where the machine says otherwise than a test of one's own, or than the verdict
+on one that states nothing; the rows of patterns that differ; and what `pipecheck lint` says of these files, each line
+once, and of a refused listing what to do, as the script says it. The last line counts, with the time of all of this, and
+says where the program had no proofs. Where the table goes to a terminal that is narrower, the models have numbers and
+a key.
+
+--baseline compares with the cells of an earlier suite, a file `cells` as below: what is BUG, stricter, time or a fault
+and was not the same there is told as new, and the status goes by that alone; what was so and is good now is told as gone,
+and so are models and tests that are in this suite no more. --junit writes the table as JUnit XML,
+a suite for each model, where BUG and stricter are failures, faults and time errors, and what is as in the baseline is
+skipped. --sarif writes as SARIF 2.1.0 what is BUG or stricter, at the model and with the test beside it, and the lines
+that name a place; both words and the kinds of `lint` are its rules.
+
+The table is of the bytes that the files have at the start. Each certificate is kept, as MODEL/FILE.certificate, and
+judged again by `verify`, that of a listing by `verify86`; of a pattern MODEL/FILE.rows is what was swept, and of a
+query MODEL/FILE.answer what was answered, with its certificates. The rows of the last table stand beside them in
+`cells`: model, test and cell, with a tab between two. A suite that was interrupted goes on from what it has: a verdict
+stands where model, test, program and certificate have the same bytes.
+
+--axioms takes each axiom of a model out in turn, and says how many verdicts of the tests change by it, and the first of
+them. An axiom that changes none is untested or not needed. No certificate is kept but in SUITE_KEPT.
+
+The status is 0 where no cell is BUG, stricter, time or a fault; 1 where some are BUG; 3 where some are stricter, and
+none is BUG; and 2 where some are time or a fault, or where there is no table. With --axioms it is 0 where each verdict
+is known, and else 2.
+
+Variables of the environment: PIPECHECK, the checker's command (the program that stands): one file where there is one
+of that name, and otherwise words, taken apart at blanks as a shell does, with its quotes and backslashes; SUITE_SECONDS, the
+limit of one call (20), and of all that machines are asked of tests of one's own; SUITE_JOBS, how many run side by side
+(the number of processors); SUITE_TESTS, the folder of the tests where no word names one; SUITE_TABLE, another table of
+what memory models allow, which goes by the names of tests alone; SUITE_FOLDER, where certificates go (out/suite, and
+of an installed copy pipecheck/suite in XDG_CACHE_HOME or ~/.cache); SUITE_KEPT, a folder of verdicts that stand in
+later suites too, where program, model and test have the same bytes, up to 1 GiB (none); PIPECHECK_MEMORY, the limit of
+memory, as for `pipecheck`.
+"""
+import sys
+
+import tools
+from tools.suite.main import main
+
+if __name__ == "__main__":
+    sys.exit(main(sys.argv[1:], tools.TOP, __doc__))
