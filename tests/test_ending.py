@@ -6,9 +6,10 @@ import signal
 import tempfile
 from typing import Any, Callable, ContextManager
 
-from tests.cases import TOP, Cases, Done, call, program, replaced, script_entry, tool_entry, write
+from tests.cases import PATIENCE, TOP, Cases, Done, call, program, replaced, script_entry, tool_entry, write
 
 from tools import ending
+from tools.suite.calling import Calls, side_by_side
 
 MODEL, TEST = "examples/in-order.uspec", "examples/mp.test"
 LISTING = """X86 SB
@@ -50,7 +51,10 @@ class Ended(Cases):
             with self.signalled(room, moment):
                 return entry()
 
-        env = {"TMPDIR": room, "PIPECHECK": program(), "SUITE_FOLDER": f"{self.work}/kept", "SUITE_KEPT": None}
+        env = {
+            "TMPDIR": room, "PIPECHECK": program(), "SUITE_FOLDER": f"{self.work}/kept", "SUITE_KEPT": None,
+            "SUITE_SECONDS": str(PATIENCE),
+        }
         said = [it.replace("WORK", self.work).replace("PROGRAM", program()) for it in words]
         return call(begin, ["tool", *said], env=env)
 
@@ -86,6 +90,29 @@ class Ended(Cases):
                     with self.case(f"TERM comes to {tool} while a folder {name}"):
                         self.assertEqual((os.path.exists(f"{room}-came"), done.status, done.err), (True, 143, ""))
                         self.assertEqual(os.listdir(room), [])
+
+    def test_lost(self) -> None:
+        """A signal that comes while an object goes: what is raised there is lost."""
+
+        class Gone:
+            """An object that has the signal come when it goes."""
+
+            def __del__(self) -> None:
+                os.kill(os.getpid(), signal.SIGTERM)
+
+        def begin() -> int:
+            calls = Calls()
+
+            def work() -> int:
+                ending.SIGNALS.receive()
+                Gone()
+                with open(os.devnull, "wb") as out:
+                    side_by_side(calls, 1, [lambda: calls.status(["sleep", "600"], None, 600, out)], lambda _, __: None)
+                return 0
+
+            return ending.SIGNALS.status_or_end(work)
+
+        self.same("TERM comes while an object goes", call(begin, []), Done(143, "", ""))
 
     def test_signals(self) -> None:
         """A signal that comes just before a folder is to be removed, and one that comes after the first."""
