@@ -112,7 +112,7 @@ class AgreeCases(Cases):
 
 
 class Programs(AgreeCases):
-    """Random programs, and all small ones; tests/pages runs what docs/agree.md shows of them."""
+    """Random programs, and all small ones; the family `pages` runs what docs/agree.md shows of them."""
 
     def test_random(self) -> None:
         """The programs of a seed are the same each time. Of a wrong model the smallest one is shown: without one of its micro-ops

@@ -139,6 +139,8 @@ class Ended(Cases):
             signals = ending.Signals()
 
             def work() -> int:
+                # also where these tests run behind nohup
+                signal.signal(signal.SIGHUP, signal.SIG_DFL)
                 signals.receive()
                 with signals.held():
                     os.kill(os.getpid(), signal.SIGHUP)

@@ -1,6 +1,6 @@
 """`pipecheck lint` on a planted slip of each kind, on what is close to it and right, and on the slip with a comment that says it
 is meant; on queries, listings and patterns; on what is shipped, and on large files. Where a case is about what lint says of files,
-it is called as lint.py is.
+it is called as `pipecheck lint` calls it.
 """
 from __future__ import annotations
 
