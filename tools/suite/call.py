@@ -26,7 +26,7 @@ verdict with that:
               model failed on a pattern, or on a test of one's own: a line below the table says how); `status:N`; or
               `fault` (the program could not be called, or its text is none)
 
-A pattern is swept, and its rows are compared with those of the memory model's machine in tools/agree: `BUG` where a
+A pattern is swept, and its rows are compared with those of the memory model's machine in tools/agree/machines: `BUG` where a
 row is shown that does not come up, `stricter` where one is missing, `swept` where no machine runs the pattern.
 
 A query is a formula that is asked of a test (`docs/ask.md`). Comments of its own say which answer is right, always,
