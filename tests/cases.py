@@ -13,10 +13,12 @@ import os
 import resource
 import runpy
 import shutil
+import signal
 import subprocess
 import sys
 import tempfile
 import textwrap
+import threading
 import time
 import traceback
 import unittest
@@ -229,6 +231,15 @@ def comes(is_so: Callable[[], bool]) -> bool:
             return False
         time.sleep(0.05)
     return True
+
+
+def signal_unseen() -> None:
+    """Has a thread get TERM in a second, when the main thread waits: so Python does not see it at once."""
+    def get() -> None:
+        time.sleep(1)
+        signal.pthread_kill(threading.get_ident(), signal.SIGTERM)
+
+    threading.Thread(target=get, daemon=True).start()
 
 
 def write(path: str, text: str | bytes) -> str:

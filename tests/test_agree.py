@@ -14,11 +14,13 @@ from itertools import permutations, product
 from typing import Callable, Iterable, Iterator
 
 from tests.cases import (
-    PATIENCE, TOP, Cases, Done, apart, call, comes, command, environment, pipecheck, program, read, run, tool, tool_entry, write
+    PATIENCE, TOP, Cases, Done, apart, call, comes, command, environment, pipecheck, program, read, run, signal_unseen, tool,
+    tool_entry, write
 )
 
 # what is imported here is there in each process that is forked from this one
-from tools.agree import comparing_programs
+from tools import ending
+from tools.agree import comparing_programs, working
 from tools.agree.programs import Program
 from tools.agree.small_programs import Family, Shape, shapes_of
 
@@ -232,6 +234,22 @@ exec "{program()}" "$@"
             self.wait_until(lambda: not any(map(is_group, workers)))
             self.same(f"{name} ends all processes that compare", [it for it in workers if is_group(it)], [])
             self.same(f"{name} leaves no file", os.listdir(room), [])
+
+    def test_unseen(self) -> None:
+        """A signal that Python does not see at once, while all processes that compare have long to do."""
+
+        def entry() -> int:
+            # where it is not seen, the clock ends this process
+            signal.alarm(PATIENCE)
+            ending.SIGNALS.receive()
+            signal_unseen()
+            try:
+                with working.Workers(time.sleep) as workers:
+                    return len([*workers.answers([600])])
+            except ending.Interrupted as interrupted:
+                return interrupted.number
+
+        self.same("a signal that Python does not see at once ends agree", call(entry, []).status, signal.SIGTERM)
 
     def test_full_device(self) -> None:
         with open("/dev/full", "wb") as full:

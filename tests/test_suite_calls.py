@@ -19,7 +19,9 @@ import time
 from dataclasses import replace
 from typing import Callable
 
-from tests.cases import PATIENCE, TOP, Done, apart, call, comes, program, read, replaced, text_of, tool, write
+from tests.cases import (
+    PATIENCE, TOP, Done, apart, call, comes, program, read, replaced, signal_unseen, text_of, tool, write
+)
 from tests.suite_cases import CORR, EARLY, GOOD, MP, NO_FAULTS, SB, SC, TUTORIAL, SuiteCases, no_lint, of_suite
 
 from tools.ending import SIGNALS as RECEIVED, Interrupted
@@ -534,6 +536,24 @@ class Signals(SuiteCases):
             return 0
 
         self.same("a signal that Python does not see at once ends a call", call(entry, []).status, signal.SIGTERM)
+
+    def test_unseen_in_turn(self) -> None:
+        """The same while a suite waits for another one."""
+        Folder(f"{self.work}/kept").wait_in_turn()
+
+        def entry() -> int:
+            # where it is not seen, the clock ends this process
+            signal.alarm(PATIENCE)
+            RECEIVED.receive()
+            signal_unseen()
+            try:
+                Folder(f"{self.work}/kept").wait_in_turn()
+            except Interrupted as interrupted:
+                return interrupted.number
+            return 0
+
+        said = f"suite: another suite writes into {self.work}/kept: waiting for it\n"
+        self.same("... and a suite that waits for another one", call(entry, []), Done(signal.SIGTERM, "", said))
 
     def test_early(self) -> None:
         """Ctrl-C while Python still loads what the suite is made of ends it without a word. What Python says is what it loads."""

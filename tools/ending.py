@@ -1,17 +1,24 @@
 """How signals end a tool: what it began is ended, its temporary files go, and then it ends by the signal itself, so that its
 caller sees which.
 
-Python handles signals in the main thread, between any two steps of it. So what has to be done whole is held there.
+Python handles signals in the main thread, between any two steps of it. So what has to be done whole is held there. And a signal
+that comes just before that thread waits is not seen until it waits no more; and where Python itself calls something, as when an
+object goes or a process is forked, what is raised there is lost. So that thread never waits long, and looks then.
 """
+import fcntl
 import os
 import signal
+import sys
 import tempfile
+import time
 from contextlib import contextmanager, suppress
 from types import FrameType
 from typing import Callable, Iterable, Iterator
 
 # what a terminal, a shell and `timeout` send
 ENDING = (signal.SIGHUP, signal.SIGINT, signal.SIGQUIT, signal.SIGTERM)
+# how long the main thread waits before it looks whether there was a signal, and whether a file is free, in seconds
+PATIENCE, MOMENT = 1.0, 0.1
 
 
 class Interrupted(BaseException):
@@ -34,6 +41,7 @@ class Signals:
 
     def receive(self, numbers: Iterable[int] = ENDING) -> None:
         """Has these signals ask for an end. What is ignored, as HUP behind nohup, stays so."""
+        sys.unraisablehook = tell_lost
         for it in numbers:
             if signal.getsignal(it) is not signal.SIG_IGN:
                 self.received.append(it)
@@ -45,6 +53,20 @@ class Signals:
             self.number, self.is_due = number, self.is_held
             if not self.is_held:
                 raise Interrupted(number)
+
+    def look(self) -> None:
+        """Raises `Interrupted` again, where a signal came and it was lost."""
+        if self.number != 0:
+            raise Interrupted(self.number)
+
+    def lock(self, file: int) -> None:
+        """Locks an open file, once no other process has it locked."""
+        while True:
+            with suppress(BlockingIOError):
+                fcntl.flock(file, fcntl.LOCK_EX | fcntl.LOCK_NB)
+                return
+            time.sleep(MOMENT)
+            self.look()
 
     @contextmanager
     def held(self) -> Iterator[None]:
@@ -93,6 +115,7 @@ class Signals:
         """The status of a tool. Where a signal ended it, the signal ends this process, once nothing is left behind."""
         try:
             status = call()
+            self.look()
             for it in self.received:
                 # nothing is left that would have to be cleared
                 signal.signal(it, signal.SIG_DFL)
@@ -100,6 +123,12 @@ class Signals:
         except Interrupted as interrupted:
             self.clear()
             return end_by(interrupted.number)
+
+
+def tell_lost(lost: "sys.UnraisableHookArgs") -> None:
+    """Tells an exception that is lost, as Python does, but for one that is raised again."""
+    if not isinstance(lost.exc_value, Interrupted):
+        sys.__unraisablehook__(lost)
 
 
 def end_by(number: int) -> int:

@@ -4,6 +4,7 @@ import signal
 import traceback
 from collections import deque
 from concurrent.futures import Future, ProcessPoolExecutor
+from concurrent.futures import TimeoutError as NotYet
 from concurrent.futures.process import BrokenProcessPool
 from contextlib import suppress
 from dataclasses import dataclass
@@ -12,6 +13,8 @@ from multiprocessing import active_children, get_context, parent_process
 from threading import Thread
 from types import TracebackType
 from typing import Callable, Generic, Iterable, Iterator, TypeVar
+
+from tools.ending import PATIENCE, SIGNALS
 
 # a reader that goes away asks for an end, too
 ENDING = (
@@ -74,14 +77,24 @@ class Workers(Generic[Task, Answer]):
         begun: deque[tuple[Task, Future[Answer | Failed]]] = deque()
         while True:
             for task in islice(rest, self.count * WAITING - len(begun)):
-                begun.append((task, self.pool.submit(self.attempt, task)))
+                # it forks, and what a signal raises there is lost
+                with SIGNALS.held():
+                    begun.append((task, self.pool.submit(self.attempt, task)))
             if not begun:
                 return
             task, future = begun.popleft()
             try:
-                yield task, future.result()
+                yield task, result_of(future)
             except BrokenProcessPool as error:
                 raise Unusable("a process that compares was ended from outside, as where memory ends") from error
+
+
+def result_of(future: "Future[Answer]") -> Answer:
+    """What a task gives."""
+    while True:
+        with suppress(NotYet):
+            return future.result(PATIENCE)
+        SIGNALS.look()
 
 
 def begin_work() -> None:

@@ -141,6 +141,7 @@ def run_tool(
                 put(f"\rpipecheck: {progress()}, {elapsed(job)} ")
             with contextlib.suppress(subprocess.TimeoutExpired):
                 return call.wait(timeout=0.5)
+            SIGNALS.look()
 
 
 def tell_end(log: str) -> None:

@@ -287,7 +287,7 @@ class Installation(Prefix):
             if not waits:
                 return False
             print(f"install: another call works in {self.at(name)}: waiting for it", file=sys.stderr)
-            fcntl.flock(folder, fcntl.LOCK_EX)
+            SIGNALS.lock(folder)
         except OSError:
             return True
         if not self.is_at(folder, name):

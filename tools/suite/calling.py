@@ -14,6 +14,7 @@ import threading
 from contextlib import suppress
 from typing import IO, Callable, Sequence, TypeVar
 
+from tools.ending import PATIENCE, SIGNALS
 from tools.suite.refusing import Refusal
 from tools.texts.quoting import quoted
 
@@ -25,9 +26,6 @@ MOST_DIGITS = 11
 PYTHON = (sys.executable, "-E", "-S", "-B")
 # how long what cleans up after itself may take to end
 GRACE = 10.0
-
-# how long the main thread waits before it looks whether there was a signal
-PATIENCE = 1.0
 
 Answer = TypeVar("Answer")
 # a task that ended, by its number, and how where it failed
@@ -227,11 +225,11 @@ def side_by_side(
 
 
 def next_of(ended: "queue.SimpleQueue[Ended]") -> Ended:
-    """The next task that ended. Python does not see a signal that comes just before it waits until it waits no more, so it never
-    waits long."""
+    """The next task that ended."""
     while True:
         with suppress(queue.Empty):
             return ended.get(timeout=PATIENCE)
+        SIGNALS.look()
 
 
 def start(threads: Sequence[threading.Thread]) -> None:

@@ -10,6 +10,7 @@ import stat
 from contextlib import contextmanager, suppress
 from typing import IO, Iterator, Mapping
 
+from tools.ending import SIGNALS
 from tools.suite.files import CELLS, PART, File, digest_of
 from tools.suite.pairs import STATED_WORDS, STATUSES, Found
 from tools.suite.refusing import Refusal
@@ -76,7 +77,7 @@ class Folder:
             fcntl.flock(self.lock, fcntl.LOCK_EX | fcntl.LOCK_NB)
         except BlockingIOError:
             tell(f"suite: another suite writes into {shown(self.path)}: waiting for it")
-            fcntl.flock(self.lock, fcntl.LOCK_EX)
+            SIGNALS.lock(self.lock)
 
     def make_room(self, model: File) -> None:
         """Makes the folder of a model's certificates. A link to another folder is none."""

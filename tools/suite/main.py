@@ -81,7 +81,7 @@ def pairs(asked: Words, environ: Mapping[str, str], top: str, seconds: float, jo
         state.read()
         kept = kept_in(environ, program)
         machines = Machines(top)
-        lint = Lint(top, asked.tests, checker.calls)
+        lint = Lint(top, asked.tests, checker.calls, seconds)
         run = Suite(asked, Copies(place, [*asked.models, *asked.tests]), rows, machines, checker, state, kept)
         result = run_suite(run, lint, top, jobs, seconds, width_of_terminal(environ))
     status = Count([*reports.cells_that_count(result).values()], 0).status
