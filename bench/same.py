@@ -27,11 +27,8 @@ from random import Random
 sys.dont_write_bytecode = True
 
 # pylint: disable=wrong-import-position
-# it has Python find the second implementation too
 from counting import TOP, saved, under_callgrind
 from questions import FIRST_PAIRS, ONE_WRITE, SEARCHED, choices, fences, ring, writes
-
-from tests.random_texts import ModelMaker, machine_test, test_text
 
 # what a program writes, and its exit status
 Answer = tuple[bytes, int]
@@ -87,23 +84,23 @@ def compare_counts(old: str, new: str) -> None:
     print(f"{len(FIRST_PAIRS)} pairs: {sum(after) / sum(before):.3f} in total, bar 1.05; at most {share:.3f}, of {names}")
 
 
-def random_pair(seed: int) -> tuple[bytes, bytes]:
-    """A model and a test: choices between edges, or what tests/random_texts.py makes."""
-    random = Random(seed)
+def random_pair(folder: str, seed: int) -> list[str]:
+    """A model and a test: choices between edges, or what tests/random_texts.py made in the folder."""
+    paths = [os.path.join(folder, f"{seed}.{ending}") for ending in ("uspec", "test")]
     if seed % 2:
+        random = Random(seed)
         stages = random.randint(4, 9)
-        return choices(random.randint(stages, 6 * stages), seed, stages).encode(), ONE_WRITE.encode()
-    return ModelMaker(random).text(), random.choice((machine_test, test_text))(random)
+        for path, text in zip(paths, (choices(random.randint(stages, 6 * stages), seed, stages), ONE_WRITE)):
+            with open(path, "w", encoding="ascii") as file:
+                file.write(text)
+    return paths
 
 
-def judge_random(old: str, new: str, seed: int, seconds: int) -> tuple[list[str], bool, int]:
+def judge_random(made: str, old: str, new: str, seed: int, seconds: int) -> tuple[list[str], bool, int]:
     """What is wrong of a random pair, one line each; whether it has a verdict; and how many answers of OLD did not come."""
     wrong, has_verdict, late = [], False, 0
+    paths = random_pair(made, seed)
     with tempfile.TemporaryDirectory() as folder:
-        paths = [os.path.join(folder, name) for name in ("m.uspec", "t.test")]
-        for path, text in zip(paths, random_pair(seed)):
-            with open(path, "wb") as file:
-                file.write(text)
         for command in ("check", "check2"):
             before = answer(old, [command, *paths], seconds)
             now = answer(new, [command, *paths], 3 * seconds)
@@ -127,8 +124,9 @@ def judge_random(old: str, new: str, seed: int, seconds: int) -> tuple[list[str]
 
 def compare_random(count: int, seconds: int, old: str, new: str) -> bool:
     """Compares the verdicts on random models and tests. Whether all are one and all texts are taken."""
-    with ThreadPoolExecutor(os.cpu_count()) as pool:
-        found = list(pool.map(lambda seed: judge_random(old, new, seed, seconds), range(count)))
+    with tempfile.TemporaryDirectory() as made, ThreadPoolExecutor(os.cpu_count()) as pool:
+        subprocess.run([sys.executable, "-m", "tests.random_texts", made, *map(str, range(0, count, 2))], cwd=TOP, check=True)
+        found = list(pool.map(lambda seed: judge_random(made, old, new, seed, seconds), range(count)))
     for wrong, _, _ in found:
         for line in wrong:
             print(line, flush=True)

@@ -197,11 +197,7 @@ def tool(word: str, folder: str = TOP) -> list[str]:
 
 def tool_entry(module: str) -> Callable[[], object]:
     """An entry that runs this module of tools/ as if it were called."""
-
-    def entry() -> None:
-        runpy.run_path(f"{TOP}/tools/{module.replace('.', '/')}.py", run_name="__main__")
-
-    return entry
+    return script_entry(f"{TOP}/tools/{module.replace('.', '/')}.py")
 
 
 def script_entry(path: str) -> Callable[[], object]:

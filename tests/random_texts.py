@@ -2,8 +2,11 @@
 
 What is made here is well-formed, and may mean anything. A change may spoil a text or not: what the answer has to be is
 said by the second implementation, which reads the changed text too. Rewritings of certificates keep them right.
+
+    python3 -m tests.random_texts FOLDER SEED..     writes a model and a test of each seed, SEED.uspec and SEED.test
 """
 import re
+import sys
 from random import Random
 from typing import Iterator
 
@@ -395,3 +398,17 @@ def refuted_to(lines: list[str], at: int) -> int:
         is_open += 1 if lines[at].startswith("split ") else -1
         at += 1
     return at
+
+
+def write_pairs(folder: str, *seeds: str) -> None:
+    """A model and a test of each seed."""
+    for seed in seeds:
+        random = Random(int(seed))
+        texts = {"uspec": ModelMaker(random).text(), "test": random.choice((machine_test, test_text))(random)}
+        for ending, text in texts.items():
+            with open(f"{folder}/{seed}.{ending}", "wb") as file:
+                file.write(text)
+
+
+if __name__ == "__main__":
+    write_pairs(*sys.argv[1:])

@@ -16,14 +16,16 @@ from threading import Thread
 from typing import Any, Sequence
 
 from tests.cases import (
-    TOP, Cases, Done, call, commands_without, pipecheck, program, read, replaced, run, status_of, without_output, without_proofs,
-    write
+    TOP, Cases, Done, call, commands_without, pipecheck, program, read, replaced, run, status_of, tool_entry, without_output,
+    without_proofs, write
 )
 
 from tools.explain import main as explain
 from tools.texts import origins
 from tools.second.standard_output import status_of as status_of_main
 
+# what the script calls
+JUDGED = tool_entry("explain.judged")
 SB = ("examples/store-buffer.uspec", "examples/sb.test")
 SB_GRAPH = "examples/certificates/sb.txt"
 MP = ("examples/in-order.uspec", "examples/mp.test")
@@ -489,8 +491,12 @@ class Script(Cases):
     """What the script does before and after something is said, and how it is told what cannot be."""
 
     def explains(self, name: str, words: Sequence[str], status: int = 0, out: str = "", err: str = "", **how: Any) -> None:
-        """The script explains these files."""
-        self.gives(name, [pipecheck(), "explain", *words], status, out, err, **{**how, "env": {**PLAIN, **how.get("env", {})}})
+        """These files are explained: by the script, or where nothing but a folder is said of the call in a process that is forked from
+        this one."""
+        if how.keys() - {"cwd"}:
+            self.gives(name, [pipecheck(), "explain", *words], status, out, err, **{**how, "env": {**PLAIN, **how.get("env", {})}})
+        elif self.is_wanted(name):
+            self.judge(name, call(JUDGED, ["judged", program(), *words], env=PLAIN, **how), status, out, err)
 
     def test_files(self) -> None:
         here = [f"{TOP}/pipecheck", "explain"]
