@@ -1,14 +1,18 @@
 """Signals that come to a tool while it looks for a place for temporary files, makes a folder of them, or removes it."""
 from __future__ import annotations
 
+import fcntl
 import os
 import signal
 import tempfile
 from typing import Any, Callable, ContextManager
 
-from tests.cases import PATIENCE, TOP, Cases, Done, call, program, replaced, script_entry, tool_entry, write
+from tests.cases import (
+    PATIENCE, TOP, Cases, Done, call, program, replaced, script_entry, signal_unseen, tool_entry, write
+)
 
 from tools import ending
+from tools.build import builder
 from tools.suite.calling import Calls, side_by_side
 
 MODEL, TEST = "examples/in-order.uspec", "examples/mp.test"
@@ -113,6 +117,26 @@ class Ended(Cases):
             return ending.SIGNALS.status_or_end(work)
 
         self.same("TERM comes while an object goes", call(begin, []), Done(143, "", ""))
+
+    def test_unseen(self) -> None:
+        """A signal that Python does not see at once while a call waits for another one that builds."""
+
+        def begin() -> int:
+            # where it is not seen, the clock ends this process
+            signal.alarm(PATIENCE)
+
+            def work() -> int:
+                builder.SIGNALS.receive()
+                signal_unseen()
+                with replaced(builder, "OUT", self.work), builder.in_turn("pipecheck"):
+                    return 0
+
+            return builder.SIGNALS.status_or_end(work)
+
+        said = "pipecheck: another call is building the program: waiting for it\n"
+        with open(f"{self.work}/pipecheck_lock", "wb") as lock:
+            fcntl.flock(lock, fcntl.LOCK_EX)
+            self.same("TERM comes while a call waits for another one that builds", call(begin, []), Done(143, "", said))
 
     def test_signals(self) -> None:
         """A signal that comes just before a folder is to be removed, and one that comes after the first."""

@@ -19,7 +19,9 @@ import time
 from dataclasses import replace
 from typing import Callable
 
-from tests.cases import PATIENCE, TOP, Done, apart, call, comes, program, read, replaced, signal_unseen, text_of, tool, write
+from tests.cases import (
+    PATIENCE, TOP, Done, apart, call, comes, program, read, replaced, signal_unseen, text_of, tool, write
+)
 from tests.suite_cases import CORR, EARLY, GOOD, MP, NO_FAULTS, SB, SC, TUTORIAL, SuiteCases, no_lint, of_suite
 
 from tools.ending import SIGNALS as RECEIVED, Interrupted

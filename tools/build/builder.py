@@ -63,7 +63,7 @@ def in_turn(kind: str) -> Iterator[None]:
             fcntl.flock(lock, fcntl.LOCK_EX | fcntl.LOCK_NB)
         except BlockingIOError:
             say("another call is building the program: waiting for it")
-            fcntl.flock(lock, fcntl.LOCK_EX)
+            SIGNALS.lock(lock.fileno())
         yield
 
 
