@@ -13,6 +13,7 @@ from tests.cases import (
 
 from tools import ending
 from tools.build import builder
+from tools.build.processes import SIGNALS
 from tools.suite.calling import Calls, side_by_side
 
 MODEL, TEST = "examples/in-order.uspec", "examples/mp.test"
@@ -126,12 +127,12 @@ class Ended(Cases):
             signal.alarm(PATIENCE)
 
             def work() -> int:
-                builder.SIGNALS.receive()
+                SIGNALS.receive()
                 signal_unseen()
                 with replaced(builder, "OUT", self.work), builder.in_turn("pipecheck"):
                     return 0
 
-            return builder.SIGNALS.status_or_end(work)
+            return SIGNALS.status_or_end(work)
 
         said = "pipecheck: another call is building the program: waiting for it\n"
         with open(f"{self.work}/pipecheck_lock", "wb") as lock:
