@@ -13,7 +13,7 @@ from dataclasses import dataclass
 from functools import partial
 from typing import Callable, Iterator
 
-from tests.cases import PATIENCE, TOP, Cases, apart, pipecheck, read, run, without_proofs, write
+from tests.cases import PATIENCE, TOP, Cases, pipecheck, read, run, without_proofs, write
 
 from tools.pages.antt import Fault
 from tools.pages.page_parts import made_parts, written_by
@@ -53,7 +53,7 @@ def pattern_of(shown: str) -> str:
 
 def printed(command: str, folder: str) -> str:
     """What a command prints in this folder."""
-    env = {"COLUMNS": None, "SUITE_FOLDER": f"{apart()}/suite-of-pages", "SUITE_SECONDS": str(PATIENCE)}
+    env = {"COLUMNS": None, "SUITE_FOLDER": f"{folder}/.suite", "SUITE_SECONDS": str(PATIENCE)}
     return without_proofs(run(["bash", "-c", command], cwd=folder, env=env)).out
 
 
