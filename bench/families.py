@@ -12,6 +12,7 @@ there, so a last line leaves out all of these. The bars are 1.5 % and 0.3 % of t
 where verdicts differ or a call fails, 2 where the words are others, and else 0. All takes ten minutes on four processors.
 """
 import os
+import signal
 import subprocess
 import sys
 import tempfile
@@ -76,7 +77,9 @@ def asked_of(family: str, seed: int, model: str, command: str, test: str) -> Ask
     with subprocess.Popen(words, stdin=subprocess.DEVNULL, stdout=subprocess.DEVNULL, stderr=subprocess.DEVNULL) as call:
         _, status, used = os.wait4(call.pid, 0)
         call.returncode = os.waitstatus_to_exitcode(status)
-    return Asked(family, seed, model, command, used.ru_utime + used.ru_stime, call.returncode)
+    # what ends a call past its limit counts in another way than what says how long it took
+    least = LIMIT + 1 if call.returncode == -signal.SIGKILL else 0
+    return Asked(family, seed, model, command, max(least, used.ru_utime + used.ru_stime), call.returncode)
 
 
 def ask_all(seeds: range, models: list[str]) -> list[Asked]:
