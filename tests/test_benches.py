@@ -187,8 +187,9 @@ class Others(Benches):
         self.judge_rows(OTHERS)
 
     def test_families(self) -> None:
-        for family in FAMILIES:
-            with self.case(f"bench/families.py draws tests of 40 to 64 micro-ops for {family} by their seeds"):
+        drawn = "bench/families.py draws tests of 40 to 64 micro-ops for {} by their seeds"
+        for family in filter(lambda it: self.is_wanted(drawn.format(it)), FAMILIES):
+            with self.case(drawn.format(family)):
                 texts = []
                 for seed in "123":
                     one, other = (self.called(("families", family, seed), "unsat") for _ in range(2))
