@@ -64,7 +64,7 @@ OTHERS: list[Row] = [
     ("bench/peers.py on a ring of 2 cores, and judges of another verdict for shipped tests", ("peers", "2"), "sat", 1,
      "ring of 2 "),
     ("bench/runs.py of a question that is not there", ("runs", "none"), "unsat", 2, ""),
-    ("bench/families.py of one seed on one model", ("families", "1", "1", "sc-inorder"), "unsat", 0, " 6 questions: "),
+    ("bench/families.py of one seed on one model", ("families", "1", "1", "sc-inorder"), "unsat", 0, " 6 questions: 0 over 1 s"),
     ("bench/families.py of a model that is not there", ("families", "1", "1", "none"), "unsat", 2, ""),
     ("bench/families.py of a family that is not there", ("families", "none", "1"), "unsat", 2, ""),
     ("bench/families.py of seeds that end before they begin", ("families", "2", "1"), "unsat", 2, ""),
