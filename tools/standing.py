@@ -3,9 +3,6 @@ import os
 import subprocess
 from dataclasses import dataclass
 
-# what the script says beside each answer of the program without its proofs, up to what to do about it
-WITHOUT_PROOFS = "pipecheck: this answer is of the program without its proofs;"
-
 
 @dataclass(frozen=True)
 class Standing:

@@ -1,9 +1,10 @@
 """What memory models allow: the rows of a table, and the machines of tools/agree."""
-import math
 import os
 import re
+from glob import glob
 from typing import NamedTuple
 
+from tools.lint.lines import line_of
 from tools.suite.calling import PYTHON
 from tools.suite.files import File
 from tools.suite.refusing import Refusal
@@ -69,50 +70,23 @@ class Machines:
         self.tools = os.path.join(top, "tools")
         self.folder = os.path.join(self.tools, "agree", "machines")
         self.names: set[str] = set()
-        try:
-            files = os.listdir(self.folder)
-        except OSError:
-            return
-        for file in files:
-            name, ending = os.path.splitext(file)
-            if ending == ".py":
-                with open(os.path.join(self.folder, file), encoding="utf-8") as source:
-                    if MACHINE.search(source.read()):
-                        self.names.add(name)
-
-    @property
-    def is_there(self) -> bool:
-        """Whether there are any."""
-        return bool(self.names)
+        for file in glob("*.py", root_dir=self.folder):
+            with open(os.path.join(self.folder, file), encoding="utf-8") as source:
+                if MACHINE.search(source.read()):
+                    self.names.add(file.removesuffix(".py"))
 
     def command(self, name: str, *words: str) -> list[str]:
         """What says what the machine of this name allows of a test, which the word names."""
         return [*PYTHON, self.tools, "verdicts", name, *words]
 
-    def command_of_many(self, name: str, seconds: float) -> list[str]:
-        """What says it of test after test, each within these seconds."""
-        return self.command(name, "--within", str(math.ceil(seconds) + 1))
 
-
-class MemoryModels:
-    """The memory models that models name, and which of them are known."""
-
-    def __init__(self, rows: Rows, machines: Machines) -> None:
-        self.known = rows.memory_models | machines.names
-
-    def name(self, model: File) -> str | None:
-        """The known memory model that a model names."""
-        named = memory_model_of(model.text or b"")
-        return named.name if named.name in self.known else None
-
-    def fault(self, model: File) -> str:
-        """Why a model names no memory model that is known, as a line."""
-        text = model.text or b""
-        named = memory_model_of(text)
-        sentence = named.fault or f"no row and no machine has the memory model {named.name}"
-        before = text[: named.at].split(b"\n")
-        place = f"{shown(model.path)}:{len(before)}:{len(before[-1]) + 1}"
-        return f"{place}: unnamed: {sentence}; known are {listed(sorted(self.known))}, named once by a comment {FORM}"
+def line_of_unnamed(model: File, known: set[str]) -> str:
+    """Why a model names no memory model that is known, as a line."""
+    text = model.text or b""
+    named = memory_model_of(text)
+    sentence = named.fault or f"no row and no machine has the memory model {named.name}"
+    said = f"unnamed: {sentence}; known are {listed(sorted(known))}, named once by a comment {FORM}"
+    return line_of(model.path, text, named.at, said)
 
 
 def listed(names: list[str]) -> str:

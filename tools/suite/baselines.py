@@ -11,16 +11,18 @@ FIRST = (BUG, STRICTER, TIME)
 
 
 class Baseline:
-    """The cells of an earlier suite, which the file `cells` of its folder has."""
+    """The cells of an earlier suite, which the file `cells` of its folder has; none without a path."""
 
-    def __init__(self, path: str) -> None:
+    def __init__(self, path: str | None) -> None:
         self.path = path
+        self.cells: dict[tuple[str, str], str] = {}
+        if path is None:
+            return
         try:
             with open(path, encoding="utf-8", errors="surrogateescape", newline="\n") as file:
                 lines = file.read().split("\n")
         except OSError as error:
             raise Refusal(f"the baseline {shown(path)} cannot be read: {error.strerror}") from error
-        self.cells: dict[tuple[str, str], str] = {}
         if lines.pop():
             raise Refusal(f"the baseline {shown(path)} ends in the midst of a line")
         for line in lines:
@@ -38,7 +40,9 @@ class Baseline:
         return {pair: cell for pair, cell in cells.items() if cell not in GOOD and not self.has(pair, cell)}
 
     def lines(self, cells: Cells) -> list[str]:
-        """What is new, a line for each word of a cell."""
+        """What is new, a line for each word of a cell, and what is gone."""
+        if self.path is None:
+            return []
         pairs: dict[str, list[str]] = {}
         for (model, test), cell in self.new(cells).items():
             pairs.setdefault(cell, []).append(f"{model} {test}")

@@ -28,8 +28,6 @@ PYTHON = (sys.executable, "-E", "-S", "-B")
 GRACE = 10.0
 
 Answer = TypeVar("Answer")
-# a task that ended, by its number, and how where it failed
-Ended = tuple[int, "BaseException | None"]
 Process = subprocess.Popen[bytes]
 
 
@@ -49,8 +47,7 @@ def memory_limit(value: str) -> int | None:
     else:
         # the words of script/calls
         raise Refusal(f"PIPECHECK_MEMORY is a number of MiB, or none, and not {quoted(value)}", "pipecheck")
-    standing = standing_limit(resource.RLIMIT_AS)
-    return kib if kib is not None and (standing is None or standing > kib * 1024) else None
+    return kib if kib is not None and standing_limit(resource.RLIMIT_AS) > kib * 1024 else None
 
 
 def free_memory() -> int | None:
@@ -62,10 +59,10 @@ def free_memory() -> int | None:
     return None
 
 
-def standing_limit(kind: int) -> int | None:
+def standing_limit(kind: int) -> float:
     """The limit of this kind that stands already."""
     soft, _ = resource.getrlimit(kind)
-    return None if soft == resource.RLIM_INFINITY else soft
+    return math.inf if soft == resource.RLIM_INFINITY else soft
 
 
 class Calls:
@@ -78,31 +75,14 @@ class Calls:
         self.late: set[Process] = set()
         self.is_stopped = False
 
-    def status(
-        self, command: Sequence[str], kib: int | None, seconds: float, out: IO[bytes], said: IO[bytes] | None = None
-    ) -> int | None:
-        """Calls a program within these limits and has it write to a file; its standard error goes to another one, or is
-        not seen. The status, as a shell has it; None where it is not done in time."""
+    def status(self, command: Sequence[str], kib: int | None, seconds: float, out: IO[bytes]) -> int | None:
+        """Calls a program within these limits and has it write to a file; its standard error is not seen. The status, as a
+        shell has it; None where it is not done in time."""
         under_limits = limited(command, kib, seconds)
-        return self.finished(self.started(under_limits, out, said or subprocess.DEVNULL, signal.SIGKILL), seconds)
-
-    def status_of_build(self, command: Sequence[str], out: IO[bytes]) -> int:
-        """Calls what builds the program, without limits. It may clean up when it is ended."""
-        status = self.finished(self.started(command, out, None, signal.SIGTERM), None)
-        return 1 if status is None else status
-
-    def opened(self, command: Sequence[str], kib: int | None, said: IO[bytes]) -> Process:
-        """Starts a program that is asked by its standard input, and answers by its standard output. It has a limit of
-        address space, and one of time of its own."""
-        under_limits = limited(command, kib, None)
-        return self.started(under_limits, subprocess.PIPE, said, signal.SIGKILL, subprocess.PIPE)
+        return self.finished(self.started(under_limits, out, subprocess.DEVNULL, signal.SIGKILL), seconds)
 
     def started(
-        self,
-        command: Sequence[str],
-        out: IO[bytes] | int,
-        said: IO[bytes] | int | None,
-        ending: signal.Signals,
+        self, command: Sequence[str], out: IO[bytes] | int, said: IO[bytes] | int | None, ending: signal.Signals,
         asked: int = subprocess.DEVNULL,
     ) -> Process:
         """Starts a call and notes that it runs, at one moment."""
@@ -159,21 +139,15 @@ class Calls:
 
 
 def limited(command: Sequence[str], kib: int | None, seconds: float | None) -> list[str]:
-    """The command under a limit of address space, and of the processor time that it may take on all processors."""
+    """The command under a limit of address space, and of the processor time that it may take on all processors. A limit that
+    stands is never raised."""
     # the shell would take a dash for an option
     first = os.path.join(".", command[0]) if command[0].startswith("-") else command[0]
-    standing = standing_limit(resource.RLIMIT_AS)
-    space = kib if kib is not None else "unlimited" if standing is None else standing // 1024
-    return ["/bin/sh", "-c", LIMITED, str(processor_limit(seconds)), str(space), first, *command[1:]]
-
-
-def processor_limit(seconds: float | None) -> int | str:
-    """The processor time in seconds of a call that may last so long. A limit that stands is never raised."""
-    standing = standing_limit(resource.RLIMIT_CPU)
-    if seconds is None:
-        return "unlimited" if standing is None else standing
-    most = math.ceil(seconds) * len(os.sched_getaffinity(0)) + 1
-    return most if standing is None else min(most, standing)
+    most = math.inf if seconds is None else math.ceil(seconds) * len(os.sched_getaffinity(0)) + 1
+    time = min(most, standing_limit(resource.RLIMIT_CPU))
+    space = standing_limit(resource.RLIMIT_AS) / 1024 if kib is None else kib
+    limits = ("unlimited" if it == math.inf else str(int(it)) for it in (time, space))
+    return ["/bin/sh", "-c", LIMITED, *limits, first, *command[1:]]
 
 
 def end_group(process: Process, number: signal.Signals) -> None:
@@ -183,12 +157,14 @@ def end_group(process: Process, number: signal.Signals) -> None:
 
 
 def side_by_side(
-    calls: Calls, jobs: int, tasks: Sequence[Callable[[], Answer]], tell: Callable[[int, Answer], None]
+    calls: Calls, jobs: int, tasks: Sequence[Callable[[], Answer]], tell: Callable[[int, Answer], None] = lambda _, __: None
 ) -> list[Answer]:
     """The answers of tasks, at most so many of which run at once. Each is told with its number as it comes. Where a
     signal or a failure comes, the calls of the others end."""
     answers: dict[int, Answer] = {}
-    ended: queue.SimpleQueue[Ended] = queue.SimpleQueue()
+    failures: list[BaseException] = []
+    # by their numbers
+    ended: queue.SimpleQueue[int] = queue.SimpleQueue()
     waiting = iter(enumerate(tasks))
     taking = threading.Lock()
 
@@ -200,19 +176,19 @@ def side_by_side(
                 return
             try:
                 answers[place] = task()
-                ended.put((place, None))
             except Stopped:
                 return
             except BaseException as error:  # pylint: disable=broad-exception-caught
-                ended.put((place, error))
+                failures.append(error)
+            ended.put(place)
 
     threads = [threading.Thread(target=work) for _ in range(min(jobs, len(tasks)))]
     try:
         start(threads)
         for _ in tasks:
-            place, error = next_of(ended)
-            if error is not None:
-                raise error
+            place = next_of(ended)
+            if place not in answers:
+                raise failures[0]
             tell(place, answers[place])
     except BaseException:
         calls.stop()
@@ -224,8 +200,8 @@ def side_by_side(
     return [answers[place] for place in range(len(tasks))]
 
 
-def next_of(ended: "queue.SimpleQueue[Ended]") -> Ended:
-    """The next task that ended."""
+def next_of(ended: "queue.SimpleQueue[int]") -> int:
+    """The number of the next task that ended."""
     while True:
         with suppress(queue.Empty):
             return ended.get(timeout=PATIENCE)

@@ -1,45 +1,38 @@
-"""How many pairs are done, while a suite runs and on its last line."""
+"""How many pairs are done, while a suite runs and on its last line; and the status."""
 import sys
-from typing import Sequence
+from collections import Counter
+from typing import Collection
 
 from tools.suite.pairs import BUG, NOT_TAKEN, OBSERVABLE, OK, STRICTER, SWEPT, TIME, UNOBSERVABLE, kind_of
 from tools.suite.telling import tell
 
-UNSTATED = (OBSERVABLE, UNOBSERVABLE, SWEPT)
+UNSTATED, FAULTS = "unstated", "faults"
+# how cells are counted; each other one is a fault
+COUNTED = {
+    **{word: word for word in (OK, BUG, STRICTER, NOT_TAKEN, TIME)}, **dict.fromkeys((OBSERVABLE, UNOBSERVABLE, SWEPT), UNSTATED)
+}
 
 
-class Count:
-    """The last line, and the status."""
+def counts_of(cells: Collection[str]) -> Counter[str]:
+    """How many cells there are of each kind."""
+    return Counter(COUNTED.get(kind_of(cell), FAULTS) for cell in cells)
 
-    def __init__(self, cells: Sequence[str], seconds: float) -> None:
-        self.cells = [*map(kind_of, cells)]
-        self.seconds = seconds
 
-    def of(self, *words: str) -> int:
-        """How many cells are one of these."""
-        return sum(cell in words for cell in self.cells)
+def last_line(cells: Collection[str], seconds: float) -> str:
+    """The line that counts."""
+    counts = counts_of(cells)
+    words = (OK, BUG, STRICTER, *(word for word in (UNSTATED, NOT_TAKEN) if counts[word]), TIME, FAULTS)
+    return f"{len(cells)} pairs: {', '.join(f'{counts[word]} {word}' for word in words)}, in {int(seconds)} s"
 
-    @property
-    def faults(self) -> int:
-        """How many cells are faults."""
-        return len(self.cells) - self.of(OK, BUG, STRICTER, TIME, NOT_TAKEN, *UNSTATED)
 
-    @property
-    def line(self) -> str:
-        """The line."""
-        counted = f"{self.of(OK)} ok, {self.of(BUG)} BUG, {self.of(STRICTER)} stricter, "
-        for word, number in (("unstated", self.of(*UNSTATED)), (NOT_TAKEN, self.of(NOT_TAKEN))):
-            counted += f"{number} {word}, " if number else ""
-        return f"{len(self.cells)} pairs: {counted}{self.of(TIME)} time, {self.faults} faults, in {int(self.seconds)} s"
-
-    @property
-    def status(self) -> int:
-        """2 where some are time or a fault, 1 where some are BUG, 3 where some are stricter and none is BUG."""
-        if self.of(TIME) or self.faults:
-            return 2
-        if self.of(BUG):
-            return 1
-        return 3 if self.of(STRICTER) else 0
+def status_of(cells: Collection[str]) -> int:
+    """2 where some are time or a fault, 1 where some are BUG, 3 where some are stricter and none is BUG."""
+    counts = counts_of(cells)
+    if counts[TIME] or counts[FAULTS]:
+        return 2
+    if counts[BUG]:
+        return 1
+    return 3 if counts[STRICTER] else 0
 
 
 class Progress:

@@ -4,7 +4,7 @@ import os
 import re
 import stat
 from dataclasses import dataclass, replace
-from typing import Sequence
+from typing import Iterable, Sequence
 
 from tools.suite.refusing import Refusal
 from tools.texts.memory_models import comments
@@ -76,15 +76,14 @@ class File:
 
 
 class Copies:
-    """What is called reads copies of the bytes that were read, so that it judges these where a file is replaced."""
+    """What is called reads copies of the bytes that were read, so that it judges these where a file is replaced. Of a file that
+    is past reading there is no copy: whoever reads it says so."""
 
     def __init__(self, folder: str, files: Sequence[File]) -> None:
         self.folder = folder
         for file in files:
-            # of a file that is past reading there is no copy: whoever reads it says so
-            if file.text is not None:
-                self.write(self.path(file), file)
-            if file.asked_of is not None and file.asked_of.text is not None:
+            self.write(self.path(file), file)
+            if file.asked_of is not None:
                 self.write(self.path_of_asked(file), file.asked_of)
 
     def path(self, file: File) -> str:
@@ -97,11 +96,12 @@ class Copies:
         return os.path.join(self.folder, "asked", query.base, query.asked_of.base)
 
     def write(self, path: str, file: File) -> None:
-        """Writes a copy."""
+        if file.text is None:
+            return
         try:
             os.makedirs(os.path.dirname(path), exist_ok=True)
             with open(path, "xb") as copy:
-                copy.write(file.text or b"")
+                copy.write(file.text)
         except OSError as error:
             raise Refusal(f"{shown(file.path)} cannot be copied into {shown(self.folder)}: {error.strerror}") from error
 
@@ -128,6 +128,11 @@ def contents(path: str) -> bytes | None:
 def digest_of(text: bytes) -> str:
     """The hash by which bytes are known again."""
     return hashlib.sha256(text).hexdigest()
+
+
+def in_order(files: Iterable[File]) -> list[File]:
+    """Files by the bytes of their names."""
+    return sorted(files, key=lambda file: file.name.encode("utf-8", "surrogateescape"))
 
 
 def model_file(path: str) -> File:
@@ -168,16 +173,11 @@ def is_row(path: str) -> bool:
 
 
 def file_at(kind: str, path: str, name: str) -> File:
-    """A file under this name."""
-    judge_name(kind, name)
-    text = contents(path)
-    return File(path, name, text, digest_of(text) if text is not None else "")
-
-
-def judge_name(kind: str, name: str) -> None:
-    """Refuses what would stand outside the folder, or would not be one cell of a table."""
+    """A file under this name, which would not stand outside the folder, and is one cell of a table."""
     if name in ("", CELLS, CELLS + PART) or name.startswith((".", "-")) or CONTROL.search(name):
         raise Refusal(f"no {kind} may be named {quoted(name)}")
+    text = contents(path)
+    return File(path, name, text, digest_of(text) if text is not None else "")
 
 
 def judge_present(path: str) -> None:

@@ -1,12 +1,10 @@
 """The table of a suite as JUnit XML: a suite for each model, with a case for each test."""
-from dataclasses import dataclass
-from typing import Sequence
+from typing import Iterable
 from xml.etree import ElementTree
 from xml.etree.ElementTree import Element, SubElement
 
-from tools.suite.files import File
 from tools.suite.pairs import BUG, NOT_TAKEN, OBSERVABLE, OK, STRICTER, SWEPT, TIME, UNOBSERVABLE, kind_of
-from tools.suite.reports import writable
+from tools.suite.reports import Case, writable
 
 SENTENCES = {
     BUG: "the model shows an outcome that is forbidden",
@@ -22,25 +20,14 @@ FAILURES = (BUG, STRICTER)
 COUNTS = (("tests", "testcase"), ("failures", "failure"), ("errors", "error"), ("skipped", "skipped"))
 
 
-@dataclass(frozen=True)
-class Case:
-    """A pair: its cell, whether that is the same in the baseline, and the lines below the table that speak of it."""
-
-    model: File
-    test: File
-    cell: str
-    is_as_before: bool
-    lines: Sequence[str]
-
-
-def sentence_of(cell: str, test: File) -> str:
+def sentence_of(case: Case) -> str:
     """What a cell says."""
-    if cell != kind_of(cell):
-        return f"the answer to the query is {cell[len(BUG) + 2 : -1]}, and {test.expected} is expected"
-    return SENTENCES.get(cell, f"a fault: {cell}")
+    if case.cell != kind_of(case.cell):
+        return f"the answer to the query is {case.cell[len(BUG) + 2 : -1]}, and {case.test.expected} is expected"
+    return SENTENCES.get(case.cell, f"a fault: {case.cell}")
 
 
-def junit(cases: Sequence[Case], seconds: float) -> bytes:
+def junit(cases: Iterable[Case], seconds: float) -> bytes:
     """The cases, which come model by model."""
     root = Element("testsuites", name="pipecheck-suite", time=f"{seconds:.3f}")
     suites: dict[str, Element] = {}
@@ -61,7 +48,7 @@ def add(suite: Element, case: Case) -> None:
     """Adds a case, with what it has where it is not passed."""
     names = {"classname": case.model.name, "name": case.test.name, "file": case.test.path}
     element = SubElement(suite, "testcase", {key: writable(name) for key, name in names.items()})
-    sentence = sentence_of(case.cell, case.test)
+    sentence = sentence_of(case)
     if case.cell in PASSED:
         return
     if case.cell in SKIPPED:

@@ -12,7 +12,7 @@ from typing import IO, Iterator, Mapping
 
 from tools.ending import SIGNALS
 from tools.suite.files import CELLS, PART, File, digest_of
-from tools.suite.pairs import STATED_WORDS, STATUSES, Found
+from tools.suite.pairs import Found, verdict_found
 from tools.suite.refusing import Refusal
 from tools.suite.telling import tell
 from tools.texts.quoting import shown
@@ -26,18 +26,17 @@ STATE = ".state"
 
 
 @contextmanager
-def new_file(place: str) -> Iterator[tuple[IO[bytes], str]]:
-    """A file that is written beside a place, with its path. Only what `take_place` moves there is left of it."""
+def new_file(place: str) -> Iterator[IO[bytes]]:
+    """A file that is written beside a place. Only what `take_place` moves there is left of it."""
     part = place + PART
     with suppress(FileNotFoundError):
         os.unlink(part)
-    handle = os.open(part, os.O_RDWR | os.O_CREAT | os.O_EXCL | os.O_CLOEXEC, 0o666)
-    try:
-        with os.fdopen(handle, "w+b") as file:
-            yield file, part
-    finally:
-        with suppress(OSError):
-            os.unlink(part)
+    with open(part, "x+b") as file:
+        try:
+            yield file
+        finally:
+            with suppress(OSError):
+                os.unlink(part)
 
 
 def take_place(place: str) -> None:
@@ -47,7 +46,7 @@ def take_place(place: str) -> None:
 
 def write_anew(place: str, text: bytes) -> None:
     """Writes a whole file."""
-    with new_file(place) as (file, _):
+    with new_file(place) as file:
         file.write(text)
         file.flush()
         take_place(place)
@@ -58,6 +57,7 @@ class Folder:
 
     def __init__(self, path: str) -> None:
         self.path = path
+        self.cells = os.path.join(path, CELLS)
         try:
             os.makedirs(path, exist_ok=True)
             flags = os.O_RDWR | os.O_CREAT | os.O_NOFOLLOW | os.O_CLOEXEC
@@ -65,11 +65,6 @@ class Folder:
             self.lock = os.open(os.path.join(path, LOCK), flags, 0o666)
         except OSError as error:
             raise Refusal(f"the folder {shown(path)} cannot be written") from error
-
-    @property
-    def cells(self) -> str:
-        """Where the rows of the last table are."""
-        return os.path.join(self.path, CELLS)
 
     def wait_in_turn(self) -> None:
         """Waits for another suite that writes here."""
@@ -80,13 +75,17 @@ class Folder:
             SIGNALS.lock(self.lock)
 
     def make_room(self, model: File) -> None:
-        """Makes the folder of a model's certificates. A link to another folder is none."""
+        """Makes the folder of a model's certificates, without what a suite that was ended by force left half written. A link to
+        another folder is none."""
         path = os.path.join(self.path, model.name)
         try:
             is_own = not os.path.islink(path)
             if is_own:
                 os.makedirs(path, exist_ok=True)
-                remove_parts(path)
+                for name in os.listdir(path):
+                    if name.endswith(PARTS):
+                        with suppress(OSError):
+                            os.unlink(os.path.join(path, name))
         except OSError:
             is_own = False
         if not is_own or not os.access(path, os.W_OK):
@@ -112,6 +111,7 @@ class State:
         self.folder = folder
         # the hash of the program; empty where its bytes are not known, and then nothing is kept
         self.program = program
+        # by the places of their certificates
         self.pairs: dict[str, dict[str, str]] = {}
 
     def read(self) -> None:
@@ -119,7 +119,7 @@ class State:
         try:
             found = json.loads(contents_of_any_length(self.place))
             pairs = found["pairs"] if found["program"] == self.program != "" else {}
-            self.pairs = {name: pair for name, pair in pairs.items() if is_texts(pair)}
+            self.pairs = {name: pair for name, pair in pairs.items() if isinstance(pair, dict)}
         except FileNotFoundError:
             self.pairs = {}
         except (OSError, ValueError, KeyError, TypeError, AttributeError, RecursionError):
@@ -128,32 +128,34 @@ class State:
 
     def found(self, model: File, test: File) -> Found | None:
         """The verdict of a pair, where it is known for these bytes and the certificate of then is there."""
-        pair = self.pairs.get(self.key(model, test))
-        if pair is None or "" in (model.digest, test.digest):
+        known = self.pairs.get(self.key(model, test))
+        if known is None or "" in (model.digest, test.digest):
             return None
-        certificate = contents_of_place(self.folder.place(model, test))
-        found = Found(verdict_of(certificate), pair.get("stated", ""))
-        is_same = pair == {**self.origin(model, test, certificate), "verdict": found.verdict, "stated": found.stated}
-        return found if is_same and found.stated in STATED_WORDS else None
+        found, pair = self.pair(model, test)
+        return found if pair == known and found.verdict else None
 
     def note(self, model: File, test: File, found: Found) -> None:
         """Notes a verdict whose certificate is kept."""
-        certificate = contents_of_place(self.folder.place(model, test))
-        if self.program != "" and verdict_of(certificate) == found.verdict != "":
-            origin = self.origin(model, test, certificate)
-            self.pairs[self.key(model, test)] = {**origin, "verdict": found.verdict, "stated": found.stated}
+        kept, pair = self.pair(model, test)
+        if self.program != "" and kept.verdict == found.verdict != "":
+            self.pairs[self.key(model, test)] = pair
 
     def key(self, model: File, test: File) -> str:
-        """A pair by the place of its certificate."""
         return f"{model.name}/{test.base}"
 
-    def origin(self, model: File, test: File, certificate: bytes | None) -> dict[str, str]:
-        """What a verdict comes from."""
-        return {
+    def pair(self, model: File, test: File) -> tuple[Found, dict[str, str]]:
+        """What the certificate of a pair says, and that with all that it comes from."""
+        certificate = None
+        with suppress(OSError):
+            certificate = contents_of_any_length(self.folder.place(model, test))
+        found = verdict_found(certificate or b"")
+        return found, {
             "model": model.digest,
             "test": test.digest,
             "words": f"{test.kind.check} {test.kind.verify}",
             "certificate": digest_of(certificate) if certificate is not None else "none",
+            "verdict": found.verdict,
+            "stated": found.stated,
         }
 
     def write(self) -> bool:
@@ -170,33 +172,6 @@ class State:
         """A suite that is done leaves nothing to go on from."""
         with suppress(OSError):
             os.unlink(self.place)
-
-
-def remove_parts(folder: str) -> None:
-    """Removes what a suite that was ended by force left half written."""
-    for name in os.listdir(folder):
-        if name.endswith(PARTS):
-            with suppress(OSError):
-                os.unlink(os.path.join(folder, name))
-
-
-def is_texts(pair: object) -> bool:
-    """Whether a part of a state is what this module writes."""
-    return isinstance(pair, dict) and all(isinstance(text, str) for text in (*pair.keys(), *pair.values()))
-
-
-def verdict_of(certificate: bytes | None) -> str:
-    """The verdict that the first line of a certificate says; empty where it says none."""
-    first = (certificate or b"").split(b"\n", 1)[0].decode("ascii", "replace")
-    return first if first in STATUSES else ""
-
-
-def contents_of_place(place: str) -> bytes | None:
-    """The bytes of a certificate; None where there is none."""
-    try:
-        return contents_of_any_length(place)
-    except OSError:
-        return None
 
 
 def contents_of_any_length(place: str) -> bytes:

@@ -7,11 +7,11 @@ import json
 import os
 import re
 from contextlib import suppress
-from typing import NamedTuple
+from typing import IO, Iterator
 
 from tools.suite.files import PART, File, digest_of
-from tools.suite.keeping import contents_of_any_length, verdict_of
-from tools.suite.pairs import STATED_WORDS, Found, answer_found, rows_found
+from tools.suite.keeping import contents_of_any_length
+from tools.suite.pairs import Found, found_in
 from tools.suite.refusing import Refusal
 from tools.suite.telling import tell
 from tools.texts.quoting import shown
@@ -23,28 +23,28 @@ ENTRY = re.compile(r"[0-9a-f]{64}(\.[0-9a-f]{32}\.part)?")
 FORMAT = "1"
 
 
-class Size(NamedTuple):
-    """When an entry was last taken, where it is, and how long it is."""
-
-    moment: float
-    path: str
-    length: int
-
-
 class Kept:
-    """The folder of kept verdicts."""
+    """The folder of kept verdicts. Without a path nothing is kept."""
 
     def __init__(self, path: str, program: str) -> None:
         self.path = path
         # the hash of the program; empty where its bytes are not known, and then nothing is kept
-        self.program = program
+        self.program = program if path else ""
         self.taken: set[str] = set()
+        if not path:
+            return
+        if not program:
+            tell(f"suite: nothing is kept in {shown(path)}: PIPECHECK is not one binary")
         try:
             os.makedirs(path, exist_ok=True)
         except OSError as error:
             raise Refusal(f"the folder {shown(path)} cannot be made: {error.strerror}") from error
         if not os.access(path, os.R_OK | os.W_OK | os.X_OK):
             raise Refusal(f"the folder {shown(path)} cannot be written")
+
+    def knows(self, model: File, test: File) -> bool:
+        """Whether all bytes are known that a verdict comes from."""
+        return "" not in (self.program, model.digest, test.digest)
 
     def place(self, model: File, test: File) -> str:
         """Where the verdict of a pair is kept."""
@@ -53,20 +53,15 @@ class Kept:
 
     def found(self, model: File, test: File) -> tuple[Found, bytes] | None:
         """The verdict of a pair with the program's text, where it is kept."""
-        if "" in (self.program, model.digest, test.digest):
+        if not self.knows(model, test):
             return None
         place = self.place(model, test)
         try:
             head, _, text = contents_of_any_length(place).partition(b"\n")
-            entry = json.loads(head)
-            is_whole = entry["digest"] == digest_of(text)
-            found = Found(verdict_of(text), entry["stated"])
+            is_whole = json.loads(head)["digest"] == digest_of(text)
         except (OSError, ValueError, KeyError, TypeError, RecursionError):
             return None
-        if test.is_pattern or test.is_query:
-            found = rows_found(text) if test.is_pattern else answer_found(text)
-        elif found.stated not in STATED_WORDS:
-            return None
+        found = found_in(test, text)
         if not is_whole or not found.verdict:
             return None
         # what is taken stays longest
@@ -75,10 +70,12 @@ class Kept:
         self.taken.add(place)
         return found, text
 
-    def keep(self, model: File, test: File, found: Found, text: bytes) -> None:
-        """Keeps a verdict with the program's text. Where that fails the program is asked again the next time."""
-        if "" in (self.program, model.digest, test.digest) or not found.verdict:
+    def keep(self, model: File, test: File, found: Found, said: IO[bytes]) -> None:
+        """Keeps a verdict with what the program said. Where that fails the program is asked again the next time."""
+        if not self.knows(model, test):
             return
+        said.seek(0)
+        text = said.read()
         place = self.place(model, test)
         head = json.dumps({"stated": found.stated, "digest": digest_of(text)}).encode("ascii")
         part = f"{place}.{os.urandom(16).hex()}{PART}"
@@ -97,22 +94,20 @@ class Kept:
 
     def shorten(self) -> None:
         """Removes what was not taken for longest, until the rest is no more than so much."""
-        sizes = sorted(self.sizes())
-        length = sum(size.length for size in sizes)
-        for size in sizes:
+        entries = sorted(self.entries())
+        length = sum(size for _, _, size in entries)
+        for _, path, size in entries:
             if length <= MOST_BYTES:
                 return
             with suppress(OSError):
-                os.unlink(size.path)
-            length -= size.length
+                os.unlink(path)
+            length -= size
 
-    def sizes(self) -> list[Size]:
-        """The entries, and what a suite that was ended by force left of one."""
-        found = []
+    def entries(self) -> Iterator[tuple[float, str, int]]:
+        """Of each entry, and of what a suite that was ended by force left of one: when it was last taken, its path and its size."""
         with suppress(OSError), os.scandir(self.path) as entries:
             for entry in entries:
                 if ENTRY.fullmatch(entry.name):
                     with suppress(OSError):
                         status = entry.stat(follow_symlinks=False)
-                        found.append(Size(status.st_mtime, entry.path, status.st_size))
-        return found
+                        yield status.st_mtime, entry.path, status.st_size

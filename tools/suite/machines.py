@@ -1,15 +1,17 @@
 """What the machines of memory models say of tests. A process of a machine runs one test after another."""
+import math
 import os
 import select
+import signal
 import subprocess
 import tempfile
 import threading
 import time
+from contextlib import suppress
 from dataclasses import dataclass
-from typing import IO
 
 from tools.suite.allowing import Machines
-from tools.suite.calling import GRACE, Calls, memory_limit
+from tools.suite.calling import GRACE, Calls, limited, memory_limit
 from tools.suite.files import Copies, File
 
 # what ends a path, and an answer
@@ -39,13 +41,14 @@ class Late(Exception):
 
 
 class Machine:
-    """A process of the machine of one memory model."""
+    """A process of the machine of one memory model, which has a limit of time of its own."""
 
     def __init__(self, name: str, command: list[str], calls: Calls) -> None:
         self.name = name
         self.calls = calls
         self.said = tempfile.TemporaryFile()
-        self.process = calls.opened(command, memory_limit(""), self.said)
+        under_limits = limited(command, memory_limit(""), None)
+        self.process = calls.started(under_limits, subprocess.PIPE, self.said, signal.SIGKILL, subprocess.PIPE)
 
     def answer(self, path: str, deadline: float) -> list[str]:
         """The lines that it answers of a test up to a moment of the clock."""
@@ -56,9 +59,14 @@ class Machine:
             questions.flush()
         except BrokenPipeError as error:
             raise Ended from error
+        poll = select.poll()
+        poll.register(answers, select.POLLIN)
         text = b""
         while not text.endswith(END):
-            part = read_part(answers, deadline)
+            left = deadline - time.monotonic()
+            if left <= 0 or not poll.poll(left * 1000):
+                raise Late
+            part = os.read(answers.fileno(), LARGEST_PART)
             if not part:
                 raise Ended
             text += part
@@ -69,29 +77,12 @@ class Machine:
         status = self.calls.finished(self.process, seconds)
         for pipe in (self.process.stdin, self.process.stdout):
             if pipe is not None:
-                close(pipe)
+                with suppress(BrokenPipeError):
+                    pipe.close()
         with self.said as said:
             said.seek(0)
             lines = said.read().decode("ascii", "backslashreplace").splitlines()
         return ": ".join([f"status {status}", *lines[-1:]]) if status else "its answer is none"
-
-
-def read_part(answers: IO[bytes], deadline: float) -> bytes:
-    """Some bytes of an answer; none where the process ended."""
-    poll = select.poll()
-    poll.register(answers, select.POLLIN)
-    left = deadline - time.monotonic()
-    if left <= 0 or not poll.poll(left * 1000):
-        raise Late
-    return os.read(answers.fileno(), LARGEST_PART)
-
-
-def close(pipe: IO[bytes]) -> None:
-    """Closes a pipe, whoever is at its other end."""
-    try:
-        pipe.close()
-    except BrokenPipeError:
-        pass
 
 
 class Judges:
@@ -112,8 +103,8 @@ class Judges:
             self.end(machine)
             machine = None
         if machine is None:
-            machine = Machine(name, self.machines.command_of_many(name, self.seconds), self.calls)
-            self.by_thread[threading.get_ident()] = machine
+            command = self.machines.command(name, "--within", str(math.ceil(self.seconds) + 1))
+            machine = self.by_thread[threading.get_ident()] = Machine(name, command, self.calls)
         return machine
 
     def end(self, machine: Machine, seconds: float = 0) -> str:
@@ -125,10 +116,11 @@ class Judges:
         """Ends all processes, once no thread asks any more."""
         for machine in self.by_thread.values():
             machine.end()
-        self.by_thread = {}
 
-    def answer(self, name: str, test: File, deadline: float) -> Answer:
-        """What the machine of this name says of a test up to a moment of the clock."""
+    def answer(self, name: str, test: File, deadline: float | None) -> Answer:
+        """What the machine of this name says of a test up to a moment of the clock, or within the limit of one test."""
+        if deadline is None:
+            deadline = time.monotonic() + self.seconds
         if deadline <= time.monotonic():
             return Answer(is_late=True)
         machine = self.machine(name)
@@ -146,7 +138,3 @@ class Judges:
         if not test.is_pattern and len(lines) == 1 and lines[0] in VERDICTS:
             return Answer(VERDICTS[lines[0]])
         return Answer(fault="its answer is none")
-
-    def answer_in_time(self, name: str, test: File) -> Answer:
-        """What a machine says of a test within the limit of one."""
-        return self.answer(name, test, time.monotonic() + self.seconds)

@@ -2,16 +2,15 @@
 import os
 import re
 import tempfile
-from contextlib import suppress
 from dataclasses import dataclass
 from typing import IO
 
 from tools.suite.calling import Calls
-from tools.suite.files import File
+from tools.suite.files import Copies, File
 
 OBSERVABLE, UNOBSERVABLE = "observable", "unobservable"
-# the status of `check` with its first line, and that of `verify` with its line
-STATUSES = {OBSERVABLE: 0, UNOBSERVABLE: 1}
+# by the status of `check` with its first line, and that of `verify` with its line
+VERDICTS = (OBSERVABLE, UNOBSERVABLE)
 SWEPT, ASKED = "swept", "asked"
 OK, BUG, STRICTER, TIME, UNNAMED, FAULT = "ok", "BUG", "stricter", "time", "unnamed", "fault"
 NOT_TAKEN = "not taken"
@@ -19,8 +18,8 @@ NOT_TAKEN = "not taken"
 GOOD = (OK, OBSERVABLE, UNOBSERVABLE, SWEPT, NOT_TAKEN)
 CERTIFICATE, UNREADABLE, UNWRITTEN, MACHINE = "certificate", "unreadable", "unwritten", "machine"
 REFUSED = re.compile(rb"refused ([a-z]+) ([a-z0-9-]+) at ([0-9]+:[0-9]+)")
-STATED_WORDS = ("unstated", "permitted", "forbidden")
-STATED = re.compile(rb"test (?:(unstated)|(permitted|forbidden): (?:ok|BUG|stricter))")
+UNSTATED, PERMITTED, FORBIDDEN = "unstated", "permitted", "forbidden"
+STATED = re.compile(r"test (?:(unstated)|(permitted|forbidden): (?:ok|BUG|stricter))")
 SUMMARY = re.compile(rb"sweep [0-9]+")
 # the lines that are looked at are short
 HEAD = 4096
@@ -38,11 +37,6 @@ class Found:
     rows: frozenset[str] = frozenset()
     place: str = ""
 
-    @property
-    def is_swept(self) -> bool:
-        """Whether it has rows in place of a verdict."""
-        return self.verdict == SWEPT
-
 
 class Checker:
     """The program, within limits; and what the last line says of it."""
@@ -58,9 +52,14 @@ class Checker:
         """Calls the program with these words."""
         return self.calls.status([*self.command, *words], self.kib, self.seconds, out)
 
-    def answered(self, model: str, query: File, paths: tuple[str, str], out: IO[bytes]) -> Found:
-        """Asks a query of a model on its test; the paths are those of test and query. The answer goes to a file, and each of
-        its certificates is judged in the model that it is of."""
+    def found(self, copies: Copies, model: File, test: File, out: IO[bytes]) -> Found:
+        """Checks a pair. The certificate goes to a file, which has a path; the answer to a query has several."""
+        if test.is_query:
+            return self.answered(copies.path(model), test, copies.path_of_asked(test), copies.path(test), out)
+        return self.checked(copies.path(model), test, copies.path(test), out)
+
+    def answered(self, model: str, query: File, test: str, path: str, out: IO[bytes]) -> Found:
+        """Asks the query at this path of a model on its test. Each certificate is judged in the model that it is of."""
         # what few calls need, and what takes as long to import as all the rest
         # pylint: disable=import-outside-toplevel
         from tools.texts.answers import AnswerRefused, read_answer
@@ -68,7 +67,7 @@ class Checker:
         from tools.second.scopes import read_model
         from tools.second.tokens import Fault
 
-        status = self.status([query.kind.check, model, *paths], out)
+        status = self.status([query.kind.check, model, test, path], out)
         out.seek(0)
         said = out.read()
         found = answer_found(said)
@@ -84,35 +83,27 @@ class Checker:
         with tempfile.TemporaryDirectory() as folder:
             of_part, part = os.path.join(folder, "model"), os.path.join(folder, "part")
             for _, wanted, written, certificate in parts:
-                for path, content in ((of_part, written), (part, certificate)):
-                    with open(path, "wb") as file:
+                for place, content in ((of_part, written), (part, certificate)):
+                    with open(place, "wb") as file:
                         file.write(content)
-                verdict = next(verdict for verdict, number in STATUSES.items() if number == wanted)
-                fault = self.fault_of_judge(verdict, [str(query.kind.verify), of_part, paths[0], part])
+                fault = self.fault_of_judge(VERDICTS[wanted], [str(query.kind.verify), of_part, test, part])
                 if fault:
                     return Found(fault=fault)
         return found
 
-    def found(self, model: str, test: File, path: str, out: IO[bytes], part: str) -> Found:
-        """Checks a pair: a model, and a test at this path. The certificate goes to a file, which has the last path."""
+    def checked(self, model: str, test: File, path: str, out: IO[bytes]) -> Found:
+        """Checks the test at this path, and has the certificate judged."""
         status = self.status([test.kind.check, model, path], out)
-        lines = os.pread(out.fileno(), HEAD, 0).split(b"\n")
-        first, second = lines[0], lines[1] if len(lines) > 1 else b""
+        said = os.pread(out.fileno(), HEAD, 0)
+        first = said.split(b"\n", 1)[0]
         if test.kind.verify is None and status == 0 and SUMMARY.fullmatch(first):
             out.seek(0)
             return rows_found(out.read())
         verdict = first.decode("latin-1")
-        if test.kind.verify is not None and verdict in STATUSES and status == STATUSES[verdict]:
-            return self.judged(verdict, second, [test.kind.verify, model, path, part])
-        return fault_of(status, first)
-
-    def judged(self, verdict: str, second: bytes, words: list[str]) -> Found:
-        """The verdict, where the judge of certificates says the same."""
-        stated = STATED.fullmatch(second)
-        fault = self.fault_of_judge(verdict, words)
-        if fault or stated is None:
-            return Found(fault=fault or FAULT)
-        return Found(verdict, (stated[1] or stated[2]).decode("ascii"))
+        if test.kind.verify is None or verdict not in VERDICTS or status != VERDICTS.index(verdict):
+            return fault_of(status, first)
+        fault = self.fault_of_judge(verdict, [test.kind.verify, model, path, out.name])
+        return Found(fault=fault) if fault else verdict_found(said)
 
     def fault_of_judge(self, verdict: str, words: list[str]) -> str:
         """The cell where the judge of certificates does not say this verdict; nothing where it does."""
@@ -121,7 +112,7 @@ class Checker:
             said = os.pread(out.fileno(), HEAD, 0)
         if status is None:
             return TIME
-        is_same = status == STATUSES[verdict] and said.rstrip(b"\n") == b"verified " + verdict.encode("ascii")
+        is_same = status == VERDICTS.index(verdict) and said.rstrip(b"\n") == b"verified " + verdict.encode("ascii")
         return "" if is_same else CERTIFICATE
 
 
@@ -134,6 +125,20 @@ def fault_of(status: int | None, first: bytes) -> Found:
         kind, word, place = (part.decode("ascii") for part in refused.groups())
         return Found(fault=f"{kind}:{word}", place=place)
     return Found(fault=UNREADABLE if status == 4 else f"status:{status}")
+
+
+def found_in(test: File, text: bytes) -> Found:
+    """What the program's text on a test says."""
+    return rows_found(text) if test.is_pattern else answer_found(text) if test.is_query else verdict_found(text)
+
+
+def verdict_found(text: bytes) -> Found:
+    """The verdict that a certificate says in its first line, and in its second what the test states."""
+    first, second, *_ = [*text[:HEAD].decode("latin-1").split("\n"), ""]
+    stated = STATED.fullmatch(second)
+    if first not in VERDICTS or stated is None:
+        return Found(fault=FAULT)
+    return Found(first, stated[1] or stated[2])
 
 
 def rows_found(text: bytes) -> Found:
@@ -156,25 +161,13 @@ def answer_found(text: bytes) -> Found:
 
 def cell_of(found: Found, is_allowed: bool | None) -> str:
     """What the table shows of a verdict, where a row says what is allowed, or else the test itself."""
-    if found.fault:
-        return found.fault
     if is_allowed is None:
-        if found.stated not in ("permitted", "forbidden"):
+        if found.stated == UNSTATED:
             return found.verdict
-        is_allowed = found.stated == "permitted"
+        is_allowed = found.stated == PERMITTED
     if found.verdict == OBSERVABLE:
         return OK if is_allowed else BUG
     return STRICTER if is_allowed else OK
-
-
-def cell_of_answer(found: Found, expected: str) -> str:
-    """What the table shows of the answer to a query."""
-    return OK if found.stated == expected else f"{BUG} ({found.stated})"
-
-
-def kind_of(cell: str) -> str:
-    """A cell without the answer in its brackets."""
-    return BUG if cell.startswith(f"{BUG} (") else cell
 
 
 def cell_of_rows(found: Found, allowed: frozenset[str]) -> str:
@@ -184,7 +177,6 @@ def cell_of_rows(found: Found, allowed: frozenset[str]) -> str:
     return STRICTER if allowed - found.rows else OK
 
 
-def remove(path: str) -> None:
-    """Removes a file that may be there."""
-    with suppress(FileNotFoundError):
-        os.unlink(path)
+def kind_of(cell: str) -> str:
+    """A cell without the answer in its brackets."""
+    return BUG if cell.startswith(f"{BUG} (") else cell

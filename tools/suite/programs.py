@@ -2,6 +2,7 @@
 import os
 import shlex
 import shutil
+import signal
 import tempfile
 from typing import Mapping
 
@@ -53,8 +54,12 @@ def command_of(value: str) -> list[str]:
 def standing_program(top: str, calls: Calls) -> standing.Standing:
     """The program of the sources that are here, which is made where it is not there."""
     with tempfile.TemporaryFile() as out:
-        command = standing.command(top)
-        (status,) = side_by_side(calls, 1, [lambda: calls.status_of_build(command, out)], lambda _, __: None)
+
+        def build() -> int | None:
+            # it may clean up when it is ended
+            return calls.finished(calls.started(standing.command(top), out, None, signal.SIGTERM), None)
+
+        (status,) = side_by_side(calls, 1, [build])
         out.seek(0)
         said = out.read()
     if status != 0:
@@ -71,7 +76,7 @@ def held(program: str) -> str:
 def is_checker(checker: Checker) -> bool:
     """Whether a program answers a call without words as a checker does."""
     with tempfile.TemporaryFile() as out:
-        (status,) = side_by_side(checker.calls, 1, [lambda: checker.status([], out)], lambda _, __: None)
+        (status,) = side_by_side(checker.calls, 1, [lambda: checker.status([], out)])
     return status == BAD_WORDS
 
 

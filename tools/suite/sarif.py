@@ -6,12 +6,11 @@ from typing import Iterable, Iterator, Mapping, NamedTuple, Sequence
 from urllib.parse import quote
 
 from tools.suite.files import File
-from tools.suite.junit import FAILURES, SENTENCES, Case, sentence_of
+from tools.suite.junit import FAILURES, SENTENCES, sentence_of
 from tools.suite.pairs import BUG, kind_of
-from tools.suite.reports import writable
+from tools.suite.reports import Case, writable
 from tools.texts.quoting import shown
 
-VERSION = "2.1.0"
 SCHEMA = "https://json.schemastore.org/sarif-2.1.0.json"
 PLACE = re.compile(r":([1-9][0-9]*):([1-9][0-9]*): ([a-z0-9'-]+): (.*)", re.DOTALL)
 # the tables of pages that have a row for each kind
@@ -52,7 +51,7 @@ def rows_of(path: str, heads: Sequence[str]) -> Iterator[tuple[str, str]]:
                 yield name, row[2]
 
 
-def sarif(cases: Sequence[Case], lines: Sequence[str], files: Iterable[File], rules: Sequence[Rule]) -> bytes:
+def sarif(cases: Iterable[Case], lines: Sequence[str], files: Iterable[File], rules: Sequence[Rule]) -> bytes:
     """The pairs that are BUG or stricter, and of the lines those that name a place of a file, with all rules."""
     known = {rule.name: rule for rule in rules}
     # the longest name first, since one may begin another
@@ -64,25 +63,10 @@ def sarif(cases: Sequence[Case], lines: Sequence[str], files: Iterable[File], ru
             # the faults of names in a macro, and `unnamed`, have no row of their own
             known.setdefault(place[3], Rule(place[3], place[3], True))
             results.append(result(known, place[3], place[4], location(path, int(place[1]), int(place[2]))))
-    text = {
-        "$schema": SCHEMA,
-        "version": VERSION,
-        "runs": [
-            {
-                "tool": {
-                    "driver": {
-                        "name": "pipecheck-suite",
-                        "rules": [
-                            {"id": rule.name, "shortDescription": {"text": writable(rule.sentence)}}
-                            for rule in known.values()
-                        ],
-                    }
-                },
-                "results": results,
-            }
-        ],
-    }
-    return json.dumps(text, indent=1).encode("ascii") + b"\n"
+    described = [{"id": rule.name, "shortDescription": {"text": writable(rule.sentence)}} for rule in known.values()]
+    driver = {"name": "pipecheck-suite", "rules": described}
+    log = {"$schema": SCHEMA, "version": "2.1.0", "runs": [{"tool": {"driver": driver}, "results": results}]}
+    return json.dumps(log, indent=1).encode("ascii") + b"\n"
 
 
 def result(rules: Mapping[str, Rule], name: str, said: str, place: dict[str, object]) -> dict[str, object]:
@@ -98,7 +82,7 @@ def result(rules: Mapping[str, Rule], name: str, said: str, place: dict[str, obj
 
 def result_of_case(rules: Mapping[str, Rule], case: Case) -> dict[str, object]:
     """That of a pair, at the model; the test stands beside it."""
-    said = f"{shown(case.model.path)} on {shown(case.test.path)}: {sentence_of(case.cell, case.test)}"
+    said = f"{shown(case.model.path)} on {shown(case.test.path)}: {sentence_of(case)}"
     found = result(rules, kind_of(case.cell), said, location(case.model.path, 1, 1))
     found["relatedLocations"] = [location(case.test.path, 1, 1)]
     return found
@@ -118,9 +102,4 @@ def location(path: str, line: int, column: int) -> dict[str, object]:
     uri = quote(os.fsencode(path))
     if os.path.isabs(path):
         uri = f"file://{uri}"
-    return {
-        "physicalLocation": {
-            "artifactLocation": {"uri": uri},
-            "region": {"startLine": line, "startColumn": column},
-        }
-    }
+    return {"physicalLocation": {"artifactLocation": {"uri": uri}, "region": {"startLine": line, "startColumn": column}}}

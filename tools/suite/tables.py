@@ -1,10 +1,7 @@
 """Tables as text: columns of their width with two blanks between, and lines without blanks at their ends."""
-import os
+import shutil
 import sys
-from typing import Mapping, Sequence
-
-# no terminal is wider than such a number says
-MOST_DIGITS = 9
+from typing import Sequence
 
 
 def aligned(rows: Sequence[Sequence[str]]) -> list[str]:
@@ -23,14 +20,8 @@ def table_of_models(models: Sequence[str], rows: Sequence[Sequence[str]], width:
     return aligned(list(zip(numbers, models))) + aligned([["test", *numbers], *rows])
 
 
-def width_of_terminal(environ: Mapping[str, str]) -> int | None:
+def width_of_terminal() -> int | None:
     """How many columns the terminal has that the table goes to; None where it goes to something else."""
     if sys.stdout is None or not sys.stdout.isatty():
         return None
-    columns = environ.get("COLUMNS", "")
-    if columns.isascii() and columns.isdigit() and len(columns) <= MOST_DIGITS and int(columns) > 0:
-        return int(columns)
-    try:
-        return os.get_terminal_size(sys.stdout.fileno()).columns or None
-    except OSError:
-        return None
+    return shutil.get_terminal_size((0, 0)).columns or None

@@ -1,7 +1,7 @@
 """The words and the variables of the environment that the suite is called with."""
 import os
 import re
-from dataclasses import dataclass, field
+from dataclasses import dataclass
 from typing import Mapping, Sequence
 
 from tools.suite.files import (
@@ -27,32 +27,23 @@ class Words:
     tests: list[File]
 
 
-@dataclass
-class Paths:
-    """The files that words name."""
-
-    models: list[str] = field(default_factory=list)
-    tests: list[str] = field(default_factory=list)
-    # the folders of tests
-    folders: list[str] = field(default_factory=list)
-
-
 def read_words(words: Sequence[str], environ: Mapping[str, str], top: str) -> Words:
     """The options, and the files that the other words name, in any order. Where no word names a model all that are
     shipped are taken, and where none names a test the folder SUITE_TESTS, or that of the shipped ones."""
     options, rest = options_of(words)
-    paths = Paths()
+    models: list[str] = []
+    tests: list[str] = []
     for word in rest:
-        take_word(paths, word)
-    models = paths.models
-    if not models:
-        models = files_in(os.path.join(top, "examples", "models"), (MODEL_ENDING,))
+        judge_present(word)
+        if os.path.isdir(word):
+            tests += tests_in(word)
+        else:
+            (tests if is_test(word) else models).append(word)
+    shipped = os.path.join(top, "examples", "tests")
+    models = models or files_in(os.path.join(top, "examples", "models"), (MODEL_ENDING,))
     if "--axioms" in options and len(models) != 1:
         raise Refusal("--axioms takes one model, which is named")
-    if not paths.tests and not paths.folders:
-        take_folder(paths, environ.get("SUITE_TESTS") or os.path.join(top, "examples", "tests"))
-    models, tests = once(models), once(paths.tests)
-    shipped = os.path.join(top, "examples", "tests")
+    models, tests = once(models), once(tests or tests_in(environ.get("SUITE_TESTS") or shipped))
     folders = [*dict.fromkeys(os.path.dirname(path) for path in tests), shipped]
     found = Words(options, [model_file(path) for path in models], [test_file(path, folders) for path in tests])
     judge_distinct("model", found.models)
@@ -93,24 +84,12 @@ def options_of(words: Sequence[str]) -> tuple[Mapping[str, str], list[str]]:
     return options, rest
 
 
-def take_word(paths: Paths, word: str) -> None:
-    """Takes what a word names: a folder, or a file by its ending."""
-    judge_present(word)
-    if os.path.isdir(word):
-        take_folder(paths, word)
-    elif is_test(word):
-        paths.tests.append(word)
-    else:
-        paths.models.append(word)
-
-
-def take_folder(paths: Paths, folder: str) -> None:
-    """Takes the tests of a folder."""
+def tests_in(folder: str) -> list[str]:
+    """The tests of a folder, which has some."""
     tests = [path for path in files_in(folder, tuple(KINDS)) if is_row(path)]
     if not tests:
         raise Refusal(f"there is no test in {shown(folder)}")
-    paths.folders.append(folder)
-    paths.tests += tests
+    return tests
 
 
 def files_in(folder: str, endings: Sequence[str]) -> list[str]:
