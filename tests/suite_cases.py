@@ -9,13 +9,14 @@ import contextlib
 import io
 import os
 import re
+import shutil
 import signal
 import subprocess
 import threading
 from typing import Any, Callable, Sequence
 
 from tests.cases import (
-    LONGEST, PATIENCE, TOP, Cases, Done, apart, call, environment, read, replaced, run, script_entry, write
+    LONGEST, PATIENCE, TOP, Cases, Done, apart, call, command, environment, read, replaced, run, script_entry, write
 )
 
 # what a suite imports where it is needed is there before it is forked
@@ -83,14 +84,22 @@ def of_suite(done: Done, work: str) -> Done:
 
 
 class SuiteCases(Cases):
-    """Cases of the suite, with the tests of WORK/tests, and certificates in WORK/kept."""
+    """Cases of the suite, with copies of these tests in WORK/tests, and certificates in WORK/kept."""
+
+    tests: Sequence[str] = ()
 
     def setUp(self) -> None:
         super().setUp()
-        # the folder of the suite that is called, in place of the one that stands apart, and how it is told what lint says
-        self.top = ""
+        # the folder of the suite that is called, and how it is told what lint says
+        self.top = apart()
         self.lint_lines: Callable[[Lint, File], list[str]] = lint_here
         os.mkdir(f"{self.work}/tests")
+        self.copy("tests", *self.tests)
+
+    def copy_suite(self, folder: str = "copy") -> None:
+        """Has the suite be called that stands in a folder of WORK."""
+        self.top = f"{self.work}/{folder}"
+        shutil.copytree(apart(), self.top, symlinks=True)
 
     def put(self, name: str, text: str | bytes) -> str:
         """Writes a file in WORK, in a folder that is made where it is not there. Returns its path."""
@@ -104,9 +113,7 @@ class SuiteCases(Cases):
 
     def script(self, name: str, text: str) -> str:
         """Writes a script of the shell in WORK, which can be called. Returns its path."""
-        path = self.put(name, f"#!/bin/sh\n{text}\n")
-        os.chmod(path, 0o755)
-        return path
+        return command(f"{self.work}/{name}", text)
 
     def at(self, text: str) -> str:
         """A text with the folder that WORK stands for."""
@@ -119,12 +126,12 @@ class SuiteCases(Cases):
 
     def called(self, *words: str, **env: str) -> Done:
         """Calls the suite in a process that is forked from this one."""
-        path = f"{self.top or apart()}/examples/suite"
+        path = f"{self.top}/examples/suite"
 
         def entry() -> None:
             # no call may wait for what never comes
             signal.alarm(LONGEST)
-            with replaced(Lint, "lines", self.lint_lines), replaced(tools, "TOP", self.top or apart()):
+            with replaced(Lint, "lines", self.lint_lines), replaced(tools, "TOP", self.top):
                 script_entry(path)()
 
         return call(entry, [path, *map(self.at, words)], env=self.variables(env))
@@ -134,14 +141,14 @@ class SuiteCases(Cases):
     ) -> subprocess.Popen[bytes]:
         """Starts the suite as a process of its own; these words stand before it."""
         options: dict[str, Any] = {"stdin": subprocess.DEVNULL, "stdout": subprocess.DEVNULL, "stderr": subprocess.DEVNULL, **how}
-        command = [*before, f"{self.top or apart()}/examples/suite", *map(self.at, words)]
-        process = subprocess.Popen(command, cwd=TOP, env=environment(self.variables(env or {})), **options)
+        call_of = [*before, f"{self.top}/examples/suite", *map(self.at, words)]
+        process = subprocess.Popen(call_of, cwd=TOP, env=environment(self.variables(env or {})), **options)
         self.addCleanup(end, process)
         return process
 
     def started(self, *words: str, env: dict[str, str] | None = None, before: Sequence[str] = (), **how: Any) -> Done:
         """Runs the suite as a process of its own; these words stand before it."""
-        return run([*before, f"{apart()}/examples/suite", *map(self.at, words)], env=self.variables(env or {}), **how)
+        return run([*before, f"{self.top}/examples/suite", *map(self.at, words)], env=self.variables(env or {}), **how)
 
     def writes(self, name: str, done: Done, status: int, text: str, said: str = "") -> None:
         """The suite wrote this table with the folder of certificates above the last line, which counts."""

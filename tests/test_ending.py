@@ -17,13 +17,6 @@ from tools.build.processes import SIGNALS
 from tools.suite.calling import Calls, side_by_side
 
 MODEL, TEST = "examples/in-order.uspec", "examples/mp.test"
-LISTING = """X86 SB
-{ }
- P0 | P1 ;
- MOV [x],$1 | MOV [y],$1 ;
- MOV EAX,[y] | MOV EAX,[x] ;
-exists (0:EAX=0 /\\ 1:EAX=0)
-"""
 LOG = """Test SB Allowed
 Histogram (1 states)
 5     *>0:EAX=0; 1:EAX=0;
@@ -38,7 +31,7 @@ Observation SB Always 5 0
 TOOLS: dict[str, tuple[Callable[[], object], list[str]]] = {
     "mend": (tool_entry("mend.main"), [MODEL, TEST]),
     "explain": (tool_entry("explain.judged"), ["PROGRAM", MODEL, TEST]),
-    "compare": (tool_entry("listings.compare"), [MODEL, "WORK/SB.litmus", "WORK/log"]),
+    "compare": (tool_entry("listings.compare"), [MODEL, "examples/x86/SB.litmus", "WORK/log"]),
     "suite": (script_entry(f"{TOP}/examples/suite"), ["examples/models/tutorial.uspec", TEST]),
     "suite --axioms": (script_entry(f"{TOP}/examples/suite"), ["--axioms", "examples/models/tutorial.uspec", TEST]),
 }
@@ -83,7 +76,6 @@ class Ended(Cases):
 
     def test_moments(self) -> None:
         write(f"{self.work}/log", LOG)
-        write(f"{self.work}/SB.litmus", LISTING)
         for tool, (entry, words) in TOOLS.items():
             for name, moment in (
                 ("is looked for", "unlink before"), ("is made", "mkdir after"), ("is removed", "rmdir before"),

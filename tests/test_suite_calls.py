@@ -3,11 +3,13 @@ from __future__ import annotations
 
 import contextlib
 import fcntl
+import glob
 import io
 import json
 import os
 import pty
 import re
+import resource
 import shutil
 import signal
 import struct
@@ -17,10 +19,12 @@ import termios
 import threading
 import time
 from dataclasses import replace
-from typing import Callable
+from functools import partial
+from typing import Any, Callable
 
 from tests.cases import (
-    PATIENCE, TOP, Done, apart, call, comes, program, read, replaced, signal_unseen, text_of, tool, write
+    PATIENCE, TOP, Done, apart, call, comes, files_below, program, read, replaced, signal_unseen, text_of, tool, within,
+    without_output, write
 )
 from tests.suite_cases import CORR, EARLY, GOOD, MP, NO_FAULTS, SB, SC, TUTORIAL, SuiteCases, no_lint, of_suite
 
@@ -54,20 +58,17 @@ SIGNALS = (
     signal.SIGTERM, signal.SIGHUP, signal.SIGINT, signal.SIGQUIT, signal.SIGUSR1, signal.SIGUSR2, signal.SIGALRM,
     signal.SIGVTALRM, signal.SIGPROF, signal.SIGXCPU,
 )
-UNWRITTEN = "suite: standard output could not be written: what it got is not the whole answer\n"
 
 
-def contents_in(folder: str) -> dict[str, dict[str, str]]:
-    """What the files below a folder have, by the folders that they are in."""
-    return {place: {it: read(f"{place}/{it}") for it in names} for place, _, names in os.walk(folder)}
+def contents_in(folder: str) -> dict[str, str]:
+    """What the files below a folder have."""
+    return {it: read(f"{folder}/{it}") for it in files_below(folder)}
 
 
 class Words(SuiteCases):
     """Words, names and variables of the environment."""
 
-    def setUp(self) -> None:
-        super().setUp()
-        self.copy("tests", MP, SB)
+    tests = (MP, SB)
 
     def test_words(self) -> None:
         os.mkdir(f"{self.work}/none")
@@ -153,9 +154,7 @@ class Words(SuiteCases):
 class Checkers(SuiteCases):
     """Checkers that lie, are late, or are replaced."""
 
-    def setUp(self) -> None:
-        super().setUp()
-        self.copy("tests", MP, SB)
+    tests = (MP, SB)
 
     def liar(self, checks: str, verifies: str) -> str:
         """A checker that does these commands of the shell when it is to check, and to verify."""
@@ -163,27 +162,24 @@ class Checkers(SuiteCases):
 
     def test_liars(self) -> None:
         said = "echo unobservable; echo test forbidden: ok; exit 1"
-        for name, checks, verifies, cell, counts in (
-            ("a status without its verdict", "exit 1", "echo verified unobservable; exit 1", "status:1", "0 time, 2 faults"),
+        for name, checks, verifies, cell in (
+            ("a status without its verdict", "exit 1", "echo verified unobservable; exit 1", "status:1"),
             (
                 "a status with another verdict", "echo observable; echo test forbidden: BUG; exit 1",
-                "echo verified unobservable; exit 1", "status:1", "0 time, 2 faults",
+                "echo verified unobservable; exit 1", "status:1",
             ),
-            ("a judge that is late", said, "sleep 600", "time", "2 time, 0 faults"),
-            ("a checker that is late", "sleep 600", "exit 1", "time", "2 time, 0 faults"),
-            ("a judge without its line", said, "exit 1", "certificate", "0 time, 2 faults"),
-            (
-                "a certificate that is refused", said, "echo certificate refused at line 3; exit 6", "certificate",
-                "0 time, 2 faults",
-            ),
-            ("a checker that a signal ends", "kill -9 $$", "exit 1", "status:137", "0 time, 2 faults"),
-            ("a judge that a signal ends", said, "kill -9 $$", "certificate", "0 time, 2 faults"),
+            ("a judge that is late", said, "sleep 600", "time"),
+            ("a checker that is late", "sleep 600", "exit 1", "time"),
+            ("a judge without its line", said, "exit 1", "certificate"),
+            ("a certificate that is refused", said, "echo certificate refused at line 3; exit 6", "certificate"),
+            ("a checker that a signal ends", "kill -9 $$", "exit 1", "status:137"),
+            ("a judge that a signal ends", said, "kill -9 $$", "certificate"),
         ):
             self.table(name, 2, f"""\
 test  sc-inorder
 MP    {cell}
 SB    {cell}
-2 pairs: 0 ok, 0 BUG, 0 stricter, {counts}, in N s
+2 pairs: 0 ok, 0 BUG, 0 stricter, {"2 time, 0 faults" if cell == "time" else "0 time, 2 faults"}, in N s
 """, SC, PIPECHECK=self.liar(checks, verifies), **({"SUITE_SECONDS": "10"} if "late" in name else {}))
         leaving = self.liar(f"sleep 600 & {said}", "sleep 600 & echo verified unobservable; exit 1")
         self.table("a checker that leaves something running", 0, GOOD, SC, PIPECHECK=leaving)
@@ -209,21 +205,21 @@ two   status:7
         stages = "".join(f'StageName {k} "S{k}".\n' for k in range(32))
         nodes = "".join(f"(i, S{k});" for k in range(32))
         self.put("nodes.uspec", f'% Memory model: tso\n{stages}Axiom "n": forall microops "i", NodesExist [{nodes}].\n')
-        limited = ["bash", "-c", 'ulimit -f 1 && exec "$@"', "bash"]
-        self.writes("a limit of the size of files", self.started("WORK/nodes.uspec", "WORK/four.test", before=limited), 2, """\
+        limited = within(resource.RLIMIT_FSIZE, 1024)
+        self.writes("a limit of the size of files", self.started("WORK/nodes.uspec", "WORK/four.test", preexec_fn=limited), 2, """\
 test  nodes
 four  status:5
 1 pairs: 0 ok, 0 BUG, 0 stricter, 0 time, 1 faults, in N s
 """)
         os.mkdir(f"{self.work}/temporary")
-        done = self.started(EARLY, "WORK/four.test", before=limited, env={"TMPDIR": "WORK/temporary"})
+        done = self.started(EARLY, "WORK/four.test", preexec_fn=limited, env={"TMPDIR": "WORK/temporary"})
         self.judge(
             "a limit of the size of files that a copy of a model passes",
             Done(done.status, done.out, re.sub("tmp[a-z0-9_]*:", "FOLDER:", done.err.replace(self.work, "WORK"))), 2, "",
             f"suite: {EARLY} cannot be copied into WORK/temporary/FOLDER: File too large\n",
         )
         self.same("a copy of a model that passes the limit of size leaves nothing", os.listdir(f"{self.work}/temporary"), [])
-        done = self.started(SC, before=["bash", "-c", 'ulimit -v 20000 && exec "$@"', "bash"])
+        done = self.started(SC, preexec_fn=within(resource.RLIMIT_AS, 20_000 << 10))
         self.judge("a limit of memory that Python cannot load the suite in", Done(done.status, done.out, ""), 2)
 
     def test_replaced(self) -> None:
@@ -244,8 +240,7 @@ test  tutorial-early  mine
 CoRR  BUG             BUG
 MP    BUG             BUG
 4 pairs: 0 ok, 4 BUG, {NO_FAULTS}""")
-        self.top = f"{self.work}/copy"
-        shutil.copytree(apart(), self.top, symlinks=True)
+        self.copy_suite()
         self.two_programs()
         self.table("a program that is replaced while the suite runs", 1, BAD_PAIR, EARLY, SUITE_JOBS="1")
         self.same("the suite's program is replaced after its first answer", os.path.exists(f"{self.work}/second"), False)
@@ -282,8 +277,7 @@ exit 1""")
             ("a b", r"a\ b"), ("a\nb", r"$'a\nb'"), ("a&b", r"a\&b"), ("a\\b", r"a\\b"), ("a'b", r"a\'b"), ('a"b', r"a\"b"),
             ("a;b", r"a\;b"), ("a*", r"a\*"),
         ):
-            self.top = f"{self.work}/odd/{name}"
-            shutil.copytree(apart(), self.top, symlinks=True)
+            self.copy_suite(f"odd/{name}")
             self.table(f"a copy in a folder that is named {word}", 1, BAD_PAIR, EARLY)
             is_called = os.path.exists(f"{self.work}/odd/a.called")
             self.same(f"a copy in a folder that is named {word} calls no other file", is_called, False)
@@ -316,8 +310,7 @@ not compared with a machine within the limit of time: 1 test, the first WORK/lar
         ):
             done = self.started(EARLY, PATTERN, env={name: value})
             self.writes(f"with {name}={value.replace('WORK', '..')} a machine says the same", done, 1, BAD_PATTERN)
-        limited = ["bash", "-c", 'ulimit -v 1000000 && exec "$@"', "bash"]
-        done = self.started(EARLY, PATTERN, before=limited)
+        done = self.started(EARLY, PATTERN, preexec_fn=within(resource.RLIMIT_AS, 1_000_000 << 10))
         self.writes("under a limit of address space, which a machine has then", done, 1, BAD_PATTERN)
 
     def test_layouts(self) -> None:
@@ -337,9 +330,8 @@ Microop 0 0 0 1 (Read (VA 0 0) (PA 0 0) (Data Any)).
 
     def machine(self, text: str) -> None:
         """The suite's copy gets this as its machine of TSO."""
-        self.top = f"{self.work}/copy"
-        if not os.path.exists(self.top):
-            shutil.copytree(apart(), self.top, symlinks=True)
+        if self.top == apart():
+            self.copy_suite()
         write(f"{self.top}/tools/agree/machines/tso.py", text)
 
     def test_failing(self) -> None:
@@ -399,9 +391,7 @@ SB.pattern    BUG
 class Folders(SuiteCases):
     """What cannot be written, and what an interrupted suite has got."""
 
-    def setUp(self) -> None:
-        super().setUp()
-        self.copy("tests", MP, SB)
+    tests = (MP, SB)
 
     def test_unwritten(self) -> None:
         self.put("kept/sc-inorder/MP.test.certificate.part/x", "")
@@ -433,15 +423,14 @@ SB    ok
 
     def test_streams(self) -> None:
         """Standard output and standard error that are full, closed, or not read."""
-        with open("/dev/full", "wb") as full:
-            self.judge("a full device as standard output", self.started(SC, stdout=full), 2, "", UNWRITTEN)
-        closed = self.started(SC, before=["bash", "-c", '"$@" >&-', "bash"])
-        self.judge("a closed standard output", closed, 2, "", UNWRITTEN)
-        ours, theirs = os.pipe()
-        os.close(ours)
-        self.judge("a standard output whose reader has enough", self.started(SC, stdout=theirs), 2)
-        os.close(theirs)
-        self.writes("a closed standard error", self.started(SC, before=["bash", "-c", '"$@" 2>&-', "bash"]), 0, GOOD)
+        said = "suite: standard output could not be written: what it got is not the whole answer\n"
+        for kind, name, line in (
+            ("full", "a full device as standard output", said), ("closed", "a closed standard output", said),
+            ("unread", "a standard output whose reader has enough", ""),
+        ):
+            with without_output(kind) as how:
+                self.judge(name, self.started(SC, **how), 2, "", line)
+        self.writes("a closed standard error", self.started(SC, preexec_fn=partial(os.close, 2)), 0, GOOD)
 
     def test_states(self) -> None:
         """What an interrupted suite has got is read where a suite can have written it."""
@@ -472,7 +461,7 @@ SB    ok
 
 def parts_in(folder: str) -> list[str]:
     """The files that are half written."""
-    return [name for _, _, names in os.walk(folder) for name in names if name.endswith(".part")]
+    return [f"{folder}/{it}" for it in files_below(folder) if it.endswith(".part")]
 
 
 class Signals(SuiteCases):
@@ -489,25 +478,23 @@ class Signals(SuiteCases):
         self.checker = self.script("checker", f'[ $# -gt 0 ] || exit 2\ntrap "" {ignored}\necho observable\nsleep 600 &\nwait')
         self.env = {"PIPECHECK": self.checker, "SUITE_SECONDS": "600"}
 
-    def wait_for(self, is_so: Callable[[], bool]) -> None:
-        """Waits until something comes true, or fails."""
-        self.assertTrue(comes(is_so), "it did not come true in time")
+    def begun_with_part(self, **how: Any) -> subprocess.Popen[bytes]:
+        """Starts a suite, and waits until its checker has written a part of a certificate."""
+        process = self.begun(TUTORIAL, MP, env=self.env, **how)
+        self.assertTrue(comes(lambda: any(map(os.path.getsize, parts_in(f"{self.work}/kept")))))
+        return process
 
     def test_each(self) -> None:
         for number in SIGNALS:
-            process = self.begun(TUTORIAL, MP, env=self.env)
-            self.wait_for(lambda: bool(running(self.checker)) and bool(parts_in(f"{self.work}/kept")))
-            groups = groups_of(running(self.checker))
+            process = self.begun_with_part()
             process.send_signal(number)
             status = process.wait(PATIENCE)
             self.same(f"{number.name} ends a suite", status, -number)
-            self.same(f"{number.name} ends a suite's programs", (left_of(groups), running(self.checker)), ([], []))
+            self.same(f"{number.name} ends a suite's programs", comes(lambda: not running_in(self.work)))
             self.same(f"{number.name} leaves no part", parts_in(f"{self.work}/kept"), [])
 
     def test_ignored(self) -> None:
-        ignoring = ["sh", "-c", 'trap "" HUP; exec "$@"', "sh"]
-        process = self.begun(TUTORIAL, MP, env=self.env, before=ignoring)
-        self.wait_for(lambda: bool(parts_in(f"{self.work}/kept")))
+        process = self.begun_with_part(before=["sh", "-c", 'trap "" HUP; exec "$@"', "sh"])
         process.send_signal(signal.SIGHUP)
         time.sleep(0.5)
         self.same("HUP does not end a suite that ignores it, as behind nohup", process.poll(), None)
@@ -594,50 +581,25 @@ class Signals(SuiteCases):
 
     def test_build(self) -> None:
         """A build ends with the suite, and may clean up before."""
-        self.top, note = f"{self.work}/copy", f"{self.work}/built"
-        shutil.copytree(apart(), self.top, symlinks=True)
+        self.copy_suite()
+        note = f"{self.work}/built"
         write(f"{self.top}/script/calls", f"ensure_built() {{ trap 'rm -f {note}' EXIT; : >{note}; sleep 600; }}\n")
         process = self.begun(TUTORIAL, MP)
-        self.wait_for(lambda: os.path.exists(note))
-        groups = groups_of(running(self.top)) - {os.getpgid(0)}
+        self.assertTrue(comes(lambda: os.path.exists(note)))
         process.send_signal(signal.SIGTERM)
         status = process.wait(PATIENCE)
         self.same("TERM ends a suite that builds", status, -signal.SIGTERM)
-        self.same("TERM ends a suite's build", (os.path.exists(note), left_of(groups)), (False, []))
+        self.same("TERM ends a suite's build", (os.path.exists(note), comes(lambda: not running_in(self.work))), (False, True))
 
 
-def running(word: str) -> list[int]:
-    """The processes one of whose words has this in it."""
+def running_in(work: str) -> list[str]:
+    """The processes that have this folder in their environment, as a suite has it and all that it starts."""
     found = []
-    for name in os.listdir("/proc"):
-        if name.isdigit() and int(name) != os.getpid():
-            with contextlib.suppress(OSError), open(f"/proc/{name}/cmdline", "rb") as file:
-                if word.encode("ascii") in file.read():
-                    found.append(int(name))
+    for path in glob.glob("/proc/[0-9]*/environ"):
+        # one of another user, or one that has ended, says nothing
+        with contextlib.suppress(OSError):
+            found += [path] if work in read(path) else []
     return found
-
-
-def groups_of(processes: list[int]) -> set[int]:
-    """The groups of processes that are still there."""
-    found = set()
-    for it in processes:
-        with contextlib.suppress(ProcessLookupError):
-            found.add(os.getpgid(it))
-    return found
-
-
-def left_of(groups: set[int]) -> list[int]:
-    """The groups of processes that are still there when they had time to end."""
-
-    def is_there(group: int) -> bool:
-        try:
-            os.killpg(group, 0)
-        except ProcessLookupError:
-            return False
-        return True
-
-    comes(lambda: not any(map(is_there, groups)))
-    return list(filter(is_there, groups))
 
 
 class Terminals(SuiteCases):
@@ -770,13 +732,13 @@ class Parts(SuiteCases):
         """What was not taken for longest goes, where there is more than the limit; and nothing else in the folder does."""
         model, found = model_file(f"{TOP}/{TUTORIAL}"), Found("unobservable", "forbidden")
         tests = [replace(test_file(f"{TOP}/{MP}"), digest=letter) for letter in "abc"]
-        text = b"unobservable\n" + b"x" * 1000
+        text = b"unobservable\ntest forbidden: ok\n" + b"x" * 1000
         store = f"{self.work}/store"
         for name in ("mine", "0" * 64 + ".part", "0" * 64 + "." + "0" * 32 + ".part"):
             os.utime(self.put(f"store/{name}", text), (0, 0))
         verdicts = kept.Kept(store, "the program")
         for age, test in enumerate(tests):
-            verdicts.keep(model, test, found, text)
+            verdicts.keep(model, test, found, io.BytesIO(text))
             os.utime(verdicts.place(model, test), (1000 - age, 1000 - age))
         self.same("a verdict is taken", verdicts.found(model, tests[2]), (found, text))
         with replaced(kept, "MOST_BYTES", 2500):

@@ -23,8 +23,6 @@ def names_of(pattern: str) -> list[str]:
 
 
 MODELS, TESTS, LISTINGS = names_of("models/*.uspec"), names_of("tests/*.test"), names_of("x86/*.litmus")
-
-
 TRANSLATION = names_of("translation/*.test")
 AGREEMENT: tuple[tuple[str, int, str, list[str]], ...] = (
     (
@@ -60,12 +58,6 @@ swept by the program
 )
 
 
-def all_ok(tests: list[str]) -> str:
-    """How the last line begins where all models are right on all of these."""
-    pairs = len(tests) * len(MODELS)
-    return f"{pairs} pairs: {pairs} ok, 0 BUG, 0 stricter, 0 time, 0 faults, in N s\n"
-
-
 class Shipped(SuiteCases):
     """All shipped tests and listings on all shipped models."""
 
@@ -82,16 +74,20 @@ class Shipped(SuiteCases):
             -signal.SIGTERM, "suite: N pairs are kept, and the next suite goes on from there\n"
         ))
         self.same("a suite that is ended leaves no part", glob.glob(f"{self.work}/ended/*/*.part"), [])
-        done = of_suite(self.called(**env), self.work)
-        last = done.out.splitlines(keepends=True)[-1]
-        self.same(
-            "a suite goes on from what it has: all shipped tests on all shipped models", (done.status, last, numbered(done.err)),
-            (0, all_ok(TESTS), "suite: N pairs stand from a suite that was interrupted\n"),
+        self.counts(
+            "a suite goes on from what it has: all shipped tests on all shipped models", TESTS,
+            "suite: N pairs stand from a suite that was interrupted\n", **env,
         )
-        done = of_suite(self.called(**{**env, "SUITE_TESTS": f"{TOP}/examples/x86"}), self.work)
-        last = done.out.splitlines(keepends=True)[-1]
-        self.same("all shipped listings on all shipped models", (done.status, last, done.err), (0, all_ok(LISTINGS), ""))
+        self.counts("all shipped listings on all shipped models", LISTINGS, "", **{**env, "SUITE_TESTS": f"{TOP}/examples/x86"})
         self.same("tests that are written in both forms have one verdict", self.verdicts_of_both_forms(), (630, []))
+
+    def counts(self, name: str, tests: list[str], said: str, **env: str) -> None:
+        """All models are right on all of these, by the last line."""
+        done = of_suite(self.called(**env), self.work)
+        pairs = len(tests) * len(MODELS)
+        self.same(name, (done.status, done.out.splitlines(keepends=True)[-1], numbered(done.err)), (
+            0, f"{pairs} pairs: {pairs} ok, 0 BUG, 0 stricter, 0 time, 0 faults, in N s\n", said
+        ))
 
     def verdicts_of_both_forms(self) -> tuple[int, list[str]]:
         """How many pairs of a model and a listing have the verdict of the test that says the same, and those that have another."""

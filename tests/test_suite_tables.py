@@ -1,7 +1,6 @@
 """The tables of examples/suite: what it says of tests of one's own, of listings, patterns and queries, and beside other tables."""
 from __future__ import annotations
 
-import glob
 import json
 import os
 import shutil
@@ -14,8 +13,9 @@ from tests.cases import TOP, program, read, write
 from tests.suite_cases import BUFFER, CORR, EARLY, GOOD, MP, NO_FAULTS, SB, SC, TSO, TUTORIAL, SuiteCases, of_suite
 from tests.suite_cases import without_first_line
 
+from tools.second.cores import without
 from tools.second.scopes import read_model
-from tools.suite.axioms import without
+from tools.texts.answers import cut_text
 
 BROKEN = 'Litmus "broken"'
 # the test of message passing without what it states
@@ -333,9 +333,10 @@ MP+merge    ok          ok                       BUG
 class Beside(SuiteCases):
     """What is new beside an earlier suite, and reports for other programs."""
 
+    tests = (MP, SB)
+
     def setUp(self) -> None:
         super().setUp()
-        self.copy("tests", MP, SB)
         self.put("strict.uspec", STRICT)
         self.put("broken.test", BROKEN)
 
@@ -438,9 +439,10 @@ warning unwritten unwritten slip.test 7 47""")
 class Keeping(SuiteCases):
     """Verdicts that are kept over suites."""
 
+    tests = (MP, SB)
+
     def setUp(self) -> None:
         super().setUp()
-        self.copy("tests", MP, SB)
         self.store = f"{self.work}/store"
 
     def stand(self, name: str, number: int, **env: str) -> None:
@@ -593,10 +595,11 @@ axiom                                      changes  first
             b'StageName 0 "S".' + b" " * 32 + b'\n  (* b *) Axiom "b": False.\nDefineMacro "M": True.',
             b'StageName 0 "S". Axiom "a": True % Axiom "no": .\n. (* b *)' + b" " * 18 + b'\nDefineMacro "M": True.',
         )
-        for axiom, rest in zip(read_model(text).axioms, wanted):
-            self.same(f"a model without axiom {axiom.title}", without(text, axiom), rest)
+        model = read_model(text)
+        for number, rest in enumerate(wanted):
+            axiom = model.axioms[number]
+            self.same(f"a model without axiom {axiom.title}", cut_text(model, text, without([0, 1], number)), rest)
             self.same(f"a model without axiom {axiom.title} has no such axiom", axiom in read_model(rest).axioms, False)
-
 
 
 def junit_lines(path: str) -> Iterator[str]:

@@ -100,7 +100,6 @@ class Signals:
                 self.remove(made)
 
     def remove(self, folder: "tempfile.TemporaryDirectory[str]") -> None:
-        """Removes a temporary folder."""
         with self.held():
             folder.cleanup()
             self.folders.remove(folder)

@@ -50,7 +50,6 @@ class Rows:
 
     @property
     def memory_models(self) -> set[str]:
-        """The memory models that have a row."""
         return {name for name, _ in self.rows}
 
     def has(self, test: File) -> bool:

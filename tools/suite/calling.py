@@ -201,7 +201,6 @@ def side_by_side(
 
 
 def next_of(ended: "queue.SimpleQueue[int]") -> int:
-    """The number of the next task that ended."""
     while True:
         with suppress(queue.Empty):
             return ended.get(timeout=PATIENCE)

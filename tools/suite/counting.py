@@ -14,12 +14,10 @@ COUNTED = {
 
 
 def counts_of(cells: Collection[str]) -> Counter[str]:
-    """How many cells there are of each kind."""
     return Counter(COUNTED.get(kind_of(cell), FAULTS) for cell in cells)
 
 
 def last_line(cells: Collection[str], seconds: float) -> str:
-    """The line that counts."""
     counts = counts_of(cells)
     words = (OK, BUG, STRICTER, *(word for word in (UNSTATED, NOT_TAKEN) if counts[word]), TIME, FAULTS)
     return f"{len(cells)} pairs: {', '.join(f'{counts[word]} {word}' for word in words)}, in {int(seconds)} s"
@@ -44,7 +42,6 @@ class Progress:
         self.is_shown = sys.stderr is not None and sys.stderr.isatty()
 
     def step(self) -> None:
-        """One more."""
         self.done += 1
         if self.is_shown:
             tell(f"\r{self.done} of {self.count}", end="")

@@ -56,7 +56,6 @@ class File:
 
     @property
     def base(self) -> str:
-        """The name of the file."""
         return os.path.basename(self.path)
 
     @property
@@ -126,7 +125,6 @@ def contents(path: str) -> bytes | None:
 
 
 def digest_of(text: bytes) -> str:
-    """The hash by which bytes are known again."""
     return hashlib.sha256(text).hexdigest()
 
 
@@ -136,7 +134,6 @@ def in_order(files: Iterable[File]) -> list[File]:
 
 
 def model_file(path: str) -> File:
-    """A model."""
     return file_at("model", path, os.path.basename(path).removesuffix(MODEL_ENDING))
 
 

@@ -45,7 +45,6 @@ def take_place(place: str) -> None:
 
 
 def write_anew(place: str, text: bytes) -> None:
-    """Writes a whole file."""
     with new_file(place) as file:
         file.write(text)
         file.flush()

@@ -88,7 +88,6 @@ class Kept:
                 os.unlink(part)
 
     def tell_taken(self) -> None:
-        """How many verdicts were taken."""
         if self.taken:
             tell(f"suite: {len(self.taken)} pairs stand from {shown(self.path)}")
 

@@ -32,14 +32,6 @@ class Answer:
     fault: str = ""
 
 
-class Ended(Exception):
-    """The process of a machine ended in place of an answer."""
-
-
-class Late(Exception):
-    """The process of a machine gave no answer in time."""
-
-
 class Machine:
     """A process of the machine of one memory model, which has a limit of time of its own."""
 
@@ -51,24 +43,22 @@ class Machine:
         self.process = calls.started(under_limits, subprocess.PIPE, self.said, signal.SIGKILL, subprocess.PIPE)
 
     def answer(self, path: str, deadline: float) -> list[str]:
-        """The lines that it answers of a test up to a moment of the clock."""
+        """The lines that it answers of a test. Where it gives none up to a moment of the clock that is a TimeoutError, and where it
+        ends a BrokenPipeError or an EOFError."""
         questions, answers = self.process.stdin, self.process.stdout
         assert questions is not None and answers is not None
-        try:
-            questions.write(os.fsencode(path) + END)
-            questions.flush()
-        except BrokenPipeError as error:
-            raise Ended from error
+        questions.write(os.fsencode(path) + END)
+        questions.flush()
         poll = select.poll()
         poll.register(answers, select.POLLIN)
         text = b""
         while not text.endswith(END):
             left = deadline - time.monotonic()
             if left <= 0 or not poll.poll(left * 1000):
-                raise Late
+                raise TimeoutError
             part = os.read(answers.fileno(), LARGEST_PART)
             if not part:
-                raise Ended
+                raise EOFError
             text += part
         return text.removesuffix(END).decode("ascii", "backslashreplace").splitlines()
 
@@ -126,10 +116,10 @@ class Judges:
         machine = self.machine(name)
         try:
             lines = machine.answer(self.copies.path(test), deadline)
-        except Late:
+        except TimeoutError:
             self.end(machine)
             return Answer(is_late=True)
-        except Ended:
+        except (BrokenPipeError, EOFError):
             return Answer(fault=self.end(machine, GRACE))
         if lines == [NOT_RUN]:
             return Answer()

@@ -51,7 +51,6 @@ def suite(words: Sequence[str], environ: Mapping[str, str], top: str) -> int:
 
 
 def pairs(asked: Words, environ: Mapping[str, str], top: str, seconds: float, jobs: int) -> int:
-    """Runs all pairs."""
     table = environ.get("SUITE_TABLE", "")
     rows = Rows(table or os.path.join(top, "examples", "memory-models.tsv"), by_name=bool(table))
     for option in (JUNIT, SARIF):

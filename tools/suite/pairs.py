@@ -49,7 +49,6 @@ class Checker:
         self.calls = calls
 
     def status(self, words: list[str], out: IO[bytes]) -> int | None:
-        """Calls the program with these words."""
         return self.calls.status([*self.command, *words], self.kib, self.seconds, out)
 
     def found(self, copies: Copies, model: File, test: File, out: IO[bytes]) -> Found:

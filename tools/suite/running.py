@@ -89,7 +89,6 @@ class Suite:
         self.answers: defaultdict[tuple[str, File], Answer] = defaultdict(Answer)
 
     def run(self, jobs: int, seconds: float, width: int | None) -> Result:
-        """Runs all."""
         begun = time.monotonic()
         self.check_pairs(jobs)
         self.ask_machines(jobs, seconds)
@@ -155,7 +154,6 @@ class Suite:
     # what is shown
 
     def cell(self, model: File, test: File) -> str:
-        """The cell of a pair."""
         found = self.found[model, test]
         name = self.memory_models[model.name]
         if found.fault:

@@ -98,7 +98,6 @@ def place_in(line: str, names: Sequence[tuple[str, str]]) -> tuple[str, re.Match
 
 
 def location(path: str, line: int, column: int) -> dict[str, object]:
-    """A place in a file."""
     uri = quote(os.fsencode(path))
     if os.path.isabs(path):
         uri = f"file://{uri}"

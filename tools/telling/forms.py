@@ -34,7 +34,6 @@ class Forms:
         self.forms = [Form(*row) for row in rows]
 
     def of(self, word: str) -> list[Form]:
-        """The forms of one command."""
         return [form for form in self.forms if form.word == word]
 
     def kinds_of(self, words: list[str]) -> list[str]:

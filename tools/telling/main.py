@@ -8,7 +8,6 @@
     python3 tools telling place LINE FILE         the same of one file
     python3 tools telling unread                  says nothing; the status is 0 where nobody reads standard output, a pipe, any more
 """
-import os
 import select
 import sys
 from typing import Iterator
@@ -21,7 +20,6 @@ from tools.telling.refusals import place_of, refusal_of, told
 
 
 def lines(what: str, words: list[str]) -> Iterator[str]:
-    """What is said."""
     if what == "forms":
         yield from Forms(TOP).lines(*words)
         if words == ["agree"]:
@@ -56,7 +54,6 @@ def is_unread() -> bool:
 
 
 def main(what: str, *words: str) -> int:
-    """Writes it."""
     if what == "unread":
         return 0 if is_unread() else 1
     for line in lines(what, list(words)):
