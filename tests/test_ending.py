@@ -97,78 +97,69 @@ class Ended(Cases):
             def __del__(self) -> None:
                 os.kill(os.getpid(), signal.SIGTERM)
 
-        def begin() -> int:
+        def work() -> int:
             calls = Calls()
+            ending.SIGNALS.receive()
+            Gone()
+            with open(os.devnull, "wb") as out:
+                side_by_side(calls, 1, [lambda: calls.status(["sleep", "600"], None, 600, out)])
+            return 0
 
-            def work() -> int:
-                ending.SIGNALS.receive()
-                Gone()
-                with open(os.devnull, "wb") as out:
-                    side_by_side(calls, 1, [lambda: calls.status(["sleep", "600"], None, 600, out)], lambda _, __: None)
-                return 0
-
-            return ending.SIGNALS.status_or_end(work)
-
-        self.same("TERM comes while an object goes", call(begin, []), Done(143, "", ""))
+        self.same("TERM comes while an object goes", done_by(ending.SIGNALS, work), Done(143, "", ""))
 
     def test_unseen(self) -> None:
         """A signal that Python does not see at once while a call waits for another one that builds."""
 
-        def begin() -> int:
+        def work() -> int:
             # where it is not seen, the clock ends this process
             signal.alarm(PATIENCE)
-
-            def work() -> int:
-                SIGNALS.receive()
-                signal_unseen()
-                with replaced(builder, "OUT", self.work), builder.in_turn("pipecheck"):
-                    return 0
-
-            return SIGNALS.status_or_end(work)
+            SIGNALS.receive()
+            signal_unseen()
+            with replaced(builder, "OUT", self.work), builder.in_turn("pipecheck"):
+                return 0
 
         said = "pipecheck: another call is building the program: waiting for it\n"
         with open(f"{self.work}/pipecheck_lock", "wb") as lock:
             fcntl.flock(lock, fcntl.LOCK_EX)
-            self.same("TERM comes while a call waits for another one that builds", call(begin, []), Done(143, "", said))
+            self.same("TERM comes while a call waits for another one that builds", done_by(SIGNALS, work), Done(143, "", said))
 
-    def test_signals(self) -> None:
-        """A signal that comes just before a folder is to be removed, and one that comes after the first."""
+    def test_removed(self) -> None:
+        """A signal that comes just before a folder is to be removed."""
         room = tempfile.mkdtemp(dir=self.work)
+        signals = ending.Signals()
 
-        def begin() -> int:
+        # in place of what would remove it
+        def removes(_: object) -> None:
+            os.kill(os.getpid(), signal.SIGTERM)
+
+        def work() -> int:
             tempfile.tempdir = room
-            signals = ending.Signals()
+            signals.receive()
+            with replaced(signals, "remove", removes), signals.temporary_folder() as folder:
+                write(f"{folder}/file", "")
+            return 0
 
-            # in place of what would remove it
-            def removes(_: object) -> None:
-                os.kill(os.getpid(), signal.SIGTERM)
-
-            def work() -> int:
-                signals.receive()
-                with signals.temporary_folder() as folder:
-                    write(f"{folder}/file", "")
-                return 0
-
-            with replaced(signals, "remove", removes):
-                return signals.status_or_end(work)
-
-        def twice() -> int:
-            signals = ending.Signals()
-
-            def work() -> int:
-                # also where these tests run behind nohup
-                signal.signal(signal.SIGHUP, signal.SIG_DFL)
-                signals.receive()
-                with signals.held():
-                    os.kill(os.getpid(), signal.SIGHUP)
-                    os.kill(os.getpid(), signal.SIGTERM)
-                    write(f"{self.work}/held", "")
-                return 0
-
-            return signals.status_or_end(work)
-
-        done = call(begin, [])
+        done = done_by(signals, work)
         self.same("TERM comes just before a folder is removed", (done, os.listdir(room)), (Done(143, "", ""), []))
-        done = call(twice, [])
+
+    def test_held(self) -> None:
+        signals = ending.Signals()
+
+        def work() -> int:
+            # also where these tests run behind nohup
+            signal.signal(signal.SIGHUP, signal.SIG_DFL)
+            signals.receive()
+            with signals.held():
+                os.kill(os.getpid(), signal.SIGHUP)
+                os.kill(os.getpid(), signal.SIGTERM)
+                write(f"{self.work}/held", "")
+            return 0
+
+        done = done_by(signals, work)
         self.same("what is held is done, and the first of two signals ends the tool", (done, os.path.exists(f"{self.work}/held")),
                   (Done(129, "", ""), True))
+
+
+def done_by(signals: ending.Signals, work: Callable[[], int]) -> Done:
+    """What a tool wrote that does this work, and how it ended."""
+    return call(lambda: signals.status_or_end(work), [])
