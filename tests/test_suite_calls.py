@@ -195,10 +195,8 @@ two   status:7
 """, "WORK/many.uspec", "examples/two.test", PIPECHECK_MEMORY="6")
         said = "PIPECHECK_MEMORY is 1 MiB, and the program takes more to start"
         self.refuses("a limit of memory that the program cannot start in", said, SC, PIPECHECK_MEMORY="1")
-        self.judge(
-            "a limit of memory that is no number", self.called(SC, PIPECHECK_MEMORY="much"), 2, "",
-            "pipecheck: PIPECHECK_MEMORY is a number of MiB, or none, and not much\n",
-        )
+        said = "pipecheck: PIPECHECK_MEMORY is a number of MiB, or none, and not much\n"
+        self.judge("a limit of memory that is no number", self.called(SC, PIPECHECK_MEMORY="much"), 2, "", said)
         self.put("four.test", 'Litmus "four".\n' + "".join(
             f"Microop {k} 0 0 0 (Write (VA {k} 0) (PA {k} 0) (Data 1)).\n" for k in range(4)
         ))
@@ -405,9 +403,8 @@ SB    ok
         os.makedirs(f"{self.work}/kept/cells")
         said = "suite: WORK/kept/cells cannot be written: Is a directory\n"
         self.writes("rows that cannot be kept", self.called(SC), 2, GOOD, said)
-        self.refuses(
-            "a folder that cannot be made", "the folder /dev/null/suite cannot be written", SC, SUITE_FOLDER="/dev/null/suite"
-        )
+        line = "the folder /dev/null/suite cannot be written"
+        self.refuses("a folder that cannot be made", line, SC, SUITE_FOLDER="/dev/null/suite")
 
     def test_links(self) -> None:
         precious = self.put("precious", "precious\n")

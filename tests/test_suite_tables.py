@@ -123,11 +123,8 @@ unstated  BUG
 1 pairs: 0 ok, 1 BUG, {NO_FAULTS}""", EARLY, SUITE_TABLE=table)
         self.refuses("a table that is not there", "the table WORK/gone cannot be read", EARLY, SUITE_TABLE="WORK/gone")
         self.put("maybe.tsv", "memory model\ttest\tallowed\nTSO\tunstated\tmaybe\n")
-        row = r"$'TSO\tunstated\tmaybe'"
-        self.refuses(
-            "a table with a row that decides nothing", f"the table WORK/maybe.tsv has a row without yes or no: {row}", EARLY,
-            SUITE_TABLE="WORK/maybe.tsv",
-        )
+        line = r"the table WORK/maybe.tsv has a row without yes or no: $'TSO\tunstated\tmaybe'"
+        self.refuses("a table with a row that decides nothing", line, EARLY, SUITE_TABLE="WORK/maybe.tsv")
         self.put("nameless.uspec", without_first_line(EARLY))
         for end, shown in ((" ", " "), ("\r", r"\r"), (" \t\r", r" \t\r")):
             self.put("mine.uspec", f"% Memory Model: TSO{end}\n{without_first_line(EARLY)}")
@@ -231,12 +228,8 @@ WORK/both/open.litmus:9:20: x86-open: the condition gives this register no value
         self.same("the certificate of a listing stands beside that of the test", self.is_kept("tutorial/SB.test"))
         self.same("nothing is kept of a refused listing", self.is_kept("tutorial/open.litmus"), False)
         os.rename(f"{self.work}/both/SB.test", f"{self.work}/both/SB.litmus.test")
-        self.refuses(
-            "a test that is named as a listing",
-            "two tests have one name: SB.litmus: WORK/both/SB.litmus and WORK/both/SB.litmus.test; a link gives one of them "
-            "another name",
-            SC, SUITE_TESTS="WORK/both",
-        )
+        two = "SB.litmus: WORK/both/SB.litmus and WORK/both/SB.litmus.test; a link gives one of them another name"
+        self.refuses("a test that is named as a listing", f"two tests have one name: {two}", SC, SUITE_TESTS="WORK/both")
 
     def test_words_in_any_order(self) -> None:
         """The endings of words say what they are."""
@@ -387,15 +380,16 @@ MP    BUG
 {STRICT_COUNT}""", "--baseline", cells, *both)
         write(cells, "MP ok\n")
         gone = "the baseline WORK/gone cannot be read: No such file or directory"
-        self.refuses("a baseline that is not there", gone, "--baseline", "WORK/gone")
         none = r"the baseline WORK/cells has a line that is no model, test and cell: MP\ ok"
-        self.refuses("a baseline that is none", none, "--baseline", cells)
         one_file = "takes one file, which is named behind it"
-        self.refuses("--baseline without a file", f"--baseline {one_file}", SC, "--baseline")
-        self.refuses("--junit twice", f"--junit {one_file}", "--junit", "WORK/a", "--junit", "WORK/b")
-        self.refuses(
-            "a report where no folder is", "--sarif: WORK/gone/sarif cannot be written", "--sarif", "WORK/gone/sarif", SC
-        )
+        for name, line, *words in (
+            ("a baseline that is not there", gone, "--baseline", "WORK/gone"),
+            ("a baseline that is none", none, "--baseline", cells),
+            ("--baseline without a file", f"--baseline {one_file}", SC, "--baseline"),
+            ("--junit twice", f"--junit {one_file}", "--junit", "WORK/a", "--junit", "WORK/b"),
+            ("a report where no folder is", "--sarif: WORK/gone/sarif cannot be written", "--sarif", "WORK/gone/sarif", SC),
+        ):
+            self.refuses(name, line, *words)
 
     def test_reports(self) -> None:
         """Reports of files whose names are not what XML and JSON take."""
@@ -482,10 +476,8 @@ class Keeping(SuiteCases):
         done = self.called(SC, SUITE_KEPT=self.store, PIPECHECK=f"env '{program()}'")
         said = "suite: nothing is kept in WORK/store: PIPECHECK is not one binary\n"
         self.writes("of more than one binary nothing is kept", done, 0, GOOD, said)
-        self.refuses(
-            "a folder of verdicts that cannot be made", "the folder /dev/null/kept cannot be made: Not a directory", SC,
-            SUITE_KEPT="/dev/null/kept",
-        )
+        line = "the folder /dev/null/kept cannot be made: Not a directory"
+        self.refuses("a folder of verdicts that cannot be made", line, SC, SUITE_KEPT="/dev/null/kept")
 
     def test_axioms(self) -> None:
         self.put("few.uspec", 'StageName 0 "S".\nAxiom "none": forall microops "i", NodeExists (i, S).\n')
@@ -526,17 +518,12 @@ wrong.query      BUG (never)
 WORK/queries/none.query:4:69: stage-unknown: no stage has the name
 4 pairs: 2 ok, 1 BUG, 0 stricter, 0 time, 1 faults, in N s
 """, said)
-        self.refuses(
-            "a query that does not say what it is asked of",
-            "WORK/queries/other.query is no row of a table: it says so by one comment each, % Expect: always, sometimes or never, "
-            "and % Test: NAME",
-            other, SC,
-        )
+        form = "% Expect: always, sometimes or never, and % Test: NAME"
+        line = f"WORK/queries/other.query is no row of a table: it says so by one comment each, {form}"
+        self.refuses("a query that does not say what it is asked of", line, other, SC)
         self.put("gone.query", read(f"{self.work}/queries/wrong.query").replace("MP+seen", "gone"))
-        self.refuses(
-            "a query of a test that is not there", "WORK/gone.query is asked of a test that is not there: gone.test",
-            "WORK/gone.query", SC,
-        )
+        line = "WORK/gone.query is asked of a test that is not there: gone.test"
+        self.refuses("a query of a test that is not there", line, "WORK/gone.query", SC)
 
 
 class Axioms(SuiteCases):

@@ -51,6 +51,14 @@ def write_anew(place: str, text: bytes) -> None:
         take_place(place)
 
 
+def remove_parts(folder: str) -> None:
+    """Removes what a suite that was ended by force left half written."""
+    for name in os.listdir(folder):
+        if name.endswith(PARTS):
+            with suppress(OSError):
+                os.unlink(os.path.join(folder, name))
+
+
 class Folder:
     """The folder that one suite at a time writes into."""
 
@@ -74,17 +82,13 @@ class Folder:
             SIGNALS.lock(self.lock)
 
     def make_room(self, model: File) -> None:
-        """Makes the folder of a model's certificates, without what a suite that was ended by force left half written. A link to
-        another folder is none."""
+        """Makes the folder of a model's certificates. A link to another folder is none."""
         path = os.path.join(self.path, model.name)
         try:
             is_own = not os.path.islink(path)
             if is_own:
                 os.makedirs(path, exist_ok=True)
-                for name in os.listdir(path):
-                    if name.endswith(PARTS):
-                        with suppress(OSError):
-                            os.unlink(os.path.join(path, name))
+                remove_parts(path)
         except OSError:
             is_own = False
         if not is_own or not os.access(path, os.W_OK):
