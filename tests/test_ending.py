@@ -57,8 +57,8 @@ class Ended(Cases):
         return call(begin, ["tool", *said], env=env)
 
     def signalled(self, room: str, moment: str) -> ContextManager[None]:
-        """Has the signal come when a function of `os` is first called of what stands in the folder for temporary files: before it is
-        done, or after. That it came is noted beside that folder."""
+        """Has the signal come when a function of `os` is first called of what stands in the folder for temporary files: before it
+        is done, or after. That it came is noted beside that folder."""
         name, _, when = moment.partition(" ")
         real, came = getattr(os, name), f"{room}-came"
 

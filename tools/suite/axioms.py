@@ -23,7 +23,7 @@ NEEDED = "untested or not needed"
 
 
 def row_of(title: str, tests: Sequence[File], whole: Sequence[Found], rest: Sequence[Found]) -> list[str]:
-    """The row of an axiom: how many verdicts change without it, and the first test whose does, or that none does; and on which tests
+    """The row of an axiom: how many verdicts change without it, and the first test whose does, or that none does; and on how many
     there is none with it or without it."""
     unknown = [test.name for test, here, there in zip(tests, whole, rest) if here.fault or there.fault]
     changed = [
