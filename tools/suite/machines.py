@@ -86,22 +86,6 @@ class Judges:
         self.calls = calls
         self.by_thread: dict[int, Machine] = {}
 
-    def machine(self, name: str) -> Machine:
-        """The process that this thread asks."""
-        machine = self.by_thread.get(threading.get_ident())
-        if machine is not None and machine.name != name:
-            self.end(machine)
-            machine = None
-        if machine is None:
-            command = self.machines.command(name, "--within", str(math.ceil(self.seconds) + 1))
-            machine = self.by_thread[threading.get_ident()] = Machine(name, command, self.calls)
-        return machine
-
-    def end(self, machine: Machine, seconds: float = 0) -> str:
-        """Ends the process that this thread asks, and answers what was wrong with it."""
-        del self.by_thread[threading.get_ident()]
-        return machine.end(seconds)
-
     def end_all(self) -> None:
         """Ends all processes, once no thread asks any more."""
         for machine in self.by_thread.values():
@@ -113,14 +97,21 @@ class Judges:
             deadline = time.monotonic() + self.seconds
         if deadline <= time.monotonic():
             return Answer(is_late=True)
-        machine = self.machine(name)
+        machine = self.by_thread.pop(threading.get_ident(), None)
+        if machine is not None and machine.name != name:
+            machine.end()
+            machine = None
+        if machine is None:
+            command = self.machines.command(name, "--within", str(math.ceil(self.seconds) + 1))
+            machine = Machine(name, command, self.calls)
         try:
             lines = machine.answer(self.copies.path(test), deadline)
         except TimeoutError:
-            self.end(machine)
+            machine.end()
             return Answer(is_late=True)
         except (BrokenPipeError, EOFError):
-            return Answer(fault=self.end(machine, GRACE))
+            return Answer(fault=machine.end(GRACE))
+        self.by_thread[threading.get_ident()] = machine
         if lines == [NOT_RUN]:
             return Answer()
         if test.is_pattern and lines[-1:] == ["end"]:
