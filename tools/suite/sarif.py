@@ -2,20 +2,18 @@
 import json
 import os
 import re
-from typing import Iterable, Iterator, Mapping, NamedTuple, Sequence
+from typing import Iterable, Mapping, NamedTuple, Sequence
 from urllib.parse import quote
 
 from tools.suite.files import File
 from tools.suite.junit import FAILURES, SENTENCES, sentence_of
 from tools.suite.pairs import BUG, kind_of
 from tools.suite.reports import Case, writable
+from tools.telling.files import rows_of
 from tools.texts.quoting import shown
 
 SCHEMA = "https://json.schemastore.org/sarif-2.1.0.json"
 PLACE = re.compile(r":([1-9][0-9]*):([1-9][0-9]*): ([a-z0-9'-]+): (.*)", re.DOTALL)
-# the tables of pages that have a row for each kind
-KIND, FAULTS = "| kind | what it says |", ("| word of a model | meaning |", "| word of a test | meaning |")
-ROW = re.compile(r"\| ((?:`[^`]+`(?:, )?)+) \| (.*) \|")
 
 
 class Rule(NamedTuple):
@@ -28,27 +26,11 @@ class Rule(NamedTuple):
 
 def rules_in(top: str) -> list[Rule]:
     """What cells say of pairs, and the kinds of lint and the words of faults, as the pages have them."""
-    slips = rows_of(os.path.join(top, "docs", "lint.md"), (KIND,))
-    faults = rows_of(os.path.join(top, "docs", "faults.md"), FAULTS)
+    slips = rows_of(os.path.join(top, "docs", "lint.md"), "| kind | what it says |")
+    faults = rows_of(os.path.join(top, "docs", "faults.md"), "| word of a model |", "| word of a test |")
     found = [Rule(name, SENTENCES[name], name == BUG) for name in FAILURES]
     found += [Rule(name, said, False) for name, said in slips] + [Rule(name, said, True) for name, said in faults]
     return list({rule.name: rule for rule in found}.values())
-
-
-def rows_of(path: str, heads: Sequence[str]) -> Iterator[tuple[str, str]]:
-    """The words of the tables with these heads, each with what the page says of it. A page may be missing."""
-    try:
-        with open(path, encoding="utf-8") as file:
-            lines = file.read().splitlines()
-    except OSError:
-        return
-    is_inside = False
-    for line in lines:
-        is_inside = line in heads or is_inside and line.startswith("|")
-        row = ROW.fullmatch(line) if is_inside else None
-        if row is not None:
-            for name in re.findall("`([^`]+)`", row[1]):
-                yield name, row[2]
 
 
 def sarif(cases: Iterable[Case], lines: Sequence[str], files: Iterable[File], rules: Sequence[Rule]) -> bytes:

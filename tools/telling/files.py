@@ -5,6 +5,9 @@ from typing import Iterator, Sequence
 
 from tools.texts.quoting import quoted
 
+# of a table that says something of words
+ROW = re.compile(r"\| ([^|]*`[^|]*) \| (.*) \|")
+
 
 def hindrance(path: str) -> str:
     """Why a file can't be opened now; nothing if it can."""
@@ -31,11 +34,19 @@ def sentence(top: str, kind: str, word: str) -> str:
 
 def row(top: str, head: str, word: str) -> str:
     """What the table of docs/faults.md with this head says of a word; nothing where the page is missing."""
+    return dict(rows_of(os.path.join(top, "docs", "faults.md"), f"| {head} |")).get(word, "")
+
+
+def rows_of(path: str, *heads: str) -> Iterator[tuple[str, str]]:
+    """The words of the tables of a page that begin with these heads, each with what the page says of it. A page may be missing."""
     try:
-        with open(os.path.join(top, "docs", "faults.md"), encoding="utf-8") as file:
-            text = file.read()
+        with open(path, encoding="utf-8") as file:
+            lines = file.read().splitlines()
     except OSError:
-        return ""
-    table = text.partition(f"| {head} |")[2].partition("\n\n")[0]
-    found = re.search(rf"^\| [^|]*`{re.escape(word)}`[^|]* \| (.*) \|$", table, re.MULTILINE)
-    return found.group(1) if found else ""
+        return
+    is_inside = False
+    for line in lines:
+        is_inside = line.startswith(heads) or is_inside and line.startswith("|")
+        found = ROW.fullmatch(line) if is_inside else None
+        if found is not None:
+            yield from ((word, found[2]) for word in re.findall("`([^`]+)`", found[1]))
