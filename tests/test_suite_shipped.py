@@ -24,38 +24,6 @@ def names_of(pattern: str) -> list[str]:
 
 MODELS, TESTS, LISTINGS = names_of("models/*.uspec"), names_of("tests/*.test"), names_of("x86/*.litmus")
 TRANSLATION = names_of("translation/*.test")
-AGREEMENT: tuple[tuple[str, int, str, list[str]], ...] = (
-    (
-        "the machines agree on final values, on locked instructions, on page tables and on listings", 0, "208 agree, 0 differ\n",
-        [
-            *names_of("tests/Final*.test"), *names_of("locked/*.test"), *TRANSLATION,
-            *(f"examples/x86/{it}.litmus" for it in ("n6", "SB+mfences", "R+po+mfence")),
-        ],
-    ),
-    (
-        "the buggy TLBs differ from their machine where they should", 1, """\
-tlb-late-hold.uspec remap+invalidate+walk.test: shown yes, tlb allows no
-tlb-late-hold.uspec shootdown.test: shown yes, tlb allows no
-tlb-late-hold.uspec wrong-frame.test: shown yes, tlb allows no
-tlb-lazy-mark.uspec accessed.test: shown yes, tlb allows no
-tlb-lazy-mark.uspec dirty.test: shown yes, tlb allows no
-39 agree, 5 differ
-""",
-        [*names_of("translation/buggy/*.uspec"), *TRANSLATION],
-    ),
-    (
-        "what the reads get on all shipped models is what they get on the machines", 0,
-        "swept by the program\n498 agree, 0 differ\n", names_of("patterns/*.pattern"),
-    ),
-    (
-        "a buggy pipeline shows rows that its machine does not", 1, """\
-tso-ooo-commit-early.uspec MP.pattern: shown though tso does not allow it: 1 0
-swept by the program
-2 agree, 1 differ
-""",
-        ["examples/buggy/tso-ooo-commit-early.uspec", *(f"examples/patterns/{it}.pattern" for it in ("MP", "SB", "LB"))],
-    ),
-)
 
 
 class Shipped(SuiteCases):
@@ -154,9 +122,34 @@ wrong-frame            ok   BUG            ok
 class Agreement(SuiteCases):
     """Whether the machines agree with the shipped models, and with the tables."""
 
+    def agree(self, name: str, status: int, text: str, *words: str) -> None:
+        """This is what `agree` writes."""
+        self.gives(name, [*tool("agree", apart()), *words], status, text)
+
     def test_files(self) -> None:
-        for name, status, text, words in AGREEMENT:
-            self.gives(name, [*tool("agree", apart()), *words], status, text)
+        listings = (f"examples/x86/{it}.litmus" for it in ("n6", "SB+mfences", "R+po+mfence"))
+        self.agree(
+            "the machines agree on final values, on locked instructions, on page tables and on listings", 0, "208 agree, 0 differ\n",
+            *names_of("tests/Final*.test"), *names_of("locked/*.test"), *TRANSLATION, *listings,
+        )
+        self.agree("the buggy TLBs differ from their machine where they should", 1, """\
+tlb-late-hold.uspec remap+invalidate+walk.test: shown yes, tlb allows no
+tlb-late-hold.uspec shootdown.test: shown yes, tlb allows no
+tlb-late-hold.uspec wrong-frame.test: shown yes, tlb allows no
+tlb-lazy-mark.uspec accessed.test: shown yes, tlb allows no
+tlb-lazy-mark.uspec dirty.test: shown yes, tlb allows no
+39 agree, 5 differ
+""", *names_of("translation/buggy/*.uspec"), *TRANSLATION)
+        self.agree("what the reads get on all shipped models is what they get on the machines", 0, """\
+swept by the program
+498 agree, 0 differ
+""", *names_of("patterns/*.pattern"))
+        patterns = (f"examples/patterns/{it}.pattern" for it in ("MP", "SB", "LB"))
+        self.agree("a buggy pipeline shows rows that its machine does not", 1, """\
+tso-ooo-commit-early.uspec MP.pattern: shown though tso does not allow it: 1 0
+swept by the program
+2 agree, 1 differ
+""", "examples/buggy/tso-ooo-commit-early.uspec", *patterns)
 
     def test_table(self) -> None:
         self.gives(
