@@ -16,7 +16,6 @@ import struct
 import subprocess
 import sys
 import termios
-import threading
 import time
 from dataclasses import replace
 from functools import partial
@@ -36,7 +35,6 @@ from tools.suite.beside import Lint
 from tools.suite.calling import Calls, side_by_side
 from tools.suite.files import File, model_file, test_file
 from tools.suite.keeping import Folder, State, write_anew
-from tools.suite.main import ENDING
 from tools.suite.pairs import Found
 from tools.suite.programs import command_of
 from tools.suite.refusing import Refusal
@@ -498,32 +496,8 @@ class Signals(SuiteCases):
         process.send_signal(signal.SIGTERM)
         process.wait(PATIENCE)
 
-    def test_unseen(self) -> None:
-        """Python does not see at once what comes just before it waits, nor what another thread gets, as here."""
-
-        def entry() -> int:
-            calls = Calls()
-
-            def task() -> int | None:
-                # the main thread waits by then
-                time.sleep(1)
-                signal.pthread_kill(threading.get_ident(), signal.SIGTERM)
-                with open(os.devnull, "wb") as out:
-                    return calls.status(["sleep", "600"], None, 600, out)
-
-            RECEIVED.receive(ENDING)
-            begun = time.monotonic()
-            try:
-                side_by_side(calls, 1, [task], lambda _, __: None)
-            except Interrupted as interrupted:
-                return interrupted.number if time.monotonic() < begun + PATIENCE else 1
-            return 0
-
-        self.same("a signal that Python does not see at once ends a call", call(entry, []).status, signal.SIGTERM)
-
-    def test_unseen_in_turn(self) -> None:
-        """The same while a suite waits for another one."""
-        Folder(f"{self.work}/kept").wait_in_turn()
+    def unseen(self, wait: Callable[[], object]) -> Done:
+        """What a process says that waits so, and gets a signal that Python does not see at once."""
 
         def entry() -> int:
             # where it is not seen, the clock ends this process
@@ -531,13 +505,23 @@ class Signals(SuiteCases):
             RECEIVED.receive()
             signal_unseen()
             try:
-                Folder(f"{self.work}/kept").wait_in_turn()
+                wait()
             except Interrupted as interrupted:
                 return interrupted.number
             return 0
 
+        return call(entry, [])
+
+    def test_unseen(self) -> None:
+        """Python does not see at once what comes just before it waits, nor what another thread gets, as here."""
+        calls = Calls()
+        with open(os.devnull, "wb") as out:
+            done = self.unseen(lambda: side_by_side(calls, 1, [lambda: calls.status(["sleep", "600"], None, 600, out)]))
+        self.same("a signal that Python does not see at once ends a call", done.status, signal.SIGTERM)
+        Folder(f"{self.work}/kept").wait_in_turn()
+        done = self.unseen(lambda: Folder(f"{self.work}/kept").wait_in_turn())
         said = f"suite: another suite writes into {self.work}/kept: waiting for it\n"
-        self.same("... and a suite that waits for another one", call(entry, []), Done(signal.SIGTERM, "", said))
+        self.same("... and a suite that waits for another one", done, Done(signal.SIGTERM, "", said))
 
     def test_early(self) -> None:
         """Ctrl-C while Python still loads what the suite is made of ends it without a word. What Python says is what it loads."""
