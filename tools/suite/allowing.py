@@ -2,7 +2,6 @@
 import os
 import re
 from glob import glob
-from typing import NamedTuple
 
 from tools.lint.lines import line_of
 from tools.suite.calling import PYTHON
@@ -14,14 +13,6 @@ from tools.texts.quoting import quoted, shown
 # a file of tools/agree/machines that is a machine
 MACHINE = re.compile(r"^def outcomes\(", re.MULTILINE)
 COLUMNS = ("memory model", "test", "allowed")
-DIGEST = "sha256"
-
-
-class Row(NamedTuple):
-    """Whether a memory model allows the outcome of a test, and the hash of the test, which may be missing."""
-
-    is_allowed: bool
-    digest: str
 
 
 class Rows:
@@ -30,7 +21,8 @@ class Rows:
 
     def __init__(self, path: str, by_name: bool) -> None:
         self.by_name = by_name
-        self.rows: dict[tuple[str, str], Row] = {}
+        # by memory model and test, each by the names of the columns
+        self.rows: dict[tuple[str, str], dict[str, str]] = {}
         try:
             with open(path, encoding="utf-8", errors="surrogateescape") as file:
                 lines = [line.split("\t") for line in file.read().splitlines()]
@@ -46,7 +38,7 @@ class Rows:
             row = dict(zip(head, cells))
             if row.get("allowed") not in ("yes", "no"):
                 raise Refusal(f"the table {shown(path)} has a row without yes or no: {quoted(chr(9).join(cells))}")
-            self.rows[row[COLUMNS[0]].lower(), row[COLUMNS[1]]] = Row(row["allowed"] == "yes", row.get(DIGEST, ""))
+            self.rows[row[COLUMNS[0]].lower(), row[COLUMNS[1]]] = row
 
     @property
     def memory_models(self) -> set[str]:
@@ -59,7 +51,9 @@ class Rows:
     def allowed(self, memory_model: str, test: File) -> bool | None:
         """What the row of a test says; None where the test has none."""
         row = self.rows.get((memory_model, test.name))
-        return row.is_allowed if row is not None and (self.by_name or row.digest == test.digest != "") else None
+        if row is None or not (self.by_name or row.get("sha256", "") == test.digest != ""):
+            return None
+        return row["allowed"] == "yes"
 
 
 class Machines:
