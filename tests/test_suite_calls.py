@@ -58,9 +58,9 @@ SIGNALS = (
 )
 
 
-def contents_in(folder: str) -> dict[str, str]:
-    """What the files below a folder have."""
-    return {it: read(f"{folder}/{it}") for it in files_below(folder)}
+def contents_in(folder: str) -> dict[str, dict[str, str]]:
+    """What the files below a folder have, by the folders that they are in."""
+    return {place: {it: read(f"{place}/{it}") for it in names} for place, _, names in os.walk(folder)}
 
 
 class Words(SuiteCases):
