@@ -27,7 +27,7 @@ STATE = ".state"
 
 @contextmanager
 def new_file(place: str) -> Iterator[IO[bytes]]:
-    """A file that is written beside a place. Only what `take_place` moves there is left of it."""
+    """A file that is written beside a place. Nothing is left of it, if it is not moved there."""
     part = place + PART
     with suppress(FileNotFoundError):
         os.unlink(part)
@@ -39,16 +39,11 @@ def new_file(place: str) -> Iterator[IO[bytes]]:
                 os.unlink(part)
 
 
-def take_place(place: str) -> None:
-    """Has the new file take the place of the old one."""
-    os.replace(place + PART, place)
-
-
 def write_anew(place: str, text: bytes) -> None:
     with new_file(place) as file:
         file.write(text)
         file.flush()
-        take_place(place)
+        os.replace(file.name, place)
 
 
 def remove_parts(folder: str) -> None:

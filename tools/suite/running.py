@@ -12,7 +12,7 @@ from tools.suite.beside import Lint
 from tools.suite.calling import side_by_side
 from tools.suite.counting import Progress
 from tools.suite.files import Copies, File, in_order
-from tools.suite.keeping import State, new_file, take_place, write_anew
+from tools.suite.keeping import State, new_file, write_anew
 from tools.suite.kept import Kept
 from tools.suite.machines import Answer, Judges
 from tools.suite.pairs import BUG, FAULT, FORBIDDEN, MACHINE, NOT_TAKEN, OBSERVABLE, OK, PERMITTED, SWEPT, TIME, UNNAMED
@@ -56,7 +56,7 @@ def checked(checker: Checker, kept: Kept, copies: Copies, model: File, test: Fil
                 found = Found(fault=FAULT)
             if found.verdict:
                 kept.keep(model, test, found, out)
-                take_place(place)
+                os.replace(out.name, place)
             else:
                 with suppress(FileNotFoundError):
                     os.unlink(place)
