@@ -11,9 +11,9 @@ from tests import random_texts
 from tests.cases import TOP, Cases, Done, read, run, tool, write
 from tests.test_pages import shown_by
 
-from tools.pages.antt import Fault, Reached, first_sentence, read_file
-from tools.pages.crate_list import crates_of
-from tools.pages.meaning import Top, by_crate, only
+from tools.pages.antt import Fault, first_sentence, read_file
+from tools.pages.crates import crates_of
+from tools.pages.meaning import Meaning, Top, by_crate, only
 from tools.lint.kinds import KINDS
 from tools.second.predicates import PREDICATES
 
@@ -198,6 +198,11 @@ class Scripts(Cases):
         page = self.said("definitions", "--page")
         with self.case("how many there are of each command's status, on a page"):
             self.assertEqual((page.status, page.out[: len(PAGE)]), (0, PAGE))
+        path = "crates/says/specs/Observable.antt"
+        self.put(path, TREE[path].replace("some", "u") + "abbrev pub Other : Type 0\nOther = Test\n")
+        with self.case("definitions that are mutual go by the name of the first of them"):
+            self.assertIn("            these: Observable, Even\n", self.said("definitions", "observable").out)
+        self.put(path, TREE[path])
         said = "no such word: chek. There are observable, check, gen, all"
         self.fails("a word that stands for nothing", said, "definitions", "chek")
         self.fails("two words", "definitions takes one word", "definitions", "check", "gen")
@@ -256,13 +261,13 @@ class Lists(Cases):
         """each import of a file of definitions names one"""
         for path in sorted(glob(f"{TOP}/crates/*/specs/*.antt")):
             if not path.endswith("/Lib.antt"):
-                reached = Reached(TOP)
+                meaning = Meaning([])
                 for it in read_file(path).imports.values():
-                    list(reached.imported(path, it))
+                    list(meaning.imported(path, it))
 
     def test_clauses(self) -> None:
         """a clause names what stands in its crate"""
-        for crate in crates_of(TOP):
+        for crate in crates_of():
             texts = map(read, glob(f"{TOP}/crates/{crate.name}/src/**/*.rt", recursive=True))
             code = {word for text in texts for word in re.findall(r"\w+", re.sub(r"^//!.*", "", text, flags=re.M))}
             for name in re.findall(r"`([\w:]+)`", crate.clause):
@@ -309,7 +314,7 @@ class Lists(Cases):
             self.assertEqual({*KINDS} - tried, set())
         words = in_file("commands.txt", r"^program\|([\w-]+)\|")
         with self.case("the table `commands.txt` has what the definitions spell"):
-            self.assertEqual(words, sorted(Top(TOP).words))
+            self.assertEqual(words, sorted(Top().words))
         second = in_file("tools/second/main.py", r'^    "([\w-]+)": \d,$')
         # formats of solvers, which no command writes, and what needs no second implementation, since it makes its own texts
         with self.case("the second implementation has each command"):
