@@ -7,7 +7,7 @@ from typing import Mapping, Sequence
 from tools.ending import SIGNALS
 from tools.lint.lines import line_of
 from tools.lint.linting import Asked
-from tools.listings.asking import MOST_SWEEPS, Asker, Sweep, Swept, Unasked
+from tools.listings.asking import MOST_SWEEPS, Sweep, Swept, Unasked, swept
 from tools.listings.beyond import Notes
 from tools.listings.comparing import Comparison
 from tools.listings.logs import Log, Result
@@ -36,26 +36,21 @@ class Answer:
     """What is found, and what stands in the way of an answer."""
 
     def __init__(self) -> None:
-        self.problems: list[int] = []
+        self.problem = NONE
         self.told: Counter[str] = Counter()
 
     def tell(self, kind: str, line: str, status: int = NONE) -> None:
-        """Tells a line, one of so many of its kind; with a status it stands in the way."""
+        """Tells a line, one of so many of its kind. The first one with a status says which."""
         self.told[kind] += 1
         if self.told[kind] <= MOST_TOLD:
             tell(line)
-        if status:
-            self.problems.append(status)
+        self.problem = self.problem or status
 
     def tell_rest(self) -> None:
         """Tells how many lines were not told."""
         for kind, count in self.told.items():
             if count > MOST_TOLD:
                 tell(f"compare: {kind}: {count - MOST_TOLD} more")
-
-    def status(self, differing: int) -> int:
-        """The status where so many states are in the log alone."""
-        return SOME if differing else next(iter(self.problems), NONE)
 
 
 def compare(model_path: str, listing_paths: Sequence[str], log_path: str, top: str) -> tuple[list[str], int]:
@@ -68,20 +63,21 @@ def compare(model_path: str, listing_paths: Sequence[str], log_path: str, top: s
     programs = read_listings(answer, listings)
     results = read_log(answer, log_path, log_text)
     if model is None:
-        return [], answer.status(0)
+        return [], answer.problem
     asked = Asked(model).types
-    found = (joined(answer, log_path, result, programs, asked) for result in results)
-    comparisons = [comparison for comparison in found if comparison is not None]
+    found = [joined(answer, log_path, result, programs, asked) for result in results]
     tell_unused(answer, programs, results)
     with SIGNALS.temporary_folder() as folder:
         checker = checker_of(os.environ, top, SECONDS, Calls())
         copy = os.path.join(folder, "model.uspec")
         with open(copy, "wb") as file:
             file.write(model_text)
-        done = ask(answer, comparisons, Asker(checker, copy, folder), checker)
+        done = ask(answer, [it for it in found if it is not None], checker, copy)
     answer.tell_rest()
-    lines, status = said_of(done, len(results), answer)
-    return [*lines[:-1], lines[-1] + checker.said], status
+    both, log_alone, model_alone = (sum(column) for column in zip((0, 0, 0), *(one.counts() for one in done)))
+    said = f"{both} states shown by both, {log_alone} in the log alone, {model_alone} in the model alone{checker.said}"
+    lines = [line for comparison in done for line in comparison.lines()]
+    return [*lines, f"{len(done)} of {len(results)} tests compared: {said}"], SOME if log_alone else answer.problem
 
 
 def read_or_tell(answer: Answer, path: str, text: bytes) -> Model | None:
@@ -104,12 +100,10 @@ def read_listings(answer: Answer, listings: Sequence[tuple[str, bytes]]) -> dict
             sentence = f"{fault.word}: the listing is refused; pipecheck test86 says what to do"
             answer.tell("refused listings", line_of(path, text, fault.place, sentence), REFUSED)
             continue
-        if program.title in found:
-            earlier = shown(found[program.title][0])
-            line = f"compare: {shown(path)} has the name of {earlier}: {shown(program.title)}"
-            answer.tell("listings of one name", line, REFUSED)
-        else:
-            found[program.title] = path, program
+        name = program.written.title
+        earlier, kept = found.setdefault(name, (path, program))
+        if kept is not program:
+            answer.tell("listings of one name", f"compare: {shown(path)} has the name of {shown(earlier)}: {shown(name)}", REFUSED)
     return found
 
 
@@ -153,7 +147,7 @@ def tell_unused(answer: Answer, programs: Mapping[str, tuple[str, Program]], res
         answer.tell("unused listings", f"compare: {count} of no test of the log, the first {shown(unused[0])}")
 
 
-def ask(answer: Answer, comparisons: Sequence[Comparison], asker: Asker, checker: Checker) -> list[Comparison]:
+def ask(answer: Answer, comparisons: Sequence[Comparison], checker: Checker, model: str) -> list[Comparison]:
     """Asks the program for what it shows, and answers those that it could be asked of."""
     done = []
     waiting: list[tuple[Comparison, Sweep]] = []
@@ -166,24 +160,25 @@ def ask(answer: Answer, comparisons: Sequence[Comparison], asker: Asker, checker
             line = f"compare: not compared: {comparison.result.name}: {problem}"
             answer.tell("tests that are not compared", line, REFUSED)
         if len(waiting) >= MOST_SWEEPS:
-            run(waiting, asker, checker)
+            run(waiting, checker, model)
             waiting = []
-    run(waiting, asker, checker)
+    run(waiting, checker, model)
     return [comparison for comparison in done if is_whole(answer, comparison)]
 
 
-def run(waiting: Sequence[tuple[Comparison, Sweep]], asker: Asker, checker: Checker) -> None:
+def run(waiting: Sequence[tuple[Comparison, Sweep]], checker: Checker, model: str) -> None:
     """Runs sweeps side by side, and notes what each shows."""
     progress = Progress(len(waiting))
 
     def take(place: int, found: Swept) -> None:
         comparison, sweep = waiting[place]
-        if found.failed is not None:
-            comparison.failed = found.failed
-        comparison.shown.update(comparison.question.states(sweep, found.rows))
+        if isinstance(found, int):
+            comparison.failed = found
+        else:
+            comparison.shown.update(comparison.question.states(sweep, found))
         progress.step()
 
-    tasks = [partial(asker.swept, comparison.program, sweep) for comparison, sweep in waiting]
+    tasks = [partial(swept, checker, model, comparison.program, sweep) for comparison, sweep in waiting]
     try:
         side_by_side(checker.calls, len(os.sched_getaffinity(0)), tasks, take)
     finally:
@@ -198,12 +193,3 @@ def is_whole(answer: Answer, comparison: Comparison) -> bool:
     status = comparison.failed if comparison.failed in (REFUSED, MEMORY) else FAILED
     answer.tell("tests that are not compared", f"compare: not compared: {comparison.result.name}: {why}", status)
     return False
-
-
-def said_of(done: Sequence[Comparison], count: int, answer: Answer) -> tuple[list[str], int]:
-    """The lines of the tests that are compared, and the one that counts; and the status."""
-    lines = [line for comparison in done for line in comparison.lines()]
-    both, log_alone, model_alone = (sum(column) for column in zip((0, 0, 0), *(one.counts() for one in done)))
-    tests = f"{len(done)} of {count} tests compared: "
-    lines.append(f"{tests}{both} states shown by both, {log_alone} in the log alone, {model_alone} in the model alone")
-    return lines, answer.status(log_alone)

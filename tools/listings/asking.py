@@ -1,5 +1,4 @@
 """What a model shows of a program: sweeps of the built program, one for each combination of values at the end."""
-import os
 import tempfile
 from dataclasses import dataclass
 from itertools import product
@@ -10,12 +9,14 @@ from tools.listings.conditions import Variable
 from tools.listings.programs import Loaded, Program
 from tools.listings.writing import pattern_of
 from tools.second.cases import Location
-from tools.second.patterns import MOST_ROWS
+from tools.second.patterns import ENDING, MOST_ROWS
 from tools.second.standard_output import FAILED
 from tools.suite.pairs import OBSERVABLE, Checker
 
 # how many sweeps there are of a test at most
 MOST_SWEEPS = 4_096
+# the values of the open reads in each row that is observable, or the status of a sweep that has no answer
+Swept = set[tuple[int, ...]] | int
 
 
 class Unasked(Exception):
@@ -41,7 +42,7 @@ class Question:
         for variable in self.variables:
             if variable.thread is None and variable.name not in self.program.locations:
                 raise Unasked(f"the listing has no location {variable.name}")
-            if variable.thread is not None and variable.thread >= self.program.threads:
+            if variable.thread is not None and variable.thread >= len(self.program.written.head):
                 raise Unasked(f"the listing has no thread {variable.thread}")
 
     @property
@@ -89,34 +90,16 @@ class Question:
         return reads[held.op] if isinstance(held, Loaded) else held
 
 
-@dataclass(frozen=True)
-class Swept:
-    """The values of the open reads in each row that is observable, or the status of a sweep that has no answer."""
-
-    rows: frozenset[tuple[int, ...]] = frozenset()
-    failed: int | None = None
-
-
-class Asker:
-    """The built program with a model, and a folder for patterns."""
-
-    def __init__(self, checker: Checker, model: str, folder: str) -> None:
-        self.checker = checker
-        self.model = model
-        self.folder = folder
-
-    def swept(self, program: Program, sweep: Sweep) -> Swept:
-        """What a sweep answers."""
-        with tempfile.TemporaryDirectory(dir=self.folder) as folder:
-            place = os.path.join(folder, "asked.pattern")
-            with open(place, "w", encoding="ascii") as file:
-                file.write(pattern_of(program, sweep.reads, sweep.finals))
-            with open(os.path.join(folder, "rows"), "w+b") as out:
-                status = self.checker.status(["sweep", self.model, place], out)
-                out.seek(0)
-                lines = out.read().decode("latin-1").splitlines()
-        rows = [line.split(" ") for line in lines if line.startswith("row ")]
-        is_whole = status == 0 and lines[:1] == [f"sweep {len(rows)}"] and lines[-1] == "end"
-        if not is_whole:
-            return Swept(failed=FAILED if status is None else status)
-        return Swept(frozenset(tuple(map(int, values)) for _, *values, verdict in rows if verdict == OBSERVABLE))
+def swept(checker: Checker, model: str, program: Program, sweep: Sweep) -> Swept:
+    """What a sweep of the program that is called answers."""
+    with tempfile.NamedTemporaryFile(suffix=ENDING) as pattern, tempfile.TemporaryFile() as out:
+        pattern.write(pattern_of(program, sweep.reads, sweep.finals).encode("ascii"))
+        pattern.flush()
+        status = checker.status(["sweep", model, pattern.name], out)
+        out.seek(0)
+        lines = out.read().decode("latin-1").splitlines()
+    rows = [line.split(" ") for line in lines if line.startswith("row ")]
+    is_whole = status == 0 and lines[:1] == [f"sweep {len(rows)}"] and lines[-1] == "end"
+    if not is_whole:
+        return FAILED if status is None else status
+    return {tuple(map(int, values)) for _, *values, verdict in rows if verdict == OBSERVABLE}
