@@ -530,6 +530,11 @@ pipecheck: these words are no command; how compare is called stands above
         refused = "bad.litmus:5:2: syntax: the listing is refused; pipecheck test86 says what to do\n"
         self.by_python("a refused listing", [BUFFERS, "bad.litmus", "log"], 3, none,
                        f"{refused}log:1: not compared: no listing that is read has the name SB\n")
+        write("bad.uspec", 'StageName 0 "S".\nAxiom "x": IsAnyRead i 7.\n')
+        write("many", "x\n" * 22)
+        told = "".join(f"many:{line}: no line of a log: x\n" for line in range(1, 21))
+        self.by_python("a refused model, and more faults of the log than are told", ["bad.uspec", "SB.litmus", "many"], 3, "",
+                       f"bad.uspec:2:12: arity: the model is refused\n{told}compare: faults of the log: 2 more\n")
         self.by_python("two listings of one name", [BUFFERS, "SB.litmus", "other.litmus", "log"], 3, SB_LISTED + counted(4),
                        "compare: other.litmus has the name of SB.litmus: SB\n")
         for name, status, said, checker in (

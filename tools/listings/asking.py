@@ -49,11 +49,11 @@ class Question:
     def choices(self) -> list[list[int]]:
         """What each read may get: the value at the start, and what is written there."""
         found = []
-        for place in self.program.reads:
-            location = self.program.ops[place].pa
+        for number in self.program.reads:
+            location = self.program.ops[number].pa
             assert isinstance(location, Location)
             start = self.program.initial.get(location, 0)
-            found.append(list(dict.fromkeys([start, *self.program.writes_to(location.name)])))
+            found.append(list(dict.fromkeys([start, *self.program.writes_to(location)])))
         return found
 
     def sweeps(self) -> list[Sweep]:
@@ -63,16 +63,12 @@ class Question:
         closed = 0
         while prod(map(len, choices[closed:])) > MOST_ROWS:
             closed += 1
-        names = dict.fromkeys(variable.name for variable in self.variables if variable.thread is None)
-        written = {name: values for name in names if (values := self.program.writes_to(name))}
+        locations = dict.fromkeys(self.program.locations[it.name] for it in self.variables if it.thread is None)
+        written = {it: values for it in locations if (values := self.program.writes_to(it))}
         sides = [*choices[:closed], *written.values()]
         if prod(map(len, sides)) > MOST_SWEEPS:
             raise Unasked(f"it takes more than {MOST_SWEEPS} sweeps")
-        locations = [self.program.locations[name] for name in written]
-        return [
-            Sweep(dict(zip(reads[:closed], values)), dict(zip(locations, values[closed:])))
-            for values in product(*sides)
-        ]
+        return [Sweep(dict(zip(reads[:closed], it)), dict(zip(written, it[closed:]))) for it in product(*sides)]
 
     def states(self, sweep: Sweep, rows: Iterable[tuple[int, ...]]) -> Iterator[tuple[int, ...]]:
         """The states of the rows that are observable in a sweep."""
@@ -91,7 +87,7 @@ class Question:
 
 
 def swept(checker: Checker, model: str, program: Program, sweep: Sweep) -> Swept:
-    """What a sweep of the program that is called answers."""
+    """What the program that stands answers to a sweep."""
     with tempfile.NamedTemporaryFile(suffix=ENDING) as pattern, tempfile.TemporaryFile() as out:
         pattern.write(pattern_of(program, sweep.reads, sweep.finals).encode("ascii"))
         pattern.flush()

@@ -78,6 +78,7 @@ def compare(model_path: str, listing_paths: Sequence[str], log_path: str) -> tup
     programs = read_listings(answer, listings)
     results = read_log(answer, log_path, log_text)
     if model is None:
+        answer.tell_rest()
         return [], answer.problem
     asked = Asked(model).types
     found = [joined(answer, log_path, result, programs, asked) for result in results]

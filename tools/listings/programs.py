@@ -70,10 +70,9 @@ class Program:
         """Whether a micro-op is locked."""
         return any(LOCKED in op.types for op in self.made)
 
-    def writes_to(self, name: str) -> list[int]:
+    def writes_to(self, location: Location) -> list[int]:
         """What is written to a location, each value once, in test order."""
-        place = self.locations.get(name)
-        values = (op.value for op in self.ops.values() if op.access == "Write" and op.pa == place)
+        values = (op.value for op in self.ops.values() if op.access == "Write" and op.pa == location)
         return list(dict.fromkeys(value for value in values if isinstance(value, int)))
 
     def location(self, name: str) -> Location:
