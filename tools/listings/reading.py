@@ -20,9 +20,8 @@ PIECE = re.compile(
 # a word with the size of what it moves, as it may be spelled
 MOVE = re.compile("MOV[LQ]?", re.IGNORECASE)
 EXCHANGE = re.compile("XCHG[LQ]?", re.IGNORECASE)
-# registers that are parts of one, and those that have a number
-LETTERED = re.compile("[ER]([A-D]X|[SD]I|[SB]P)")
-NUMBERED = re.compile("(R[0-9]+)[DWB]?")
+# registers that have a number, and parts of them; and others
+PART = re.compile("(R[0-9]+)[DWB]?|[ER]([A-D]X|[SD]I|[SB]P)")
 
 
 @dataclass(frozen=True)
@@ -263,10 +262,5 @@ class HerdReader(ListingReader):
 def register_name(name: str, is_wide: bool) -> str:
     """The name of a register in capitals; in X86_64 the parts of a register have the name of the whole."""
     upper = name.upper()
-    if not is_wide:
-        return upper
-    found = NUMBERED.fullmatch(upper)
-    if found is not None:
-        return found[1]
-    found = LETTERED.fullmatch(upper)
-    return upper if found is None else "R" + found[1]
+    found = PART.fullmatch(upper) if is_wide else None
+    return upper if found is None else found[1] or f"R{found[2]}"
