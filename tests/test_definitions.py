@@ -198,11 +198,6 @@ class Scripts(Cases):
         page = self.said("definitions", "--page")
         with self.case("how many there are of each command's status, on a page"):
             self.assertEqual((page.status, page.out[: len(PAGE)]), (0, PAGE))
-        path = "crates/says/specs/Observable.antt"
-        self.put(path, TREE[path].replace("some", "u") + "abbrev pub Other : Type 0\nOther = Test\n")
-        with self.case("definitions that are mutual go by the name of the first of them"):
-            self.assertIn("            these: Observable, Even\n", self.said("definitions", "observable").out)
-        self.put(path, TREE[path])
         said = "no such word: chek. There are observable, check, gen, all"
         self.fails("a word that stands for nothing", said, "definitions", "chek")
         self.fails("two words", "definitions takes one word", "definitions", "check", "gen")
@@ -252,6 +247,12 @@ class Scripts(Cases):
         self.put("PAGE.md", "nothing\n")
         with self.case("a page that shows nothing"), self.assertRaisesRegex(Fault, "^PAGE.md shows nothing$"):
             shown_by(page, self.work, self.work)
+
+    def test_mutual(self) -> None:
+        """definitions that are mutual go by the name of the first of them"""
+        path = "crates/says/specs/Observable.antt"
+        self.put(path, TREE[path].replace("some", "u") + "abbrev pub Other : Type 0\nOther = Test\n")
+        self.assertIn("            these: Observable, Even\n", self.said("definitions", "observable").out)
 
 
 class Lists(Cases):
