@@ -20,7 +20,7 @@ from glob import glob
 from tests.cases import PATIENCE, TOP, Cases, call, comes, pipecheck, program, read, run, tool, tool_entry, write
 
 from tools.agree.machines import tso
-from tools.listings import answering
+from tools.listings import compare
 from tools.agree.listing import BODY, LOAD, read_listing
 from tools.second.scopes import read_model
 
@@ -447,7 +447,7 @@ class Compared(Cases):
     def setUpClass(cls) -> None:
         super().setUpClass()
         # each model is read once
-        cls.replace(answering, "read_model", READ)
+        cls.replace(compare, "read_model", READ)
 
     def setUp(self) -> None:
         super().setUp()
@@ -471,7 +471,7 @@ class Logs(Compared):
                     continue
                 write("log", it.log)
                 with self.case(name), redirect_stderr(io.StringIO()) as told:
-                    found, status = answering.compare(it.model, [f"{test}.litmus" for test in it.tests], "log", TOP)
+                    found, status = compare.compare(it.model, [f"{test}.litmus" for test in it.tests], "log")
                     said = "".join(f"{line}\n" for line in found), told.getvalue(), status
                     self.assertEqual(said, (it.lines, it.told, it.status))
 
@@ -480,7 +480,7 @@ class Logs(Compared):
         write("log", "".join(map(log_of_tso, paths)))
         for model in ("tso-buffer", "tso-ooo"):
             with self.case(f"compare: the states of {len(paths)} shipped listings are those of {model}.uspec"):
-                found, status = answering.compare(f"{TOP}/examples/models/{model}.uspec", paths, "log", TOP)
+                found, status = compare.compare(f"{TOP}/examples/models/{model}.uspec", paths, "log")
                 self.assertEqual(status, 0)
                 self.assertRegex(found[-1], f"^{len(paths)} of {len(paths)} .* 0 in the log alone, 0 in the model alone$")
 
@@ -530,6 +530,11 @@ pipecheck: these words are no command; how compare is called stands above
         refused = "bad.litmus:5:2: syntax: the listing is refused; pipecheck test86 says what to do\n"
         self.by_python("a refused listing", [BUFFERS, "bad.litmus", "log"], 3, none,
                        f"{refused}log:1: not compared: no listing that is read has the name SB\n")
+        write("bad.uspec", 'StageName 0 "S".\nAxiom "x": IsAnyRead i 7.\n')
+        write("many", "x\n" * 22)
+        told = "".join(f"many:{line}: no line of a log: x\n" for line in range(1, 21))
+        self.by_python("a refused model, and more faults of the log than are told", ["bad.uspec", "SB.litmus", "many"], 3, "",
+                       f"bad.uspec:2:12: arity: the model is refused\n{told}compare: faults of the log: 2 more\n")
         self.by_python("two listings of one name", [BUFFERS, "SB.litmus", "other.litmus", "log"], 3, SB_LISTED + counted(4),
                        "compare: other.litmus has the name of SB.litmus: SB\n")
         for name, status, said, checker in (

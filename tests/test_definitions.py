@@ -11,9 +11,9 @@ from tests import random_texts
 from tests.cases import TOP, Cases, Done, read, run, tool, write
 from tests.test_pages import shown_by
 
-from tools.pages.antt import Fault, Reached, first_sentence, read_file
-from tools.pages.crate_list import crates_of
-from tools.pages.meaning import Top, by_crate, only
+from tools.pages.antt import Fault, first_sentence, read_file
+from tools.pages.crates import crates_of
+from tools.pages.meaning import Meaning, Top, by_crate, only
 from tools.lint.kinds import KINDS
 from tools.second.predicates import PREDICATES
 
@@ -248,6 +248,12 @@ class Scripts(Cases):
         with self.case("a page that shows nothing"), self.assertRaisesRegex(Fault, "^PAGE.md shows nothing$"):
             shown_by(page, self.work, self.work)
 
+    def test_mutual(self) -> None:
+        """definitions that are mutual go by the name of the first of them"""
+        path = "crates/says/specs/Observable.antt"
+        self.put(path, TREE[path].replace("some", "u") + "abbrev pub Other : Type 0\nOther = Test\n")
+        self.assertIn("            these: Observable, Even\n", self.said("definitions", "observable").out)
+
 
 class Lists(Cases):
     """What this repository says of itself."""
@@ -256,13 +262,13 @@ class Lists(Cases):
         """each import of a file of definitions names one"""
         for path in sorted(glob(f"{TOP}/crates/*/specs/*.antt")):
             if not path.endswith("/Lib.antt"):
-                reached = Reached(TOP)
+                meaning = Meaning([])
                 for it in read_file(path).imports.values():
-                    list(reached.imported(path, it))
+                    list(meaning.imported(path, it))
 
     def test_clauses(self) -> None:
         """a clause names what stands in its crate"""
-        for crate in crates_of(TOP):
+        for crate in crates_of():
             texts = map(read, glob(f"{TOP}/crates/{crate.name}/src/**/*.rt", recursive=True))
             code = {word for text in texts for word in re.findall(r"\w+", re.sub(r"^//!.*", "", text, flags=re.M))}
             for name in re.findall(r"`([\w:]+)`", crate.clause):
@@ -309,7 +315,7 @@ class Lists(Cases):
             self.assertEqual({*KINDS} - tried, set())
         words = in_file("commands.txt", r"^program\|([\w-]+)\|")
         with self.case("the table `commands.txt` has what the definitions spell"):
-            self.assertEqual(words, sorted(Top(TOP).words))
+            self.assertEqual(words, sorted(Top().words))
         second = in_file("tools/second/main.py", r'^    "([\w-]+)": \d,$')
         # formats of solvers, which no command writes, and what needs no second implementation, since it makes its own texts
         with self.case("the second implementation has each command"):

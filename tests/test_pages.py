@@ -16,7 +16,7 @@ from typing import Callable, Iterator
 from tests.cases import PATIENCE, TOP, Cases, pipecheck, read, run, without_proofs, write
 
 from tools.pages.antt import Fault
-from tools.pages.page_parts import made_parts, written_by
+from tools.pages.renew import MADE_PART, written_by
 
 PAGES = ["README.md", *(f"docs/{it}.md" for it in (
     "architecture", "tutorial", "core", "sweep", "compare", "ask", "certificates", "explain", "lint", "mend", "agree", "tests",
@@ -60,7 +60,7 @@ def printed(command: str, folder: str) -> str:
 def shown_by(page: str, folder: str, top: str = TOP) -> list[Shown]:
     """All that a page shows, which is not nothing. Its files are written to the folder, in which its commands run."""
     name, text, written, found = os.path.basename(page), read(page), set(), []
-    for command, shown in made_parts(text):
+    for command, shown in MADE_PART.findall(text):
         found.append(Shown(f"{name} has what {command} writes", partial(written_by, top, command), re.escape(shown)))
     for before, block in blocks(text):
         named = TO_WRITE.search(before)

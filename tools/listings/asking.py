@@ -1,5 +1,4 @@
 """What a model shows of a program: sweeps of the built program, one for each combination of values at the end."""
-import os
 import tempfile
 from dataclasses import dataclass
 from itertools import product
@@ -10,12 +9,14 @@ from tools.listings.conditions import Variable
 from tools.listings.programs import Loaded, Program
 from tools.listings.writing import pattern_of
 from tools.second.cases import Location
-from tools.second.patterns import MOST_ROWS
+from tools.second.patterns import ENDING, MOST_ROWS
 from tools.second.standard_output import FAILED
 from tools.suite.pairs import OBSERVABLE, Checker
 
 # how many sweeps there are of a test at most
 MOST_SWEEPS = 4_096
+# the values of the open reads in each row that is observable, or the status of a sweep that has no answer
+Swept = set[tuple[int, ...]] | int
 
 
 class Unasked(Exception):
@@ -41,18 +42,18 @@ class Question:
         for variable in self.variables:
             if variable.thread is None and variable.name not in self.program.locations:
                 raise Unasked(f"the listing has no location {variable.name}")
-            if variable.thread is not None and variable.thread >= self.program.threads:
+            if variable.thread is not None and variable.thread >= len(self.program.written.head):
                 raise Unasked(f"the listing has no thread {variable.thread}")
 
     @property
     def choices(self) -> list[list[int]]:
         """What each read may get: the value at the start, and what is written there."""
         found = []
-        for place in self.program.reads:
-            location = self.program.ops[place].pa
+        for number in self.program.reads:
+            location = self.program.ops[number].pa
             assert isinstance(location, Location)
             start = self.program.initial.get(location, 0)
-            found.append(list(dict.fromkeys([start, *self.program.writes_to(location.name)])))
+            found.append(list(dict.fromkeys([start, *self.program.writes_to(location)])))
         return found
 
     def sweeps(self) -> list[Sweep]:
@@ -62,16 +63,12 @@ class Question:
         closed = 0
         while prod(map(len, choices[closed:])) > MOST_ROWS:
             closed += 1
-        names = dict.fromkeys(variable.name for variable in self.variables if variable.thread is None)
-        written = {name: values for name in names if (values := self.program.writes_to(name))}
+        locations = dict.fromkeys(self.program.locations[it.name] for it in self.variables if it.thread is None)
+        written = {it: values for it in locations if (values := self.program.writes_to(it))}
         sides = [*choices[:closed], *written.values()]
         if prod(map(len, sides)) > MOST_SWEEPS:
             raise Unasked(f"it takes more than {MOST_SWEEPS} sweeps")
-        locations = [self.program.locations[name] for name in written]
-        return [
-            Sweep(dict(zip(reads[:closed], values)), dict(zip(locations, values[closed:])))
-            for values in product(*sides)
-        ]
+        return [Sweep(dict(zip(reads[:closed], it)), dict(zip(written, it[closed:]))) for it in product(*sides)]
 
     def states(self, sweep: Sweep, rows: Iterable[tuple[int, ...]]) -> Iterator[tuple[int, ...]]:
         """The states of the rows that are observable in a sweep."""
@@ -89,34 +86,16 @@ class Question:
         return reads[held.op] if isinstance(held, Loaded) else held
 
 
-@dataclass(frozen=True)
-class Swept:
-    """The values of the open reads in each row that is observable, or the status of a sweep that has no answer."""
-
-    rows: frozenset[tuple[int, ...]] = frozenset()
-    failed: int | None = None
-
-
-class Asker:
-    """The built program with a model, and a folder for patterns."""
-
-    def __init__(self, checker: Checker, model: str, folder: str) -> None:
-        self.checker = checker
-        self.model = model
-        self.folder = folder
-
-    def swept(self, program: Program, sweep: Sweep) -> Swept:
-        """What a sweep answers."""
-        with tempfile.TemporaryDirectory(dir=self.folder) as folder:
-            place = os.path.join(folder, "asked.pattern")
-            with open(place, "w", encoding="ascii") as file:
-                file.write(pattern_of(program, sweep.reads, sweep.finals))
-            with open(os.path.join(folder, "rows"), "w+b") as out:
-                status = self.checker.status(["sweep", self.model, place], out)
-                out.seek(0)
-                lines = out.read().decode("latin-1").splitlines()
-        rows = [line.split(" ") for line in lines if line.startswith("row ")]
-        is_whole = status == 0 and lines[:1] == [f"sweep {len(rows)}"] and lines[-1] == "end"
-        if not is_whole:
-            return Swept(failed=FAILED if status is None else status)
-        return Swept(frozenset(tuple(map(int, values)) for _, *values, verdict in rows if verdict == OBSERVABLE))
+def swept(checker: Checker, model: str, program: Program, sweep: Sweep) -> Swept:
+    """What the program that stands answers to a sweep."""
+    with tempfile.NamedTemporaryFile(suffix=ENDING) as pattern, tempfile.TemporaryFile() as out:
+        pattern.write(pattern_of(program, sweep.reads, sweep.finals).encode("ascii"))
+        pattern.flush()
+        status = checker.status(["sweep", model, pattern.name], out)
+        out.seek(0)
+        lines = out.read().decode("latin-1").splitlines()
+    rows = [line.split(" ") for line in lines if line.startswith("row ")]
+    is_whole = status == 0 and lines[:1] == [f"sweep {len(rows)}"] and lines[-1] == "end"
+    if not is_whole:
+        return FAILED if status is None else status
+    return {tuple(map(int, values)) for _, *values, verdict in rows if verdict == OBSERVABLE}

@@ -8,26 +8,214 @@ where the log has no state that the model does not show, 1 where it has some, an
 where a file is refused, or a test of the log has no listing, 4 where a file cannot be read, 5 where standard output could
 not be written, 7 where the program was refused memory, and 125 where there is no program or this one fails.
 """
+import os
 import re
 import sys
+from collections import Counter
+from functools import partial
+from typing import Mapping, Sequence
 
 from tools import TOP
 from tools.ending import SIGNALS
-from tools.listings.answering import compare
+from tools.lint.asked import Asked
+from tools.lint.lines import line_of
+from tools.listings.asking import MOST_SWEEPS, Sweep, Swept, Unasked, swept
+from tools.listings.beyond import Notes
+from tools.listings.comparing import Comparison
+from tools.listings.logs import Log, Result
+from tools.listings.programs import LOCKED, Program, read_program
+from tools.second.models import Model
+from tools.second.scopes import read_model
 from tools.second.standard_output import FAILED, UNREAD, status_of
+from tools.second.tokens import Fault
+from tools.suite.calling import Calls, side_by_side
+from tools.suite.counting import Progress
 from tools.suite.main import ENDING
+from tools.suite.pairs import Checker
+from tools.suite.programs import checker_of
 from tools.suite.refusing import Refusal
 from tools.suite.telling import tell
 from tools.telling.files import unreadable
-from tools.texts.contents import Unreadable
+from tools.texts.contents import Unreadable, contents, read_within
 from tools.texts.quoting import shown
+
+LOG_LIMIT = 67_108_864
+# a sweep has no limit of time of its own
+SECONDS = 1e9
+# how many lines of one kind are told
+MOST_TOLD = 20
+NONE, SOME, REFUSED, MEMORY = 0, 1, 3, 7
+
+
+class Answer:
+    """What is found, and what stands in the way of an answer."""
+
+    def __init__(self) -> None:
+        self.problem = NONE
+        self.told: Counter[str] = Counter()
+
+    def tell(self, kind: str, line: str, status: int = NONE) -> None:
+        """Tells a line, one of so many of its kind. The first one with a status says which."""
+        self.told[kind] += 1
+        if self.told[kind] <= MOST_TOLD:
+            tell(line)
+        self.problem = self.problem or status
+
+    def tell_rest(self) -> None:
+        """Tells how many lines were not told."""
+        for kind, count in self.told.items():
+            if count > MOST_TOLD:
+                tell(f"compare: {kind}: {count - MOST_TOLD} more")
+
+
+def compare(model_path: str, listing_paths: Sequence[str], log_path: str) -> tuple[list[str], int]:
+    """The lines and the status."""
+    model_text = contents(model_path)
+    listings = [(path, contents(path)) for path in listing_paths]
+    log_text = contents(log_path, LOG_LIMIT)
+    answer = Answer()
+    model = read_or_tell(answer, model_path, model_text)
+    programs = read_listings(answer, listings)
+    results = read_log(answer, log_path, log_text)
+    if model is None:
+        answer.tell_rest()
+        return [], answer.problem
+    asked = Asked(model).types
+    found = [joined(answer, log_path, result, programs, asked) for result in results]
+    tell_unused(answer, programs, results)
+    with SIGNALS.temporary_folder() as folder:
+        checker = checker_of(os.environ, TOP, SECONDS, Calls())
+        copy = os.path.join(folder, "model.uspec")
+        with open(copy, "wb") as file:
+            file.write(model_text)
+        done = ask(answer, [it for it in found if it is not None], checker, copy)
+    answer.tell_rest()
+    both, log_alone, model_alone = (sum(column) for column in zip((0, 0, 0), *(one.counts() for one in done)))
+    said = f"{both} states shown by both, {log_alone} in the log alone, {model_alone} in the model alone{checker.said}"
+    lines = [line for comparison in done for line in comparison.lines()]
+    return [*lines, f"{len(done)} of {len(results)} tests compared: {said}"], SOME if log_alone else answer.problem
+
+
+def read_or_tell(answer: Answer, path: str, text: bytes) -> Model | None:
+    """The model; None where it is refused, which is told."""
+    try:
+        return read_within(read_model, text)
+    except Fault as fault:
+        line = line_of(path, text, fault.place, f"{fault.word}: the model is refused")
+        answer.tell("a refused model", line, REFUSED)
+        return None
+
+
+def read_listings(answer: Answer, listings: Sequence[tuple[str, bytes]]) -> dict[str, tuple[str, Program]]:
+    """The programs of the listings by their names, each with its path. What is refused is told."""
+    found: dict[str, tuple[str, Program]] = {}
+    for path, text in listings:
+        try:
+            program = read_within(lambda it: read_program(it, Notes()), text)
+        except Fault as fault:
+            sentence = f"{fault.word}: the listing is refused; pipecheck test86 says what to do"
+            answer.tell("refused listings", line_of(path, text, fault.place, sentence), REFUSED)
+            continue
+        name = program.written.title
+        earlier, kept = found.setdefault(name, (path, program))
+        if kept is not program:
+            answer.tell("listings of one name", f"compare: {shown(path)} has the name of {shown(earlier)}: {shown(name)}", REFUSED)
+    return found
+
+
+def read_log(answer: Answer, path: str, text: bytes) -> list[Result]:
+    """The results of the log. What is wrong with it is told."""
+    if len(text) > LOG_LIMIT:
+        answer.tell("faults of the log", f"compare: {shown(path)} has more than {LOG_LIMIT} bytes", REFUSED)
+        return []
+    log = Log(text)
+    for line, sentence in log.faults:
+        answer.tell("faults of the log", f"{shown(path)}:{line}: {sentence}", REFUSED)
+    for line, sentence in log.notes:
+        answer.tell("tests that come again", f"{shown(path)}:{line}: {sentence}")
+    return list(log.results.values())
+
+
+def joined(
+    answer: Answer, path: str, result: Result, programs: Mapping[str, tuple[str, Program]], asked: Mapping[str, int]
+) -> Comparison | None:
+    """A result with the program of its listing; None where that cannot be asked, which is told."""
+    _, program = programs.get(result.name, ("", None))
+    if program is None:
+        why = f"no listing that is read has the name {result.name}"
+    elif program.has_locked and LOCKED not in asked:
+        why = f"{result.name} has locked instructions, and the model asks for no type {LOCKED}"
+    else:
+        comparison = Comparison(result, program)
+        if not comparison.is_of_another_listing:
+            return comparison
+        why = f"the condition of the listing {result.name} is not met as the log says: is it another listing?"
+    answer.tell("tests that are not compared", f"{shown(path)}:{result.line}: not compared: {why}", REFUSED)
+    return None
+
+
+def tell_unused(answer: Answer, programs: Mapping[str, tuple[str, Program]], results: Sequence[Result]) -> None:
+    """Tells how many listings are not in the log."""
+    names = {result.name for result in results}
+    unused = [path for name, (path, _) in programs.items() if name not in names]
+    if unused:
+        count = "1 listing is" if len(unused) == 1 else f"{len(unused)} listings are"
+        answer.tell("unused listings", f"compare: {count} of no test of the log, the first {shown(unused[0])}")
+
+
+def ask(answer: Answer, comparisons: Sequence[Comparison], checker: Checker, model: str) -> list[Comparison]:
+    """Asks the program for what it shows, and answers those that it could be asked of."""
+    done = []
+    waiting: list[tuple[Comparison, Sweep]] = []
+    for comparison in comparisons:
+        try:
+            comparison.question.judge()
+            waiting += [(comparison, sweep) for sweep in comparison.question.sweeps()]
+            done.append(comparison)
+        except Unasked as problem:
+            line = f"compare: not compared: {comparison.result.name}: {problem}"
+            answer.tell("tests that are not compared", line, REFUSED)
+        if len(waiting) >= MOST_SWEEPS:
+            run(waiting, checker, model)
+            waiting = []
+    run(waiting, checker, model)
+    return [comparison for comparison in done if is_whole(answer, comparison)]
+
+
+def run(waiting: Sequence[tuple[Comparison, Sweep]], checker: Checker, model: str) -> None:
+    """Runs sweeps side by side, and notes what each shows."""
+    progress = Progress(len(waiting))
+
+    def take(place: int, found: Swept) -> None:
+        comparison, sweep = waiting[place]
+        if isinstance(found, int):
+            comparison.failed = found
+        else:
+            comparison.shown.update(comparison.question.states(sweep, found))
+        progress.step()
+
+    tasks = [partial(swept, checker, model, comparison.program, sweep) for comparison, sweep in waiting]
+    try:
+        side_by_side(checker.calls, len(os.sched_getaffinity(0)), tasks, take)
+    finally:
+        progress.end()
+
+
+def is_whole(answer: Answer, comparison: Comparison) -> bool:
+    """Whether all sweeps of a test have an answer. That one has none is told."""
+    if comparison.failed is None:
+        return True
+    why = f"a sweep of it has no answer, and the status {comparison.failed}"
+    status = comparison.failed if comparison.failed in (REFUSED, MEMORY) else FAILED
+    answer.tell("tests that are not compared", f"compare: not compared: {comparison.result.name}: {why}", status)
+    return False
 
 
 def main(model: str, *paths: str) -> int:
     """The status. A signal ends what was called, and then this process."""
     SIGNALS.receive(ENDING)
     try:
-        lines, status = compare(model, paths[:-1], paths[-1], TOP)
+        lines, status = compare(model, paths[:-1], paths[-1])
     except Refusal as refusal:
         tell(re.sub("^suite: ", "compare: ", str(refusal)))
         return FAILED

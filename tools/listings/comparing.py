@@ -1,28 +1,18 @@
 """A test of a log beside what a model shows of the listing of the same name."""
 from dataclasses import dataclass, field, replace
-from typing import Collection, Iterator, Sequence
+from typing import Iterator
 
 from tools.listings.asking import Question
-from tools.listings.conditions import Condition, Variable
+from tools.listings.conditions import Variable
 from tools.listings.logs import Result, State
 from tools.listings.programs import Program
 from tools.listings.reading import register_name
 
-BUG = "BUG: the machine does what the model forbids"
+BOTH = "shown by both"
+# what the log alone has, and what the model alone shows, by whether the log is of a machine, which counts, or of herd
+LOG_ALONE = {True: "BUG: the machine does what the model forbids", False: "herd allows what the model forbids"}
+MODEL_ALONE = {True: "shown by the model and not seen", False: "the model shows what herd forbids"}
 ANSWERS = {True: "Ok", False: "No"}
-
-
-@dataclass(frozen=True)
-class Words:
-    """What is said of a state: that both have it, that the log alone has it, or that the model alone shows it."""
-
-    both: str
-    log_alone: str
-    model_alone: str
-
-
-MACHINE = Words("shown by both", BUG, "shown by the model and not seen")
-MEMORY_MODEL = Words("shown by both", "herd allows what the model forbids", "the model shows what herd forbids")
 
 
 @dataclass
@@ -41,7 +31,7 @@ class Comparison:
         condition."""
         if not self.result.states:
             return self.program.condition.variables
-        return [plain(variable, self.program.is_wide) for variable in self.result.variables]
+        return [plain(variable, self.program.written.is_wide) for variable in self.result.variables]
 
     @property
     def question(self) -> Question:
@@ -61,14 +51,12 @@ class Comparison:
 
     def lines(self) -> Iterator[str]:
         """A line for each state, and one for the condition."""
-        words = MACHINE if self.result.is_counted else MEMORY_MODEL
-        shown = self.projected
+        is_counted, shown = self.result.is_counted, self.projected
         found = []
         for state, times in self.result.states.items():
-            said = words.both if state in shown else words.log_alone
-            count = f", {times} {'time' if times == 1 else 'times'}" if self.result.is_counted else ""
-            found.append((self.text(state), said + count))
-        found += [(self.text(state), words.model_alone) for state in sorted(shown - set(self.result.states))]
+            count = f", {times} {'time' if times == 1 else 'times'}" if is_counted else ""
+            found.append((self.text(state), (BOTH if state in shown else LOG_ALONE[is_counted]) + count))
+        found += [(self.text(state), MODEL_ALONE[is_counted]) for state in sorted(shown - set(self.result.states))]
         width = max((len(text) for text, _ in found), default=0)
         yield from (f"{self.result.name}: {text.ljust(width)}  {said}" for text, said in found)
         yield f"{self.result.name}: {self.answers()}"
@@ -83,7 +71,7 @@ class Comparison:
         variable of it."""
         condition = replace(self.program.condition, quantifier=quantifier)
         has_all = set(condition.variables) <= set(self.variables)
-        return is_met(condition, self.variables, self.result.states) if has_all else None
+        return condition.is_met(self.variables, self.result.states) if has_all else None
 
     @property
     def is_of_another_listing(self) -> bool:
@@ -93,7 +81,7 @@ class Comparison:
     def answers(self) -> str:
         """What the model and the log say to the condition of the listing."""
         condition = self.program.condition
-        said = f"{condition.quantifier}: {ANSWERS[is_met(condition, self.question.variables, self.shown)]} in the model"
+        said = f"{condition.quantifier}: {ANSWERS[condition.is_met(self.question.variables, self.shown)]} in the model"
         in_log = self.met_by_log(condition.quantifier)
         return said if in_log is None else f"{said}, {ANSWERS[in_log]} in the log"
 
@@ -101,8 +89,3 @@ class Comparison:
 def plain(variable: Variable, is_wide: bool) -> Variable:
     """A variable of a log as the listing names it."""
     return variable if variable.thread is None else Variable(variable.thread, register_name(variable.name, is_wide))
-
-
-def is_met(condition: Condition, variables: Sequence[Variable], states: Collection[State]) -> bool:
-    """Whether a condition is met by states of these variables."""
-    return condition.is_met([dict(zip(variables, state)) for state in states])

@@ -1,6 +1,6 @@
 """The condition of a listing: what it asks of the states at the end."""
 from dataclasses import dataclass
-from typing import Callable, Collection, Iterable, Mapping, NamedTuple
+from typing import Callable, Iterable, Mapping, NamedTuple, Sequence
 
 from tools.second.tokens import Fault, Token
 
@@ -32,7 +32,6 @@ SIDES: dict[str, Callable[[bool, bool], bool]] = {
 }
 NEGATIONS = ("not", "~")
 CONSTANTS = {"true": True, "false": False}
-State = Mapping[Variable, int]
 
 
 @dataclass(frozen=True)
@@ -57,14 +56,14 @@ class Condition:
             raise Fault("syntax", min(others))
         return [part for part in self.formula if isinstance(part, Equation)]
 
-    def is_met(self, states: Collection[State]) -> bool:
-        """Whether it holds of these states as all that come up."""
-        truths: Iterable[bool] = (self.holds(state) for state in states)
+    def is_met(self, variables: Sequence[Variable], states: Iterable[tuple[int, ...]]) -> bool:
+        """Whether it holds of these states of these variables as all that come up."""
+        truths = (self.holds(dict(zip(variables, state))) for state in states)
         if self.quantifier == "forall":
             return all(truths)
         return any(truths) == (self.quantifier == "exists")
 
-    def holds(self, state: State) -> bool:
+    def holds(self, state: Mapping[Variable, int]) -> bool:
         """Whether the formula holds in a state."""
         known: list[bool] = []
         for part in self.formula:

@@ -1,8 +1,6 @@
 """Herd's listings for X86 and X86_64 as they are written: bytes to threads of instructions, and a condition."""
 import re
-from dataclasses import dataclass
-from enum import Enum
-from typing import NamedTuple
+from dataclasses import dataclass, replace
 
 from tools.listings.beyond import Beyond, Notes
 from tools.listings.conditions import BINDING, CONSTANTS, NEGATIONS, SIDES, Condition, Equation, Variable
@@ -22,42 +20,19 @@ PIECE = re.compile(
 # a word with the size of what it moves, as it may be spelled
 MOVE = re.compile("MOV[LQ]?", re.IGNORECASE)
 EXCHANGE = re.compile("XCHG[LQ]?", re.IGNORECASE)
-# registers that are parts of one, and those that have a number
-LETTERED = re.compile("[ER]([A-D]X|[SD]I|[SB]P)")
-NUMBERED = re.compile("(R[0-9]+)[DWB]?")
-
-
-class Kind(Enum):
-    """What an operand is."""
-
-    NUMBER = "number"
-    LOCATION = "location"
-    REGISTER = "register"
-
-
-class Operand(NamedTuple):
-    """An operand, by the token that says which. A marked one is spelled as where the source stands first."""
-
-    kind: Kind
-    token: Token
-    is_marked: bool
+# registers that have a number, and parts of them; and others
+PART = re.compile("(R[0-9]+)[DWB]?|[ER]([A-D]X|[SD]I|[SB]P)")
 
 
 @dataclass(frozen=True)
 class Instruction:
-    """A fence without operands, or what is moved or exchanged: the operand that is written, and the other one."""
+    """A fence without operands, or what is moved or exchanged: the operand that is written, and the other one. The kind of an
+    operand is `number`, `location` or `register`."""
 
     word: Token
-    target: Operand | None = None
-    source: Operand | None = None
+    target: Token | None = None
+    source: Token | None = None
     is_exchange: bool = False
-
-
-class Row(NamedTuple):
-    """The cells of a line, and the `;` after them."""
-
-    cells: tuple[Instruction | None, ...]
-    end: Token
 
 
 @dataclass(frozen=True)
@@ -71,7 +46,8 @@ class Written:
     # values at the start
     starts: tuple[Equation, ...]
     head: tuple[Token, ...]
-    rows: tuple[Row, ...]
+    # the cells of each line, and the `;` after them
+    rows: tuple[tuple[tuple[Instruction | None, ...], Token], ...]
     condition: Condition
 
 
@@ -117,15 +93,20 @@ class HerdReader(ListingReader):
         self.notes = notes
 
     @property
-    def later(self) -> Token | None:
-        """The token behind the next one."""
-        place = self.next_index + 1
-        return self.all_tokens[place] if place < len(self.all_tokens) else None
+    def later(self) -> Token:
+        """The token behind the next one, which is not the end."""
+        return self.all_tokens[self.next_index + 1]
+
+    def passes(self, piece: str) -> bool:
+        """Whether this symbol comes next, which is passed over."""
+        is_there = self.sees(piece)
+        if is_there:
+            self.take()
+        return is_there
 
     def sees_after(self, *pieces: str) -> bool:
         """Whether the token behind the next one is one of these symbols."""
-        later = self.later
-        return later is not None and later.kind == "symbol" and later.piece in pieces
+        return self.later.kind == "symbol" and self.later.piece in pieces
 
     def written(self, title: str, start: int) -> Written:
         """The whole of it."""
@@ -133,7 +114,7 @@ class HerdReader(ListingReader):
         head, _ = self.cells(lambda: self.expect_kind("name"))
         rows = []
         while not self.sees("~", "exists", "forall", "locations"):
-            rows.append(Row(*self.cells(self.instruction)))
+            rows.append(self.cells(self.instruction))
         while self.sees("locations"):
             self.pass_locations()
         condition = self.condition()
@@ -153,9 +134,7 @@ class HerdReader(ListingReader):
         variable = self.variable()
         if variable.thread is not None:
             self.notes.note(Beyond.START, token.at)
-        elif not self.sees("="):
-            if not self.sees(";", "}"):
-                raise self.refuse()
+        elif self.sees(";", "}"):
             self.notes.note(Beyond.UNSET, token.at)
             return Equation(variable, 0, token)
         self.expect("=")
@@ -173,57 +152,54 @@ class HerdReader(ListingReader):
             if word.piece != "MFENCE":
                 self.notes.note(Beyond.SPELLING, word.at)
             return Instruction(word)
-        if word.piece.upper() == "LOCK":
-            if self.later is None or EXCHANGE.fullmatch(self.later.piece) is None:
-                return None
+        if word.piece.upper() == "LOCK" and EXCHANGE.fullmatch(self.later.piece):
             self.take()
         is_exchange = EXCHANGE.fullmatch(self.next.piece) is not None
         if not is_exchange and MOVE.fullmatch(self.next.piece) is None:
             return None
-        return self.moved(word, self.take(), is_exchange)
+        return self.moved(word, is_exchange)
 
-    def moved(self, first: Token, word: Token, is_exchange: bool) -> Instruction:
-        """What stands behind the word of an instruction. Where operands are marked, or a number is first, so is the
-        source."""
+    def moved(self, first: Token, is_exchange: bool) -> Instruction:
+        """What stands behind the word of an instruction. Where a register or a location is spelled so, or a number is first, the
+        source stands first."""
+        word = self.take()
+        begun = self.next_index
         one = self.operand()
         self.expect(",")
         other = self.operand()
-        is_turned = one.kind is Kind.NUMBER or one.is_marked or other.is_marked
+        spelled = {token.piece for token in self.all_tokens[begun : self.next_index]}
+        is_turned = one.kind == "number" or bool(spelled & {"%", "("})
         target, source = (other, one) if is_turned else (one, other)
-        kinds = target.kind, source.kind
+        kinds = {target.kind, source.kind}
         if is_exchange:
-            if kinds == (Kind.REGISTER, Kind.LOCATION):
+            if kinds != {"register", "location"}:
+                raise Fault("syntax", other.at)
+            if target.kind == "register":
                 target, source = source, target
-            elif kinds != (Kind.LOCATION, Kind.REGISTER):
-                raise Fault("syntax", other.token.at)
             self.notes.note(Beyond.EXCHANGE, first.at)
-        elif target.kind is Kind.NUMBER or source.kind is target.kind:
-            raise Fault("syntax", other.token.at)
+        elif target.kind == "number" or len(kinds) == 1:
+            raise Fault("syntax", other.at)
         elif is_turned or word.piece != "MOV":
             self.notes.note(Beyond.SPELLING, first.at)
         return Instruction(first, target, source, is_exchange)
 
-    def operand(self) -> Operand:
+    def operand(self) -> Token:
         """A number, a location or a register."""
-        if self.sees("$"):
-            self.take()
-            return Operand(Kind.NUMBER, self.expect_kind("number"), False)
+        if self.passes("$"):
+            return self.expect_kind("number")
         if self.sees("["):
-            return Operand(Kind.LOCATION, self.in_brackets(), False)
-        if self.sees("("):
-            self.take()
+            return replace(self.in_brackets(), kind="location")
+        if self.passes("("):
             name = self.expect_kind("name")
             self.expect(")")
-            return Operand(Kind.LOCATION, name, True)
-        is_marked = self.sees("%")
-        if is_marked:
-            self.take()
-        return Operand(Kind.REGISTER, self.register(), is_marked)
+            return replace(name, kind="location")
+        return self.register()
 
     def register(self) -> Token:
         """A register by the name that all its parts have."""
+        self.passes("%")
         token = self.expect_kind("name")
-        return Token(token.kind, register_name(token.piece, self.is_wide), token.at)
+        return Token("register", register_name(token.piece, self.is_wide), token.at)
 
     # what stands behind them
 
@@ -235,10 +211,7 @@ class HerdReader(ListingReader):
     def condition(self) -> Condition:
         """The quantifier and the formula."""
         first = self.next
-        quantifier = "forall" if self.sees("forall") else "exists"
-        if self.sees("~"):
-            self.take()
-            quantifier = "~exists"
+        quantifier = "~exists" if self.passes("~") else "forall" if self.sees("forall") else "exists"
         self.expect(quantifier.lstrip("~"))
         return Condition(quantifier, tuple(self.formula()), first)
 
@@ -252,8 +225,7 @@ class HerdReader(ListingReader):
                 depth += self.sees("(")
                 waiting.append(self.take())
             found.append(self.take() if self.sees_word(*CONSTANTS) else self.condition_equation())
-            while depth and self.sees(")"):
-                self.take()
+            while depth and self.passes(")"):
                 depth -= 1
                 while waiting[-1].piece != "(":
                     found.append(waiting.pop())
@@ -284,18 +256,11 @@ class HerdReader(ListingReader):
             return Variable(None, (self.in_brackets() if self.sees("[") else self.expect_kind("name")).piece)
         thread = self.number()
         self.expect(":")
-        if self.sees("%"):
-            self.take()
         return Variable(thread, self.register().piece)
 
 
 def register_name(name: str, is_wide: bool) -> str:
     """The name of a register in capitals; in X86_64 the parts of a register have the name of the whole."""
     upper = name.upper()
-    if not is_wide:
-        return upper
-    found = NUMBERED.fullmatch(upper)
-    if found is not None:
-        return found[1]
-    found = LETTERED.fullmatch(upper)
-    return upper if found is None else "R" + found[1]
+    found = PART.fullmatch(upper) if is_wide else None
+    return upper if found is None else found[1] or f"R{found[2]}"

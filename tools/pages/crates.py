@@ -10,12 +10,77 @@ import os
 import re
 import sys
 from collections.abc import Iterator
+from dataclasses import dataclass
+from itertools import takewhile
 
 sys.dont_write_bytecode = True
 
 from tools import TOP
-from tools.pages.antt import Fault
-from tools.pages.crate_list import Crate, by_heading, crates_of
+from tools.pages.antt import Fault, first_sentence
+
+# crates that only test others promise nothing
+NO_CLAUSE = "tests of crates"
+
+
+@dataclass
+class Crate:
+    """A crate: its name, the heading that it stands under, and what it stands on."""
+
+    name: str
+    heading: str
+    below: list[str]
+    sentence: str
+    clause: str
+
+
+def head_of(name: str, heading: str) -> tuple[str, str]:
+    """The first sentence of the comment that a crate's root file begins with, and its clause."""
+    places = [f"{TOP}/crates/{name}/src/{it}.rt" for it in ("lib", "main")]
+    root = next((it for it in places if os.path.isfile(it)), None)
+    if root is None:
+        raise Fault(f"crates.txt lists {name}, which has no root file")
+    with open(root, encoding="utf-8") as file:
+        lines = [line[3:].strip() for line in takewhile(lambda line: line.startswith("//!"), file)]
+    said = [it.replace("\n", " ") for it in re.split(r"\n{2,}", "\n".join(lines))]
+    clauses = [it.removeprefix("Clause: ") for it in said if it.startswith("Clause: ")]
+    if len(clauses) != (0 if heading == NO_CLAUSE else 1):
+        raise Fault(f"{root} has {len(clauses)} lines '//! Clause:'")
+    try:
+        return first_sentence(said[0]), "".join(clauses)
+    except Fault as fault:
+        raise Fault(f"{root}: {fault}") from fault
+
+
+def crates_of() -> list[Crate]:
+    """All crates, the lowest first."""
+    found: list[Crate] = []
+    heading = ""
+    with open(f"{TOP}/crates.txt", encoding="utf-8") as file:
+        for line in file:
+            if line.startswith("## "):
+                heading = line[3:].strip()
+                continue
+            name, colon, below = line.partition("#")[0].partition(":")
+            if not colon:
+                continue
+            name = name.split()[0]
+            if not heading:
+                raise Fault(f"crates.txt has {name} under no heading")
+            found.append(Crate(name, heading, below.split(), *head_of(name, heading)))
+    names = [it.name for it in found]
+    for place, it in enumerate(found):
+        above = [name for name in it.below if name in names[place:]]
+        if above:
+            raise Fault(f"crates.txt has {it.name} before {above[0]}, on which it stands")
+    return found
+
+
+def by_heading() -> dict[str, list[Crate]]:
+    """The crates under each heading, both in the order of crates.txt."""
+    found: dict[str, list[Crate]] = {}
+    for it in crates_of():
+        found.setdefault(it.heading, []).append(it)
+    return found
 
 
 def cell(text: str) -> str:
@@ -23,9 +88,9 @@ def cell(text: str) -> str:
     return re.sub(r"\[(`[^`]*`)\](?:\([^)]*\))?", r"\1", text).replace("|", "\\|")
 
 
-def tables(crates: list[Crate]) -> Iterator[str]:
+def tables() -> Iterator[str]:
     """A table for each heading."""
-    for heading, under in by_heading(crates).items():
+    for heading, under in by_heading().items():
         has_clauses = any(it.clause for it in under)
         yield from (f"### {heading[0].upper()}{heading[1:]}", "")
         columns = ["crate", "what it is for", *(["main clause"] if has_clauses else []), "stands on"]
@@ -37,25 +102,25 @@ def tables(crates: list[Crate]) -> Iterator[str]:
         yield ""
 
 
-def names(crates: list[Crate]) -> Iterator[str]:
+def names() -> Iterator[str]:
     """The crates under each heading."""
     yield from ("| heading | crates |", "|---|---|")
-    for heading, under in by_heading(crates).items():
+    for heading, under in by_heading().items():
         yield f"| {heading} | {', '.join(f'`{it.name}`' for it in under)} |"
 
 
-def main() -> int:
+def main(*words: str) -> int:
     """Answers one call."""
     forms = {(): tables, ("--names",): names}
-    asked = tuple(sys.argv[1:])
     try:
-        if asked not in forms:
-            raise Fault(f"no such words: {' '.join(asked)}. There is --names")
-        print("\n".join(forms[asked](crates_of(TOP))).rstrip())
+        if words not in forms:
+            raise Fault(f"no such words: {' '.join(words)}. There is --names")
+        print("\n".join(forms[words]()).rstrip())
     except Fault as fault:
         print(f"crates: {fault}", file=sys.stderr)
         return 1
     return 0
 
 
-sys.exit(main())
+if __name__ == "__main__":
+    sys.exit(main(*sys.argv[1:]))

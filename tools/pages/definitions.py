@@ -18,7 +18,7 @@ sys.dont_write_bytecode = True
 
 from tools import TOP
 from tools.pages.antt import Fault, first_sentence, read_file
-from tools.pages.meaning import ALL, OBSERVABLE, Meaning, Top, by_crate, by_imports, partly
+from tools.pages.meaning import ALL, OBSERVABLE, Meaning, Top, by_crate
 
 
 def meanings(top: Top) -> Iterator[tuple[str, Meaning | None, Meaning]]:
@@ -35,55 +35,52 @@ def counts(top: Top) -> Iterator[str]:
     """How many files and lines each word has."""
     yield "what                   status: files  lines    all: files  lines    with all that they import"
     for words, status, meaning in meanings(top):
-        of_status = (len(status.reached.files), status.count()) if status else ("", "")
-        of_all = (len(meaning.reached.files), meaning.count(), *by_imports(meaning))
+        of_status = (len(status.files), status.count()) if status else ("", "")
+        of_all = (len(meaning.files), meaning.count(), *meaning.by_imports())
         yield "{:<22} {:>13} {:>6} {:>13} {:>6} {:>10} files, {:>5} lines".format(words.replace("`", ""), *of_status, *of_all)
 
 
 def listing(meaning: Meaning) -> Iterator[str]:
     """The files of a meaning, and what they take of the code."""
-    for path in meaning.files():
-        names = partly(meaning, path)
+    for path in meaning.in_order():
+        names = meaning.partly(path)
         of_all = f" of {read_file(path).count()}" if names else ""
         said = first_sentence(read_file(path).comment) if read_file(path).comment else ""
-        yield f"{meaning.reached.count(path):>4}{of_all:<7} {os.path.relpath(path, TOP):<48} {said}".rstrip()
+        yield f"{meaning.count_in(path):>4}{of_all:<7} {os.path.relpath(path, TOP):<48} {said}".rstrip()
         if names:
             yield f"            these: {', '.join(names)}"
-    count = f"{len(meaning.reached.files)} files, {meaning.count()} lines"
-    yield "{}; with all that they import {} files, {} lines".format(count, *by_imports(meaning))
-    types: dict[str, list[str]] = {}
-    for it in sorted(meaning.reached.types, key=lambda it: (it.path, it.name)):
-        types.setdefault(os.path.relpath(it.path, TOP), []).append(it.name)
+    count = f"{len(meaning.files)} files, {meaning.count()} lines"
+    yield "{}; with all that they import {} files, {} lines".format(count, *meaning.by_imports())
     yield "They speak of these types and constants of the code:"
-    for path, named in types.items():
-        yield f"  {path}: {', '.join(named)}"
+    for path, named in sorted(meaning.types.items()):
+        yield f"  {os.path.relpath(path, TOP)}: {', '.join(sorted(named))}"
 
 
 def page(top: Top) -> Iterator[str]:
     """The counts as a table, and the files by crate."""
     yield from ("| what | of its status: files | lines | with its text: files | lines |", "|---|---|---|---|---|")
     for words, status, meaning in meanings(top):
-        of_status = f"{len(status.reached.files)} | {status.count():,}" if status else "|"
-        yield f"| {words} | {of_status} | {len(meaning.reached.files)} | {meaning.count():,} |"
+        of_status = f"{len(status.files)} | {status.count():,}" if status else "|"
+        yield f"| {words} | {of_status} | {len(meaning.files)} | {meaning.count():,} |"
     yield from ("", "| crate | files of `specs/` that clauses of `run` reach | lines |", "|---|---|---|")
     meaning = top.of_word(ALL)
-    files = meaning.files()
+    files = meaning.in_order()
     for crate, names in by_crate(files).items():
-        lines = sum(meaning.reached.count(it) for it in files if f"/crates/{crate}/" in it)
+        lines = sum(meaning.count_in(it) for it in files if f"/crates/{crate}/" in it)
         yield f"| `{crate}` | {', '.join(f'`{it}`' for it in names)} | {lines:,} |"
 
 
 def sentence(top: Top) -> Iterator[str]:
     """How few lines say what a verdict means, and how many all."""
     few, every = top.of_word(OBSERVABLE), top.of_word(ALL)
-    yield f"{len(few.reached.files)} files with {few.count():,} lines of definitions say what *observable* means, and"
-    yield f"{len(every.reached.files)} files with {every.count():,} lines what all clauses of `run` mean."
+    yield f"{len(few.files)} files with {few.count():,} lines of definitions say what *observable* means, and"
+    yield f"{len(every.files)} files with {every.count():,} lines what all clauses of `run` mean."
 
 
 def main() -> int:
     """Answers one call."""
     try:
-        top = Top(TOP)
+        top = Top()
         asked = sys.argv[1:] or ["--counts"]
         of_status = asked[0] == "--status"
         if len(asked) != 1 + of_status:

@@ -7,22 +7,34 @@ Prints the pages that were stale. The family `pages` fails where one is.
 """
 import glob
 import os
+import re
+import subprocess
 import sys
 
 sys.dont_write_bytecode = True
 
 from tools import TOP
 from tools.pages.antt import Fault
-from tools.pages.page_parts import renewed
+
+# its groups are the command and what the page has of it
+MADE_PART = re.compile(r"^<!-- (python3 tools [a-z]+(?: --[a-z]+)*) -->\n(.*?)^<!-- end -->\n", re.M | re.S)
 
 
-def main() -> int:
+def written_by(top: str, command: str) -> str:
+    """What a tool of `top` writes now, as it stands in a page."""
+    done = subprocess.run(command.split(), cwd=top, capture_output=True, text=True, check=False)
+    if done.returncode != 0:
+        raise Fault(f"{command} ends with {done.returncode}: {done.stderr.strip()}")
+    return done.stdout
+
+
+def main(*pages: str) -> int:
     """Every page."""
     try:
-        for page in sys.argv[1:] or [f"{TOP}/README.md", *sorted(glob.glob(f"{TOP}/docs/*.md"))]:
+        for page in pages or [f"{TOP}/README.md", *sorted(glob.glob(f"{TOP}/docs/*.md"))]:
             with open(page, encoding="utf-8") as file:
                 text = file.read()
-            wanted = renewed(TOP, text)
+            wanted = MADE_PART.sub(lambda it: f"<!-- {it[1]} -->\n{written_by(TOP, it[1])}<!-- end -->\n", text)
             if wanted != text:
                 with open(page, "w", encoding="utf-8") as file:
                     file.write(wanted)
@@ -33,4 +45,5 @@ def main() -> int:
     return 0
 
 
-sys.exit(main())
+if __name__ == "__main__":
+    sys.exit(main(*sys.argv[1:]))

@@ -115,15 +115,12 @@ def left_out_word(data: bytes, refusal: Refusal) -> str:
     lines = data.split(b"\n")
     line = lines[refusal.line - 1] if refusal.line <= len(lines) else b""
     before, rest = line[: refusal.column - 1], line[refusal.column - 1:]
-    is_begun = is_ended = False
+    above = b"\n".join(lines[: refusal.line - 1])
+    read = above + b"\n" + before
+    begun = re.search(rb"^[ \t\r]*[{]", read, re.MULTILINE)
+    is_ended = begun is not None and b"}" in read[begun.start() :]
     # whether the last line before this one that has something ends with a semicolon
-    is_closed = False
-    for text in [*lines[: refusal.line - 1], before]:
-        is_begun = is_begun or re.match(rb"[ \t\r]*[{]", text) is not None
-        is_ended = is_ended or is_begun and b"}" in text
-    for text in lines[: refusal.line - 1]:
-        if text.strip(b" \t\r"):
-            is_closed = re.search(rb";[ \t\r]*$", text) is not None
+    is_closed = above.rstrip(b" \t\r\n").endswith(b";")
     is_header = re.match(rb'[A-Za-z][A-Za-z0-9_]*[ \t]+[^ \t"]+[ \t\r]*$', rest) is not None
     if refusal.place == "1:1" and is_header and not re.match(rb"X86[ \t]", rest):
         return "AArch64"
@@ -132,7 +129,7 @@ def left_out_word(data: bytes, refusal: Refusal) -> str:
             return word
     if re.match(rb"not|true", rest) or re.search(rb"(?:^|[ \t(~])(?:not|true)[ \t]*$", before):
         return "not"
-    if is_begun and not is_ended:
+    if begun is not None and not is_ended:
         if re.match(rb"[0-9]+[ \t]*:", rest):
             return "0:EAX=1"
         if re.search(rb"[A-Za-z0-9_][ \t*]+$", before):
