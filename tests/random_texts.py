@@ -11,6 +11,7 @@ from random import Random
 from typing import Iterator
 
 from tools.second.cases import Case
+from tools.second.judging import second_line
 from tools.second.lifted import LiftedJudge
 
 SORTS = {"op": "microop", "core": "core"}
@@ -299,10 +300,10 @@ def changed_certificate(random: Random, text: bytes) -> bytes:
     return b"\n".join(lines)
 
 
-def lifted_text(random: Random, judge: LiftedJudge, second: str) -> bytes:
+def lifted_text(random: Random, judge: LiftedJudge) -> bytes:
     """Lines that the judge takes one after another, as of a lifted refutation: closing ones where one is found, else ones
     that add or split. It may be whole, break off, or go on with a line that is not taken."""
-    lines = ["unobservable", second, "lifted"]
+    lines = ["unobservable", second_line(False, judge.case), "lifted"]
     count = random.choice((3, 10, 40))
     while judge.open and len(lines) < count:
         taken = next(filter(judge.accepts, lifted_lines(random, len(judge.open[-1]), judge.case)), None)

@@ -310,7 +310,7 @@ class Lists(Cases):
         words = in_file("commands.txt", r"^program\|([\w-]+)\|")
         with self.case("the table `commands.txt` has what the definitions spell"):
             self.assertEqual(words, sorted(Top(TOP).words))
-        second = in_file("tools/second/main.py", r'^    "([\w-]+)": \d,$')
+        second = in_file("tools/second/main.py", r'^    "([\w-]+)": \(\d, ')
         # formats of solvers, which no command writes, and what needs no second implementation, since it makes its own texts
         with self.case("the second implementation has each command"):
             self.assertEqual(second, sorted({*words, "dimacs", "smt"} - {"gen"}))

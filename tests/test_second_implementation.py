@@ -8,11 +8,12 @@ from __future__ import annotations
 import os
 import re
 import sys
+from functools import partial
 from typing import Any, Callable, Iterable
 
 from tests.cases import TOP, Cases, run
 
-from tools.second.main import Refused, ask, check, core, judged, judged_three, lift, verify, verify_lifted
+from tools.second.main import Refused, ask, check, core, judged, judged_three, judgement
 from tools.second.answering import Branch
 from tools.second.cases import Case, read_case
 from tools.second.listings import read_listing
@@ -477,7 +478,7 @@ def shipped_lifted(name: str, number: int, lines: str | None) -> str:
     model, test = (example(path) for path in SHIPPED[name])
     text = example(f"lifted/{name}.txt").split(b"\n")
     text[number - 1 : number] = [] if lines is None else [it.encode("ascii") for it in lines.split("; ")]
-    return lines_of(verify_lifted(read_model(model), read_case(test), b"\n".join(text))[0])
+    return lines_of(judgement("verify-lifted", read_model(model), read_case(test), b"\n".join(text))[0])
 
 
 def told(case: Case) -> str:
@@ -556,10 +557,10 @@ class Second(Cases):
                     self.assertEqual(of(*given), f"certificate refused at line {wanted}" if isinstance(wanted, int) else wanted)
 
     def test_certificates(self) -> None:
-        self.tells(lambda model, text: on_one(verify, model, bytes_of(text)), CERTIFICATES)
+        self.tells(lambda model, text: on_one(partial(judgement, "verify"), model, bytes_of(text)), CERTIFICATES)
         self.tells(lambda model: on_one(check, model, 2), FOUND)
         self.tells(lambda model: on_one(core, model), CORES)
-        self.tells(lambda model, text: on_one(lift, model, bytes_of(text)), LIFTS, "lift: ")
+        self.tells(lambda model, text: on_one(partial(judgement, "lift"), model, bytes_of(text)), LIFTS, "lift: ")
 
     def test_forced(self) -> None:
         self.tells(lambda it: str(is_forced(it)), [(name, it, str(wanted)) for name, it, wanted in FORCED], "a forced Or: ")
@@ -570,7 +571,7 @@ class Second(Cases):
             for name, number, wanted, texts in SHIPPED_LIFTED for it in texts
         ]
         self.tells(shipped_lifted, rows, "lifted: ")
-        self.tells(lambda model, lines: on_one(verify_lifted, model, bytes_of(f"{HEADER}; lifted; {lines}")), LIFTED, "lifted: ")
+        self.tells(lambda model, lines: on_one(partial(judgement, "verify-lifted"), model, bytes_of(f"{HEADER}; lifted; {lines}")), LIFTED, "lifted: ")
 
     def test_questions(self) -> None:
         self.tells(asked, QUERIES, "ask: ")

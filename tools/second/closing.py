@@ -8,8 +8,7 @@ that it asserts.
 from dataclasses import dataclass
 from typing import Protocol
 
-from tools.second.judging import Signed
-from tools.second.positions import Inner, Leaf, Positions
+from tools.second.positions import Inner, Leaf, Positions, Signed
 
 
 class World(Protocol):
@@ -24,10 +23,10 @@ class World(Protocol):
 
 @dataclass
 class Parts:
-    """What a position asserts: the literals in preorder, and the disjunctions."""
+    """What a position asserts: the literals in preorder, and the choices."""
 
     literals: list[Leaf]
-    disjunctions: list[Signed]
+    choices: list[Signed]
 
 
 class Alternatives:
@@ -40,17 +39,9 @@ class Alternatives:
     def parts(self, place: Signed) -> Parts:
         """What the position asserts with this sign."""
         if place not in self.known:
-            found = self.known[place] = Parts([], [])
-            waiting = [place]
-            while waiting:
-                here, is_denied = waiting.pop()
-                row = self.positions.rows[here]
-                if isinstance(row, Leaf):
-                    found.literals.append(Leaf(row.start, row.end, row.wanted is not is_denied))
-                elif row.is_disjunction is not is_denied:
-                    found.disjunctions.append((here, is_denied))
-                else:
-                    waiting += [(row.right, is_denied), (row.left, is_denied)]
+            found = list(self.positions.asserted(place))
+            literals = [part for part in found if isinstance(part, Leaf)]
+            self.known[place] = Parts(literals, [part for part in found if not isinstance(part, Leaf)])
         return self.known[place]
 
     def of(self, choice: Signed) -> list[Signed]:
@@ -80,7 +71,7 @@ class Alternatives:
         """Whether the alternative would close the branch: by its literals, or by a disjunction of closed alternatives."""
         parts = self.parts(place)
         return self.is_closed_beside(world, place, parts.literals) or any(
-            all(self.is_closed_beside(world, inner, parts.literals) for inner in self.of(choice)) for choice in parts.disjunctions
+            all(self.is_closed_beside(world, inner, parts.literals) for inner in self.of(choice)) for choice in parts.choices
         )
 
     def forced(self, world: World, choices: list[Signed]) -> Signed | None:
