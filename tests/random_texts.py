@@ -19,22 +19,14 @@ SORTS = {"op": "microop", "core": "core"}
 OP, CORE, TYPE, KIND = "op", "core", "type", "kind"
 TYPES = ("Full", "Light", "Walk", "VA")
 KINDS = ("addr", "data", "ctrl")
+OF_ONE = ("IsAnyRead", "IsAnyWrite", "IsAnyFence")
+OF_TWO = """SameCore SameThread SameMicroop SameInstruction SameIntra ProgramOrder SameVirtualAddress SamePhysicalAddress
+    SameVirtualTag SamePhysicalTag SameIndex SameData EntryOf MapsTagOf"""
 PREDICATES = {
-    "IsAnyRead": [OP],
-    "IsAnyWrite": [OP],
-    "IsAnyFence": [OP],
-    "AccessType": [TYPE, OP],
-    "OnCore": [CORE, OP],
-    "DataFromInitialStateAtPA": [OP],
-    "DataFromFinalStateAtPA": [OP],
-    "HasDependency": [KIND, OP, OP],
-    "MarkedAccessed": [OP],
-    "MarkedDirty": [OP],
-} | dict.fromkeys(
-    """SameCore SameThread SameMicroop SameInstruction SameIntra ProgramOrder SameVirtualAddress SamePhysicalAddress
-    SameVirtualTag SamePhysicalTag SameIndex SameData EntryOf MapsTagOf""".split(),
-    [OP, OP],
-)
+    **dict.fromkeys(OF_ONE, [OP]), "AccessType": [TYPE, OP], "OnCore": [CORE, OP],
+    **dict.fromkeys(("DataFromInitialStateAtPA", "DataFromFinalStateAtPA"), [OP]), "HasDependency": [KIND, OP, OP],
+    **dict.fromkeys(("MarkedAccessed", "MarkedDirty"), [OP]), **dict.fromkeys(OF_TWO.split(), [OP, OP]),
+}
 NUMBERS = (
     "0", "1", "2", "00", "63", "64", "65", "0" * 5_000 + "7", "18446744073709551615", "18446744073709551616", "9" * 5_000
 )

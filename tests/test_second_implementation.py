@@ -534,7 +534,7 @@ def is_forced(disjunction: str) -> bool:
     model = f'{stages}Axiom "f": forall microops "i", EdgeExists ((i, S), (i, T)) /\\ ({written}).\n'
     branch = Branch(Positions(read_model(model.encode("ascii")), read_case(bytes_of(ONE))), 1)
     branch.assert_side([(0, False)], 0)
-    return branch.alternatives.forced(branch, [(2, False)]) == (2, False)
+    return branch.alternatives.forced(branch.order, [(2, False)]) == (2, False)
 
 
 # runs the program with a search that does not agree with the other one

@@ -11,7 +11,8 @@ one way:
     test     cases.py       what a litmus test says
              meaning.py     what the parts of axioms stand for in it
     ground   grounding.py   the axioms over one test as a tree of literals over nodes
-    verdict  searching.py   some world makes the tree true, or none does
+    verdict  orders.py      the nodes and the order that the literals of a branch generate
+             searching.py   some world makes the tree true, or none does
     text     positions.py   the tree with numbered positions
              answering.py   the program's own choices in the search, which give the certificate
              conflicts.py   what such a search learns of its failures

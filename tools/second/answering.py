@@ -26,6 +26,7 @@ from dataclasses import dataclass
 
 from tools.second.closing import Alternatives
 from tools.second.conflicts import Failures
+from tools.second.orders import Order
 from tools.second.positions import Clash, Inner, Leaf, Positions, Signed
 
 
@@ -62,7 +63,7 @@ def answer(positions: Positions, version: int = 1) -> Graph | list[Step]:
             continue
         chosen = branch.choice(failures)
         if chosen is None:
-            return Graph([k for k in range(len(positions.nodes)) if branch.present >> k & 1], branch.edges)
+            return Graph([k for k in range(len(positions.nodes)) if branch.order.present >> k & 1], branch.edges)
         steps.append(chosen)
         failures.split(chosen, branch.pending.pop(chosen))
         left, right = positions.sides(chosen, version)
@@ -71,26 +72,20 @@ def answer(positions: Positions, version: int = 1) -> Graph | list[Step]:
 
 
 class Branch:
-    """What is asserted on a branch, at which levels, and the order that it generates; sets of nodes are bit sets."""
+    """What is asserted on a branch: literals, with the order that they generate, and choices; and at which levels."""
 
     def __init__(self, positions: Positions, version: int) -> None:
         self.positions = positions
         self.version = version
         self.alternatives = Alternatives(positions)
-        self.after = [0] * len(positions.nodes)
-        self.before = [0] * len(positions.nodes)
-        self.present = 0
-        self.absent = 0
-        self.denied: list[tuple[int, int]] = []
+        self.order = Order(len(positions.nodes))
         # the levels at which literals were asserted first, and at which the choices were that are not split yet
         self.levels: dict[Leaf, int] = {}
         self.pending: dict[Signed, int] = {}
 
     def copy(self) -> "Branch":
-        """A branch that begins with all of this one."""
         other = copy(self)
-        other.after, other.before = self.after[:], self.before[:]
-        other.denied, other.levels, other.pending = self.denied[:], dict(self.levels), dict(self.pending)
+        other.order, other.levels, other.pending = self.order.copy(), dict(self.levels), dict(self.pending)
         return other
 
     @property
@@ -104,62 +99,18 @@ class Branch:
             if not isinstance(part, Leaf):
                 self.pending[part] = level
                 continue
-            found = self.ends_of_clash(part)
+            found = self.order.ends_of_clash(part)
             if found is not None:
                 word, ends = found
                 return Clash(word, [node for start, end in ends for node in self.chain(start, end)])
-            self.assert_literal(part, level)
+            self.order.add(part)
+            for fact in (part, *part.implied):
+                self.levels.setdefault(fact, level)
         return None
-
-    def assert_literal(self, leaf: Leaf, level: int) -> None:
-        """Asserts a literal that does not clash."""
-        for fact in (leaf, *leaf.implied):
-            self.levels.setdefault(fact, level)
-        if leaf.end is None and not leaf.wanted:
-            self.absent |= 1 << leaf.start
-        elif leaf.end is None:
-            self.present |= 1 << leaf.start
-        elif leaf.wanted:
-            self.join(leaf.start, leaf.end)
-        else:
-            self.denied.append((leaf.start, leaf.end))
-
-    def ends_of_clash(self, leaf: Leaf) -> tuple[str, list[tuple[int, int]]] | None:
-        """The first clash of a literal: its word, and the ends of the chains that it names. None where there is none."""
-        start, end = leaf.start, leaf.end
-        if end is None:
-            against = self.absent if leaf.wanted else self.present
-            return ("absent", [(start, start)]) if against >> start & 1 else None
-        if not leaf.wanted:
-            return ("path", [(start, end)]) if self.after[start] >> end & 1 else None
-        for node in (start, end):
-            if self.absent >> node & 1:
-                return "absent", [(node, node)]
-        if self.comes_to(end, start):
-            return "cycle", [(end, start)]
-        earlier, later = self.before[start] | 1 << start, self.after[end] | 1 << end
-        for first, last in self.denied:
-            if earlier >> first & 1 and later >> last & 1:
-                return "path", [(first, start), (end, last)]
-        return None
-
-    def would_clash(self, leaf: Leaf) -> bool:
-        """Whether a literal would close the branch."""
-        return self.ends_of_clash(leaf) is not None
 
     def levels_of(self, clash: Clash) -> set[int]:
         """The levels of the literals that clash, but for that of the one that was not asserted."""
         return {self.levels[literal] for literal in clash.literals if literal in self.levels}
-
-    def join(self, start: int, end: int) -> None:
-        """Puts the end, and all after it, after the start and all before it."""
-        self.present |= 1 << start | 1 << end
-        earlier, later = self.before[start] | 1 << start, self.after[end] | 1 << end
-        for node in range(len(self.after)):
-            if earlier >> node & 1:
-                self.after[node] |= later
-            if later >> node & 1:
-                self.before[node] |= earlier
 
     def chain(self, start: int, end: int) -> list[int]:
         """The shortest chain of edges that rule 2 takes; one node where both ends are one."""
@@ -184,18 +135,12 @@ class Branch:
             if self.is_true(row.left) is row.is_disjunction:
                 return row.is_disjunction
             row = self.positions.rows[row.right]
-        if row.end is None:
-            return bool(self.present >> row.start & 1) is row.wanted
-        return bool(self.after[row.start] >> row.end & 1) is row.wanted
-
-    def comes_to(self, start: int, end: int) -> bool:
-        """Whether both nodes are one, or a chain leads from the first to the second."""
-        return start == end or bool(self.after[start] >> end & 1)
+        return self.order.is_true(row)
 
     def is_closed(self, side: list[Signed], has_failed: bool) -> bool:
         """Whether a side is closed at once."""
         if has_failed:
-            return any(self.alternatives.is_closed(self, place) for place in side)
+            return any(self.alternatives.is_closed(self.order, place) for place in side)
         return self.copy().assert_side(side, 0) is not None
 
     def is_candidate(self, choice: Signed) -> bool:
@@ -220,7 +165,8 @@ class Branch:
 
     def choice_by_failures(self, candidates: list[Signed], failures: Failures) -> Signed:
         """Which of the candidates is split, none of which has a closed side, where something has failed."""
-        forced = self.alternatives.forced(self, candidates)
+        forced = self.alternatives.forced(self.order, candidates)
         if forced is not None:
             return forced
-        return min(failures.newest(candidates), key=lambda it: (self.alternatives.open_count(self, it), -failures.number(it)))
+        newest = failures.newest(candidates)
+        return min(newest, key=lambda it: (self.alternatives.open_count(self.order, it), -failures.number(it)))

@@ -202,8 +202,6 @@ class ValueItem:
 
 @dataclass(frozen=True)
 class ExpectationItem:
-    """`Permitted` or `Forbidden`."""
-
     word: str
     at: int
 

@@ -60,7 +60,6 @@ class Clauses:
 
 
 def dimacs(tree: Tree) -> str:
-    """The text of the question."""
     clauses = Clauses(nodes_of(tree))
     clauses.clauses.append([clauses.literal_of(tree)])
     head = f"c satisfiable exactly where the outcome is observable\np cnf {clauses.variables} {len(clauses.clauses)}\n"

@@ -43,7 +43,6 @@ class Evaluator(Meaning):
         self.world = world
 
     def holds(self, formula: Formula, env: Environment) -> bool:
-        """Whether the formula is true."""
         match formula:
             case Not(operand):
                 return not self.holds(operand, env)

@@ -78,15 +78,12 @@ def nested(conjunction: bool, members: list[Tree]) -> Tree:
 
 
 class Grounder(Meaning):
-    """Grounds formulas of one model over one case."""
-
     def __init__(self, model: Model, case: Case, join: Join) -> None:
         super().__init__(model, case)
         self.join = join
         self.guards = Guards()
 
     def axioms(self) -> Tree:
-        """The tree of all axioms."""
         return self.join(True, [self.tree(axiom.body, {}, True) for axiom in self.model.axioms])
 
     def tree(self, formula: Formula, env: Environment, wanted: bool) -> Tree:

@@ -76,8 +76,6 @@ def judge_body(whole: list[str], rest: str, header: int, accepts: Callable[[str]
 
 
 class GraphJudge:
-    """Judges the lines of a graph."""
-
     def __init__(self, model: Model, case: Case) -> None:
         self.model = model
         self.case = case

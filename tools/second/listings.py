@@ -103,7 +103,6 @@ class ListingReader(Reader):
     """Reads what stands after the header. No word is reserved: its place says what it is."""
 
     def listing(self) -> Listing:
-        """The whole of it."""
         inits = self.within("{", "}", self.of_location)
         head, _ = self.cells(lambda: self.expect_kind("name"))
         rows = []
@@ -150,7 +149,6 @@ class ListingReader(Reader):
         return found
 
     def equation(self) -> Equation:
-        """One equation."""
         if self.next.kind != "number":
             return self.of_location()
         thread = self.take()
@@ -160,13 +158,11 @@ class ListingReader(Reader):
         return Equation(name, self.expect_kind("number"), thread)
 
     def of_location(self) -> Equation:
-        """An equation of a location."""
         name = self.in_brackets() if self.sees("[") else self.expect_kind("name")
         self.expect("=")
         return Equation(name, self.expect_kind("number"))
 
     def in_brackets(self) -> Token:
-        """A name in brackets."""
         self.expect("[")
         name = self.expect_kind("name")
         self.expect("]")
@@ -220,7 +216,6 @@ class Judge:
         known[location] = equation
 
     def judge_head(self) -> None:
-        """The names of the columns."""
         for number, name in enumerate(self.listing.head):
             if number > GREATEST_CORE:
                 raise Fault("core-number", name.at)
@@ -274,7 +269,6 @@ class Judge:
         return found
 
     def op(self, g: int, column: int, one: Instruction) -> OpItem:
-        """A micro-op."""
         at = one.word.at
         if one.location is None:
             fence = Op(g, 0, column, column, "Fence", frozenset({one.word.piece}))

@@ -107,7 +107,6 @@ def certificate(model: Model, case: Case, version: int) -> str:
 
 
 def step_line(step: Step, words: list[str]) -> str:
-    """The line of a split or of a clash."""
     if isinstance(step, Clash):
         return " ".join([step.word, *(words[k] for k in step.nodes)])
     position, is_denied = step
@@ -115,7 +114,6 @@ def step_line(step: Step, words: list[str]) -> str:
 
 
 def check(model: Model, case: Case, version: int = 1) -> Answer:
-    """The certificate and the exit status."""
     verdict = is_observable(model, case)
     text = certificate(model, case, version)
     if judge(model, case, text.encode("ascii")) is not verdict:

@@ -154,7 +154,6 @@ class ModelReader(Reader):
         self.open = 0
 
     def model(self) -> Model:
-        """The whole file."""
         stages: list[Stage] = []
         items: list[Union[Axiom, Macro]] = []
         while self.next.kind != "end":
@@ -204,7 +203,6 @@ class ModelReader(Reader):
         return self.sees_kind("name") and self.next.piece not in RESERVED
 
     def name(self) -> Word:
-        """A name that is not reserved."""
         if not self.is_name():
             raise self.refuse()
         token = self.take()
@@ -245,7 +243,6 @@ class ModelReader(Reader):
         return self.quantified() if self.sees("forall", "exists") else self.atom()
 
     def quantified(self) -> Formula:
-        """A quantifier with its body."""
         first = self.opener()
         over = self.expect("microop", "microops", "core", "cores").piece
         name = self.quoted_name().name
@@ -281,7 +278,6 @@ class ModelReader(Reader):
         return tuple(found)
 
     def arg(self) -> Arg:
-        """A name or a number."""
         if self.sees_kind("number"):
             token = self.take()
             return Number(token.value, token.at)

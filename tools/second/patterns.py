@@ -68,7 +68,6 @@ def value_text(value: Value) -> str:
 
 
 def sweep_text(rows: list[tuple[tuple[Value, ...], bool]]) -> str:
-    """The text of a sweep."""
     verdicts = {True: "observable", False: "unobservable"}
     lines = [f"sweep {len(rows)}"]
     lines += [" ".join(["row", *map(value_text, row), verdicts[is_seen]]) for row, is_seen in rows]

@@ -74,7 +74,6 @@ class NodeNames:
         self.numbers = {name: number for number, name in self.stages.items()}
 
     def write(self, node: Node) -> str:
-        """The text of a node."""
         op, core, stage = node
         return f"{self.case.ops[op].g}.{self.case.ops[op].n}@{core}:{self.stages[stage]}"
 

@@ -1,13 +1,12 @@
 """Whether some world makes a tree true: a search over the choices that the tree leaves.
 
-Sets of nodes are bit sets in Python's integers. A branch has the literals that were asserted on it. They generate a
-least world: the nodes that were named, and what a chain of asserted edges joins. A branch clashes where that order
-is not irreflexive, or where a denied node or edge is in the world. A disjunction is open where the least world does
-not make it true. Members that clash by themselves are struck out. A last member left is asserted; with none left the
-branch is closed. Where nothing is open, the least world is the witness.
+A branch has the literals that were asserted on it, which generate a least world. It clashes where that world has a node
+before itself, or a denied node or edge. A disjunction is open where the least world does not make it true. Members that
+clash by themselves are struck out. A last member left is asserted; with none left the branch is closed. Where nothing is
+open, the least world is the witness.
 """
 from copy import copy
-from dataclasses import dataclass
+from dataclasses import dataclass, replace
 from typing import Callable
 
 from tools.second.cases import Case
@@ -15,6 +14,8 @@ from tools.second.evaluating import false_axioms
 from tools.second.grounding import Conjunction, Disjunction, Literal, Tree, ground, nodes_of
 from tools.second.meaning import Node
 from tools.second.models import Model
+from tools.second.orders import Order
+from tools.second.positions import Leaf
 
 Edge = tuple[Node, Node]
 
@@ -39,7 +40,9 @@ def search(tree: Tree) -> Witness | None:
     """A world that makes the tree true, or None where there is none."""
     branch = Branch(nodes_of(tree))
     done = explore(branch) if branch.assert_tree(tree) else None
-    return None if done is None else Witness([node for k, node in enumerate(done.nodes) if done.present >> k & 1], list(done.edges))
+    if done is None:
+        return None
+    return Witness([node for node, k in done.number.items() if done.order.present >> k & 1], list(done.edges))
 
 
 def explore(branch: "Branch") -> "Branch | None":
@@ -58,103 +61,62 @@ def explore(branch: "Branch") -> "Branch | None":
         if done is not None:
             return done
         # a world that is still to be found does not make this member true
-        if isinstance(member, Literal) and not branch.assert_literal(Literal(member.start, member.end, not member.wanted)):
+        if isinstance(member, Literal) and not branch.assert_tree(replace(member, wanted=not member.wanted)):
             return None
     return None
 
 
 class Branch:
-    """The literals asserted so far, the order that they generate, and the disjunctions asserted."""
+    """What is asserted: literals, with the order that they generate and the edges among them, and disjunctions."""
 
     def __init__(self, nodes: list[Node]) -> None:
-        self.nodes = nodes
         self.number = {node: k for k, node in enumerate(nodes)}
-        # the nodes that are after, and before, each node
-        self.after = [0] * len(nodes)
-        self.before = [0] * len(nodes)
-        self.present = 0
-        self.absent = 0
-        self.denied: list[tuple[int, int]] = []
+        self.order = Order(len(nodes))
         self.edges: dict[Edge, None] = {}
         self.disjunctions: list[Disjunction] = []
 
     def copy(self) -> "Branch":
-        """A branch that begins with all of this one."""
         other = copy(self)
-        other.after, other.before = self.after[:], self.before[:]
-        other.denied, other.edges = self.denied[:], dict(self.edges)
-        other.disjunctions = self.disjunctions[:]
+        other.order, other.edges, other.disjunctions = self.order.copy(), dict(self.edges), self.disjunctions[:]
         return other
 
+    def leaf(self, literal: Literal) -> Leaf:
+        """A literal over the numbers of nodes."""
+        return Leaf(self.number[literal.start], None if literal.end is None else self.number[literal.end], literal.wanted)
+
     def assert_tree(self, tree: Tree) -> bool:
-        """Asserts a tree; False where the branch clashes."""
+        """Asserts a tree; False where the branch clashes, and is then of no further use."""
+        if isinstance(tree, bool):
+            return tree
+        if isinstance(tree, Conjunction):
+            return all(self.assert_tree(member) for member in tree.members)
+        if isinstance(tree, Disjunction):
+            self.disjunctions.append(tree)
+            return True
+        leaf = self.leaf(tree)
+        if self.order.would_clash(leaf):
+            return False
+        self.order.add(leaf)
+        if tree.wanted and tree.end is not None:
+            self.edges.setdefault((tree.start, tree.end))
+        return True
+
+    def holds(self, tree: Tree, is_true: Callable[[Leaf], bool]) -> bool:
+        """Whether a tree is true where these literals are."""
         if isinstance(tree, bool):
             return tree
         if isinstance(tree, Literal):
-            return self.assert_literal(tree)
-        if isinstance(tree, Conjunction):
-            return all(self.assert_tree(member) for member in tree.members)
-        self.disjunctions.append(tree)
-        return True
-
-    def assert_literal(self, literal: Literal) -> bool:
-        """Asserts one literal; False where the branch clashes, and is then of no further use."""
-        if self.clashes(literal):
-            return False
-        start = self.number[literal.start]
-        if literal.end is None:
-            if literal.wanted:
-                self.present |= 1 << start
-            else:
-                self.absent |= 1 << start
-            return True
-        end = self.number[literal.end]
-        if literal.wanted:
-            self.edges.setdefault((literal.start, literal.end))
-            self.join(start, end)
-        else:
-            self.denied.append((start, end))
-        return True
-
-    def join(self, start: int, end: int) -> None:
-        """Puts the end, and all after it, after the start and all before it."""
-        self.present |= 1 << start | 1 << end
-        if self.after[start] >> end & 1:
-            return
-        earlier, later = self.before[start] | 1 << start, self.after[end] | 1 << end
-        for k in range(len(self.nodes)):
-            if earlier >> k & 1:
-                self.after[k] |= later
-            if later >> k & 1:
-                self.before[k] |= earlier
-
-    def clashes(self, literal: Literal) -> bool:
-        """Whether asserting this one literal closes the branch."""
-        start = self.number[literal.start]
-        if literal.end is None:
-            against = self.absent if literal.wanted else self.present
-            return bool(against >> start & 1)
-        end = self.number[literal.end]
-        if not literal.wanted:
-            return bool(self.after[start] >> end & 1)
-        if start == end or self.after[end] >> start & 1 or self.absent & (1 << start | 1 << end):
-            return True
-        earlier, later = self.before[start] | 1 << start, self.after[end] | 1 << end
-        return any(earlier >> first & 1 and later >> last & 1 for first, last in self.denied)
-
-    def is_true(self, literal: Literal) -> bool:
-        """Whether the least world makes a literal true."""
-        start = self.number[literal.start]
-        found = self.present >> start if literal.end is None else self.after[start] >> self.number[literal.end]
-        return bool(found & 1) is literal.wanted
+            return is_true(self.leaf(tree))
+        found = (self.holds(member, is_true) for member in tree.members)
+        return all(found) if isinstance(tree, Conjunction) else any(found)
 
     def members_left(self, disjunction: Disjunction) -> list[Tree]:
         """The members that are not struck out: those that do not close the branch by one literal alone."""
-        return [it for it in disjunction.members if is_made_true(it, lambda literal: not self.clashes(literal))]
+        return [it for it in disjunction.members if self.holds(it, lambda leaf: not self.order.would_clash(leaf))]
 
     def open_disjunctions(self) -> list[Disjunction]:
         """The disjunctions that the least world does not make true."""
-        return [it for it in self.disjunctions if not is_made_true(it, self.is_true)]
+        return [it for it in self.disjunctions if not self.holds(it, self.order.is_true)]
 
     def propagate(self) -> bool:
         """Asserts last members until there is none; False where the branch is closed."""
@@ -172,13 +134,3 @@ class Branch:
                         return False
                     forced = True
         return True
-
-
-def is_made_true(tree: Tree, is_true: Callable[[Literal], bool]) -> bool:
-    """Whether a tree is true where these literals are."""
-    if isinstance(tree, bool):
-        return tree
-    if isinstance(tree, Literal):
-        return is_true(tree)
-    found = (is_made_true(member, is_true) for member in tree.members)
-    return all(found) if isinstance(tree, Conjunction) else any(found)

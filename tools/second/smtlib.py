@@ -40,7 +40,6 @@ def term(tree: Tree) -> str:
 
 
 def smtlib(tree: Tree) -> str:
-    """The text of the question."""
     nodes = nodes_of(tree)
     pairs = list(permutations(nodes, 2))
     lines = ["; sat exactly where the outcome is observable", "(set-logic QF_UF)"]

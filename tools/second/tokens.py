@@ -85,7 +85,6 @@ class Reader:
 
     @property
     def next(self) -> Token:
-        """The token that comes next."""
         return self.all_tokens[self.next_index]
 
     def take(self) -> Token:
