@@ -8,39 +8,33 @@ from tools.second.meaning import Environment, Meaning, Node, holds
 from tools.second.models import Binary, Edges, Expand, Formula, Model, Nodes, Not, Quantified, Static
 
 
-class World:
-    """Nodes, with the order that chains of edges generate."""
-
-    def __init__(self, nodes: list[Node], edges: list[tuple[Node, Node]]) -> None:
-        # of each node those that a chain of edges leads to (Warshall's algorithm)
-        self.later: dict[Node, set[Node]] = {node: set() for node in nodes}
-        for start, end in edges:
-            self.later[start].add(end)
-        for middle in nodes:
-            for reached in self.later.values():
-                if middle in reached:
-                    reached |= self.later[middle]
-
-    def is_order(self) -> bool:
-        """Whether no node is before itself."""
-        return all(node not in reached for node, reached in self.later.items())
+def later_nodes(nodes: list[Node], edges: list[tuple[Node, Node]]) -> dict[Node, set[Node]]:
+    """Of each node those that a chain of edges leads to (Warshall's algorithm)."""
+    later: dict[Node, set[Node]] = {node: set() for node in nodes}
+    for start, end in edges:
+        later[start].add(end)
+    for middle in nodes:
+        for reached in later.values():
+            if middle in reached:
+                reached |= later[middle]
+    return later
 
 
 def false_axioms(model: Model, case: Case, nodes: list[Node], edges: list[tuple[Node, Node]]) -> list[str]:
     """What is wrong with a witness: the titles of the axioms that are false in its world."""
-    world = World(nodes, edges)
-    if not world.is_order():
+    later = later_nodes(nodes, edges)
+    if any(node in reached for node, reached in later.items()):
         return ["the edges are no order of the nodes"]
-    evaluator = Evaluator(model, case, world)
+    evaluator = Evaluator(model, case, later)
     return [axiom.title for axiom in model.axioms if not evaluator.holds(axiom.body, {})]
 
 
 class Evaluator(Meaning):
-    """Truth of written formulas."""
+    """Truth of written formulas in a world, of each of whose nodes the later ones are known."""
 
-    def __init__(self, model: Model, case: Case, world: World) -> None:
+    def __init__(self, model: Model, case: Case, later: dict[Node, set[Node]]) -> None:
         super().__init__(model, case)
-        self.world = world
+        self.later = later
 
     def holds(self, formula: Formula, env: Environment) -> bool:
         match formula:
@@ -58,8 +52,8 @@ class Evaluator(Meaning):
             case Expand():
                 return self.holds(*self.body_of(formula, env))
             case Nodes(members):
-                return all(self.node(term, env) in self.world.later for term in members)
+                return all(self.node(term, env) in self.later for term in members)
             case Edges(members):
-                return all(self.node(it.end, env) in self.world.later.get(self.node(it.start, env), ()) for it in members)
+                return all(self.node(it.end, env) in self.later.get(self.node(it.start, env), ()) for it in members)
             case Static():
                 return holds(self.case, formula, env)
