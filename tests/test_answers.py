@@ -155,8 +155,7 @@ class Answers(Cases):
                 done = run([program(), word, model, test, self.file("certificate", text[:length])])
                 if (done.status, done.out, done.err) != (6, refused(text[:length].count("\n") + 1), ""):
                     accepted.append(length)
-            with self.case(name):
-                self.assertEqual(accepted, [])
+            self.same(name, accepted, [])
 
 
 class Words(Answers):
@@ -468,8 +467,7 @@ Axiom "d": ~(exists microop "i", NodesExist [(i, S)]) /\\ True.
         text = run([program(), "check", model, test]).out if text is None else text
         lifted = run([program(), "lift", model, test, self.file("certificate", text)])
         found = run([program(), "verify-lifted", model, test, self.file("lifted", lifted.out)])
-        with self.case(name):
-            self.assertEqual((lifted.status, lifted.err, found.status, found.out, found.err), (0, "", 1, UNOBSERVABLE, ""))
+        self.same(name, (lifted.status, lifted.err, found.status, found.out, found.err), (0, "", 1, UNOBSERVABLE, ""))
 
     def test_lifted_ones_are_accepted(self) -> None:
         either = self.file("either.uspec", EITHER)
@@ -568,8 +566,7 @@ class Questions(Answers):
             query, name, litmus, word = line.split("\t")
             files = (f"examples/models/{name}.uspec", f"examples/tests/{litmus}.test", f"examples/queries/{query}.query")
             text = second("ask", *files)
-            with self.case(f"ask: {query} of {litmus} on {name} is {word}"):
-                self.assertIn(f"ask {word}", text.splitlines())
+            self.same(f"ask: {query} of {litmus} on {name} is {word}", f"ask {word}" in text.splitlines())
             self.shows(f"ask: {query} of {litmus} on {name}", 0, text, "ask", *files)
 
     def walk(self, word: str, entry: str) -> str:
@@ -747,10 +744,8 @@ class Listings(Answers):
             self.assertEqual([text[0], *text[4097:]], ["sweep 4096", "observable 4096", "unobservable 0", "end"])
             self.assertEqual(rows[0], "row 0 0 0 0 0 0 0 0 0 0 0 0 observable")
             self.assertEqual(rows[-1], "row 1 1 1 1 1 1 1 1 1 1 1 1 observable")
-        with self.case("... each once"):
-            self.assertEqual(len(set(rows)), 4096)
-        with self.case("... and in order"):
-            self.assertEqual(rows, sorted(rows))
+        self.same("... each once", len(set(rows)), 4096)
+        self.same("... and in order", rows, sorted(rows))
         words = self.opens(stored(0, 1), *reads)
         self.says("one open read too many", 3, "refused test too-many-rows at 15:48\n", f"""\
 {words[2]}:15:48: too-many-rows: of a pattern: with this open read there are more than 4,096 rows
