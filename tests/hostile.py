@@ -41,13 +41,13 @@ from tools.second.cases import Case, read_case
 from tools.second.evaluating import false_axioms
 from tools.second.grounding import ground
 from tools.second.judging import Refused as CertificateRefused
-from tools.second.judging import judge
+from tools.second.judging import judge, second_line
 from tools.second.lifted import LiftedJudge, judge_lifted
 from tools.second.models import Model
 from tools.second.patterns import read_pattern, sweep, sweep_text
 from tools.second.scopes import read_model
 from tools.second.searching import search
-from tools.second.main import LIMIT, Refused, ask, core, judged, judged_three, second_line, second_lines
+from tools.second.main import LIMIT, Refused, ask, core, judged, judged_three
 from tools.standing import tested
 
 TESTED = tested(TOP)
@@ -165,7 +165,7 @@ def judgement(read: Read, text: bytes, takes_version_2: bool = True) -> Answer:
     refutation."""
     assert read.model is not None and read.case is not None
     try:
-        is_observable = judge(read.model, read.case, second_lines(read.case), text, takes_version_2)
+        is_observable = judge(read.model, read.case, text, takes_version_2)
     except CertificateRefused as refused:
         return 6, f"{refused}\n".encode()
     return (0, b"verified observable\n") if is_observable else (1, UNOBSERVABLE)
@@ -175,7 +175,7 @@ def lifted_judgement(read: Read, text: bytes) -> Answer:
     """What `verify-lifted` has to answer to this text."""
     assert read.model is not None and read.case is not None
     try:
-        judge_lifted(read.model, read.case, second_line(False, read.case), text)
+        judge_lifted(read.model, read.case, text)
     except CertificateRefused as refused:
         return 6, f"{refused}\n".encode()
     if read.is_observable:
@@ -261,7 +261,7 @@ class Runs:
         """Texts that begin as a lifted refutation does, and changes of them, against the second implementation."""
         assert read.model is not None and read.case is not None
         judge_of = LiftedJudge(read.model, read.case)
-        text = within(SECONDS_OF_A_READING, random_texts.lifted_text, self.random, judge_of, second_line(False, read.case))
+        text = within(SECONDS_OF_A_READING, random_texts.lifted_text, self.random, judge_of)
         for _ in range(3):
             self.write("certificate", text)
             answer = within(SECONDS_OF_A_READING, lifted_judgement, read, text)

@@ -11,6 +11,7 @@ from random import Random
 from typing import Iterator
 
 from tools.second.cases import Case
+from tools.second.judging import second_line
 from tools.second.lifted import LiftedJudge
 
 SORTS = {"op": "microop", "core": "core"}
@@ -18,22 +19,14 @@ SORTS = {"op": "microop", "core": "core"}
 OP, CORE, TYPE, KIND = "op", "core", "type", "kind"
 TYPES = ("Full", "Light", "Walk", "VA")
 KINDS = ("addr", "data", "ctrl")
+OF_ONE = ("IsAnyRead", "IsAnyWrite", "IsAnyFence")
+OF_TWO = """SameCore SameThread SameMicroop SameInstruction SameIntra ProgramOrder SameVirtualAddress SamePhysicalAddress
+    SameVirtualTag SamePhysicalTag SameIndex SameData EntryOf MapsTagOf"""
 PREDICATES = {
-    "IsAnyRead": [OP],
-    "IsAnyWrite": [OP],
-    "IsAnyFence": [OP],
-    "AccessType": [TYPE, OP],
-    "OnCore": [CORE, OP],
-    "DataFromInitialStateAtPA": [OP],
-    "DataFromFinalStateAtPA": [OP],
-    "HasDependency": [KIND, OP, OP],
-    "MarkedAccessed": [OP],
-    "MarkedDirty": [OP],
-} | dict.fromkeys(
-    """SameCore SameThread SameMicroop SameInstruction SameIntra ProgramOrder SameVirtualAddress SamePhysicalAddress
-    SameVirtualTag SamePhysicalTag SameIndex SameData EntryOf MapsTagOf""".split(),
-    [OP, OP],
-)
+    **dict.fromkeys(OF_ONE, [OP]), "AccessType": [TYPE, OP], "OnCore": [CORE, OP],
+    **dict.fromkeys(("DataFromInitialStateAtPA", "DataFromFinalStateAtPA"), [OP]), "HasDependency": [KIND, OP, OP],
+    **dict.fromkeys(("MarkedAccessed", "MarkedDirty"), [OP]), **dict.fromkeys(OF_TWO.split(), [OP, OP]),
+}
 NUMBERS = (
     "0", "1", "2", "00", "63", "64", "65", "0" * 5_000 + "7", "18446744073709551615", "18446744073709551616", "9" * 5_000
 )
@@ -299,10 +292,10 @@ def changed_certificate(random: Random, text: bytes) -> bytes:
     return b"\n".join(lines)
 
 
-def lifted_text(random: Random, judge: LiftedJudge, second: str) -> bytes:
+def lifted_text(random: Random, judge: LiftedJudge) -> bytes:
     """Lines that the judge takes one after another, as of a lifted refutation: closing ones where one is found, else ones
     that add or split. It may be whole, break off, or go on with a line that is not taken."""
-    lines = ["unobservable", second, "lifted"]
+    lines = ["unobservable", second_line(False, judge.case), "lifted"]
     count = random.choice((3, 10, 40))
     while judge.open and len(lines) < count:
         taken = next(filter(judge.accepts, lifted_lines(random, len(judge.open[-1]), judge.case)), None)

@@ -43,6 +43,7 @@ edge 1.0@0:Exec 2.0@1:Mem
 edge 3.0@1:Exec 0.0@0:Mem
 end
 """
+IN_MEMORY = "cycle 0.0@0:Mem 1.0@0:Mem 2.0@1:Mem 3.0@1:Mem\nend\n"
 # 64 MiB are the limit of a certificate, 1 MiB that of another file
 MOST = 67_108_864
 MOST_OF_A_FILE = 1_048_576
@@ -154,39 +155,30 @@ class Answers(Cases):
                 done = run([program(), word, model, test, self.file("certificate", text[:length])])
                 if (done.status, done.out, done.err) != (6, refused(text[:length].count("\n") + 1), ""):
                     accepted.append(length)
-            with self.case(name):
-                self.assertEqual(accepted, [])
+            self.same(name, accepted, [])
 
 
 class Words(Answers):
     """Words that are no command, the forms of those that are, files that cannot be read, and verdicts of small models."""
 
     def test_words_that_are_no_command(self) -> None:
-        three, four = (REVERSE, FORBIDDEN), (REVERSE, FORBIDDEN, LIFTED_TWO, "x")
         for name, words in (
             ("no words", ()),
             ("one word too few", ("check", PO)),
             ("one word too many", ("check", PO, TWO, TWO)),
             ("an empty word", ("",)),
             ("a verify of too few words", ("verify", PO, TWO)),
-            ("check2 of too few words", ("check2", PO)),
-            ("check2 of too many words", ("check2", PO, TWO, TWO)),
             ("check3 is no command", ("check3", PO, TWO)),
-            ("verify-lifted of too few words", ("verify-lifted", *three)),
-            ("verify-lifted of too many words", ("verify-lifted", *four)),
-            ("lift of too few words", ("lift", *three)),
-            ("lift of too many words", ("lift", *four)),
-            ("core of too few words", ("core", PO)),
-            ("core of too many words", ("core", PO, TWO, TWO)),
-            ("ask of too few words", ("ask", PO, TWO)),
-            ("ask of too many words", ("ask", PO, TWO, TWO, TWO)),
-            ("check86 of too few words", ("check86", PO)),
-            ("check86 of too many words", ("check86", PO, TWO, TWO)),
-            ("verify86 of too few words", ("verify86", PO, TWO)),
-            ("verify86 of too many words", ("verify86", PO, TWO, TWO, TWO)),
+            ("verify-lifted of too many words", ("verify-lifted", REVERSE, FORBIDDEN, LIFTED_TWO, "x")),
+            ("lift of too many words", ("lift", REVERSE, FORBIDDEN, LIFTED_TWO, "x")),
             ("a sweep of too few words", ("sweep", PO)),
             ("a sweep of too many words", ("sweep", PO, TWO, TWO)),
             ("a ring of one core", ("gen", "1")),
+            *((f"{word} of too few words", (word, PO)) for word in ("check2", "core", "check86")),
+            *((f"{word} of too many words", (word, PO, TWO, TWO)) for word in ("check2", "core", "check86")),
+            *((f"{word} of too few words", (word, PO, TWO)) for word in ("ask", "verify86")),
+            *((f"{word} of too many words", (word, PO, TWO, TWO, TWO)) for word in ("ask", "verify86")),
+            *((f"{word} of too few words", (word, REVERSE, FORBIDDEN)) for word in ("verify-lifted", "lift")),
         ):
             self.shows(name, 2, USAGE, *words)
 
@@ -208,8 +200,7 @@ pipecheck: these words are no command; how check is called stands above
         )
 
     def test_files_that_cannot_be_read(self) -> None:
-        none, folder = f"{self.work}/none", self.work
-        both = (REVERSE, FORBIDDEN)
+        none, folder, both = f"{self.work}/none", self.work, (REVERSE, FORBIDDEN)
         for name, words in (
             ("a missing model", ("check", none, TWO)),
             ("a missing test", ("check", PO, none)),
@@ -261,56 +252,36 @@ pipecheck: these words are no command; how check is called stands above
         )
 
     def test_verdicts(self) -> None:
-        self.shows("two writes in program order are seen", 0, ORDERED, "check", PO, TWO)
-        self.shows("two writes in both orders are not", 1, CYCLIC, "check", REVERSE, FORBIDDEN)
-        self.says("nothing beside a verdict", 1, CYCLIC, "", "check", REVERSE, FORBIDDEN)
-        self.shows(
-            "message passing in order is not seen", 1,
-            f"{HEADER}cycle 0.0@0:Mem 1.0@0:Mem 2.0@1:Mem 3.0@1:Mem\nend\n", "check", IN_ORDER, MP,
-        )
-        self.shows(
-            "message passing through store buffers in order is not seen", 1,
-            f"{HEADER}cycle 0.0@0:Mem 1.0@0:Mem 2.0@1:Exec 3.0@1:Exec\nend\n", "check", BUFFER, MP,
-        )
-        self.shows(
-            "store buffering in order is not seen", 1,
-            f"{HEADER}cycle 0.0@0:Mem 1.0@0:Mem 2.0@1:Mem 3.0@1:Mem\nend\n", "check", IN_ORDER, SB,
-        )
-        self.shows(
-            "store buffering through store buffers is seen", 0, f"observable\ntest forbidden: BUG\n{BUFFERED}", "check", BUFFER, SB
-        )
+        either, absent = self.file("either.uspec", EITHER), self.file("absent.uspec", ABSENT)
         stricter = "unobservable\ntest permitted: stricter\n"
-        self.shows(
-            "a split, and a path that is denied on each side", 1, HEADER + AGAIN + LAST,
-            "check", self.file("either.uspec", EITHER), FORBIDDEN,
-        )
-        self.shows(
-            "a node that is denied and asserted", 1, f"{stricter}absent 0.0@5:S\nend\n",
-            "check", self.file("absent.uspec", ABSENT), TWO,
-        )
-        self.shows(
-            "a model that nothing satisfies", 1, f"{stricter}false\nend\n", "check", self.file("never.uspec", NEVER), TWO
-        )
+        by_buffer = f"{HEADER}cycle 0.0@0:Mem 1.0@0:Mem 2.0@1:Exec 3.0@1:Exec\nend\n"
+        for name, status, out, model, test in (
+            ("two writes in program order are seen", 0, ORDERED, PO, TWO),
+            ("two writes in both orders are not", 1, CYCLIC, REVERSE, FORBIDDEN),
+            ("message passing in order is not seen", 1, HEADER + IN_MEMORY, IN_ORDER, MP),
+            ("message passing through store buffers in order is not seen", 1, by_buffer, BUFFER, MP),
+            ("store buffering in order is not seen", 1, HEADER + IN_MEMORY, IN_ORDER, SB),
+            ("store buffering through store buffers is seen", 0, f"observable\ntest forbidden: BUG\n{BUFFERED}", BUFFER, SB),
+            ("a split, and a path that is denied on each side", 1, HEADER + AGAIN + LAST, either, FORBIDDEN),
+            ("a node that is denied and asserted", 1, f"{stricter}absent 0.0@5:S\nend\n", absent, TWO),
+            ("a model that nothing satisfies", 1, f"{stricter}false\nend\n", self.file("never.uspec", NEVER), TWO),
+        ):
+            self.shows(name, status, out, "check", model, test)
+        self.says("nothing beside a verdict", 1, CYCLIC, "", "check", REVERSE, FORBIDDEN)
 
     def test_a_pipeline_that_keeps_program_order(self) -> None:
         """It says nothing of values."""
-        two_by_two = (
-            "node 0.0@0:S\nnode 1.0@0:S\nnode 2.0@1:S\nnode 3.0@1:S\nedge 0.0@0:S 1.0@0:S\nedge 2.0@1:S 3.0@1:S\n"
-        )
-        for name, expectation, graph in (
+        two_by_two = "node 0.0@0:S\nnode 1.0@0:S\nnode 2.0@1:S\nnode 3.0@1:S\nedge 0.0@0:S 1.0@0:S\nedge 2.0@1:S 3.0@1:S\n"
+        readers = "node 2.0@2:S\nnode 3.0@2:S\nnode 4.0@3:S\nnode 5.0@3:S\nedge 2.0@2:S 3.0@2:S\nedge 4.0@3:S 5.0@3:S\n"
+        for test, expectation, graph in (
             ("mp", "forbidden: BUG", two_by_two),
             ("sb", "forbidden: BUG", two_by_two),
             ("lb", "permitted: ok", two_by_two),
-            (
-                "iriw", "unstated",
-                "node 2.0@2:S\nnode 3.0@2:S\nnode 4.0@3:S\nnode 5.0@3:S\nedge 2.0@2:S 3.0@2:S\nedge 4.0@3:S 5.0@3:S\n",
-            ),
+            ("iriw", "unstated", readers),
             ("corr", "forbidden: BUG", "node 1.0@1:S\nnode 2.0@1:S\nedge 1.0@1:S 2.0@1:S\n"),
         ):
-            self.shows(
-                f"{name} on a pipeline that keeps program order", 0, f"observable\ntest {expectation}\n{graph}end\n",
-                "check", PO, f"examples/{name}.test",
-            )
+            name, out = f"{test} on a pipeline that keeps program order", f"observable\ntest {expectation}\n{graph}end\n"
+            self.shows(name, 0, out, "check", PO, f"examples/{test}.test")
 
     def test_certificates(self) -> None:
         self.shows("its refutation is verified", 1, UNOBSERVABLE, "verify", IN_ORDER, MP, MP_CERTIFICATE)
@@ -358,50 +329,35 @@ pipecheck: these words are no command; how check is called stands above
   /\\ (~NodeExists (i, U) \\/ EdgeExists ((i, T), (i, S))).
 """)
         one = self.file("one.test", ONE)
-        signed = "unobservable\ntest unstated\nversion 2\nsplit 1\n"
-        self.shows(
-            "check2: a refutation of version 2", 1, f"{signed}absent 0.0@0:T\nabsent 0.0@0:U\nend\n", "check2", sign, one
-        )
-        self.shows("check2: a split with a sign", 1, f"""{signed}split 9
-absent 0.0@0:U
-path 0.0@0:U 0.0@0:S
-split ~2
-absent 0.0@0:S
-path 0.0@0:U 0.0@0:S
-end
-""", "check2", negative, one)
-        self.shows(
-            "check2: a split, and a path that is denied on each side", 1, f"{HEADER}version 2\n{AGAIN}{LAST}",
-            "check2", self.file("either.uspec", EITHER), FORBIDDEN,
-        )
-        self.shows(
-            "check2: a refutation without a split", 1, f"{HEADER}version 2\ncycle 0.0@0:S 1.0@0:S\nend\n", "check2", REVERSE,
-            FORBIDDEN
-        )
-        self.shows("check2: a graph has no version", 0, ORDERED, "check2", PO, TWO)
-        t, u = "absent 0.0@0:T", "absent 0.0@0:U"
-        for name, status, out, body in (
-            ("a split of a denied And", 1, UNOBSERVABLE, ("version 2", "split 1", t, "split ~2", u, u, "end")),
-            ("a sign in a text of version 1", 6, refused(5), ("split 1", t, "split ~2", u, u, "end")),
-            (
-                "a sign where the position is asserted without one", 6, refused(5),
-                ("version 2", "split 1", "split ~2", "split ~2", u, u, "end"),
-            ),
+        either, signed = self.file("either.uspec", EITHER), "unobservable\ntest unstated\nversion 2\nsplit 1\n"
+        denied = lines("split 9", "absent 0.0@0:U", "path 0.0@0:U 0.0@0:S", "split ~2", "absent 0.0@0:S", "path 0.0@0:U 0.0@0:S")
+        cyclic = f"{HEADER}version 2\ncycle 0.0@0:S 1.0@0:S\nend\n"
+        for name, status, out, model, test in (
+            ("a refutation of version 2", 1, f"{signed}absent 0.0@0:T\nabsent 0.0@0:U\nend\n", sign, one),
+            ("a split with a sign", 1, f"{signed}{denied}end\n", negative, one),
+            ("a split, and a path that is denied on each side", 1, f"{HEADER}version 2\n{AGAIN}{LAST}", either, FORBIDDEN),
+            ("a refutation without a split", 1, cyclic, REVERSE, FORBIDDEN),
+            ("a graph has no version", 0, ORDERED, PO, TWO),
         ):
-            self.judged(name, status, out, sign, one, lines("unobservable", "test unstated", *body))
+            self.shows(f"check2: {name}", status, out, "check2", model, test)
+        unstated, both = "unobservable\ntest unstated\n", "split ~2\nabsent 0.0@0:U\nabsent 0.0@0:U\nend\n"
+        for name, status, out, text in (
+            ("a split of a denied And", 1, UNOBSERVABLE, f"{signed}absent 0.0@0:T\n{both}"),
+            ("a sign in a text of version 1", 6, refused(5), f"{unstated}split 1\nabsent 0.0@0:T\n{both}"),
+            ("a sign where the position is asserted without one", 6, refused(5), f"{signed}split ~2\n{both}"),
+        ):
+            self.judged(name, status, out, sign, one, text)
 
 
 class Lifted(Answers):
     """Lifted refutations, which speak of the axioms themselves, and what makes them of refutations of version 1."""
 
     def test_examples(self) -> None:
+        by_macros = ("examples/models/sc-inorder.uspec", "examples/corr.test", "examples/lifted/corr.txt")
         for name, status, out, words in (
             ("verify-lifted: a cycle of two edges", 1, UNOBSERVABLE, (REVERSE, FORBIDDEN, LIFTED_TWO)),
             ("verify-lifted: message passing in order", 1, UNOBSERVABLE, (IN_ORDER, MP, LIFTED_MP)),
-            (
-                "verify-lifted: coherence of reads in order, by macros", 1, UNOBSERVABLE,
-                ("examples/models/sc-inorder.uspec", "examples/corr.test", "examples/lifted/corr.txt"),
-            ),
+            ("verify-lifted: coherence of reads in order, by macros", 1, UNOBSERVABLE, by_macros),
             ("verify-lifted of a test that states something else", 6, refused(2), (REVERSE, TWO, LIFTED_TWO)),
             ("verify-lifted of a graph", 6, refused(1), (BUFFER, SB, SB_CERTIFICATE)),
             ("verify-lifted of a refutation of the ground tree", 6, refused(3), (IN_ORDER, MP, MP_CERTIFICATE)),
@@ -449,8 +405,9 @@ class Lifted(Answers):
 Axiom "d": ~(exists microop "i", NodesExist [(i, S)]) /\\ True.
 """)
         asked = ("inst 0 0", "left 1", "not 3", "split 2", "member 5 0", "inst 4 0.0", "split 7")
-        rest = ("absent 8 6", "false 8", "split 5", "member 6 0", "inst 4 1.0", "split 8", "absent 9 7", "false 9", "false 6",
-            "end")
+        rest = (
+            "absent 8 6", "false 8", "split 5", "member 6 0", "inst 4 1.0", "split 8", "absent 9 7", "false 9", "false 6", "end",
+        )
         for name, status, out, body in (
             ("nodes that are asked for and denied", 1, UNOBSERVABLE, (*asked, *rest)),
             ("absent of a fact that is no denial", 6, refused(11), (*asked, "absent 6 8")),
@@ -460,11 +417,9 @@ Axiom "d": ~(exists microop "i", NodesExist [(i, S)]) /\\ True.
         ):
             text = lines("unobservable", "test permitted: stricter", "lifted", *body)
             self.judged(f"verify-lifted: {name}", status, out, nodes, TWO, text, "verify-lifted")
-        self.judged(
-            "verify-lifted: an exists over nothing", 1, UNOBSERVABLE, self.file("never.uspec", NEVER),
-            self.file("empty.test", 'Litmus "e".\n'), lines("unobservable", "test unstated", "lifted", "false 0", "end"),
-            "verify-lifted",
-        )
+        never, empty = self.file("never.uspec", NEVER), self.file("empty.test", 'Litmus "e".\n')
+        text = lines("unobservable", "test unstated", "lifted", "false 0", "end")
+        self.judged("verify-lifted: an exists over nothing", 1, UNOBSERVABLE, never, empty, text, "verify-lifted")
 
     def test_texts(self) -> None:
         whole = read(LIFTED_TWO)
@@ -482,12 +437,10 @@ Axiom "d": ~(exists microop "i", NodesExist [(i, S)]) /\\ True.
             self.two_writes(name, 6, refused(at), text)
         facts = "inst 0 0.0\n" * 50_000
         last = ("inst 1 0.0", "inst 50006 1.0", "split 50007", "false 50008", "member 50008 0", "cycle 50005 50009", "end")
-        self.two_writes(
-            "50,000 facts on one branch", 1, UNOBSERVABLE, "".join(by_line[:7]) + facts + lines("member 4 0", *last)
-        )
-        self.breaks_off(
-            "verify-lifted: each first part is refused where it breaks off", "verify-lifted", REVERSE, FORBIDDEN, whole
-        )
+        text = "".join(by_line[:7]) + facts + lines("member 4 0", *last)
+        self.two_writes("50,000 facts on one branch", 1, UNOBSERVABLE, text)
+        name = "verify-lifted: each first part is refused where it breaks off"
+        self.breaks_off(name, "verify-lifted", REVERSE, FORBIDDEN, whole)
 
     def test_what_is_lifted(self) -> None:
         lifted = read(LIFTED_TWO)
@@ -499,14 +452,12 @@ Axiom "d": ~(exists microop "i", NodesExist [(i, S)]) /\\ True.
         self.shows("lift of a spoilt refutation", 6, refused(3), "lift", IN_ORDER, MP, SPOILT)
         self.shows("lift of a lifted refutation", 6, refused(3), "lift", REVERSE, FORBIDDEN, LIFTED_TWO)
         either = self.file("either.uspec", EITHER)
-        self.judged(
-            "lift of a refutation of version 2", 6, refused(3), either, FORBIDDEN, f"{HEADER}version 2\n{AGAIN}{LAST}", "lift"
-        )
-        for name, line, text in (
-            ("lift of an empty text", 1, ""),
-            ("lift of a text whose first line is none", 1, "test forbidden: ok\nversion 2\n"),
+        for name, line, model, text in (
+            ("lift of a refutation of version 2", 3, either, f"{HEADER}version 2\n{AGAIN}{LAST}"),
+            ("lift of an empty text", 1, REVERSE, ""),
+            ("lift of a text whose first line is none", 1, REVERSE, "test forbidden: ok\nversion 2\n"),
         ):
-            self.judged(name, 6, refused(line), REVERSE, FORBIDDEN, text, "lift")
+            self.judged(name, 6, refused(line), model, FORBIDDEN, text, "lift")
 
     def lifts(self, name: str, model: str, test: str, text: str | None = None) -> None:
         """This refutation, or that of `check`, is lifted, and `verify-lifted` accepts what comes of it."""
@@ -516,8 +467,7 @@ Axiom "d": ~(exists microop "i", NodesExist [(i, S)]) /\\ True.
         text = run([program(), "check", model, test]).out if text is None else text
         lifted = run([program(), "lift", model, test, self.file("certificate", text)])
         found = run([program(), "verify-lifted", model, test, self.file("lifted", lifted.out)])
-        with self.case(name):
-            self.assertEqual((lifted.status, lifted.err, found.status, found.out, found.err), (0, "", 1, UNOBSERVABLE, ""))
+        self.same(name, (lifted.status, lifted.err, found.status, found.out, found.err), (0, "", 1, UNOBSERVABLE, ""))
 
     def test_lifted_ones_are_accepted(self) -> None:
         either = self.file("either.uspec", EITHER)
@@ -546,10 +496,8 @@ Axiom "d": ~(exists microop "i", NodesExist [(i, S)]) /\\ True.
         self.lifts("a list of 100,000 nodes", self.file("long.uspec", asserted), one)
         denied = f'{S}Axiom "all": forall microop "i", ~NodesExist {nodes}.\nAxiom "none": forall microop "i", NodeExists (i, S).\n'
         splits = "".join(f"split {k}\nabsent 0.0@0:S\n" for k in range(1, 199_999, 2))
-        self.lifts(
-            "a denied list of 100,000 nodes", self.file("denied.uspec", denied), one,
-            f"unobservable\ntest unstated\n{splits}absent 0.0@0:S\nend\n",
-        )
+        text = f"unobservable\ntest unstated\n{splits}absent 0.0@0:S\nend\n"
+        self.lifts("a denied list of 100,000 nodes", self.file("denied.uspec", denied), one, text)
 
 
 class Questions(Answers):
@@ -560,30 +508,17 @@ class Questions(Answers):
         shown = "observable\ntest forbidden: BUG\n"
         by_reverse = f"{shown}node 1.0@0:S\nnode 0.0@0:S\nedge 1.0@0:S 0.0@0:S\nend\n"
         by_order = shown + PO_EDGE
-        self.shows(
-            "core: two axioms", 0,
-            f"core 2\naxiom 0\naxiom 1\nrefutation\n{CYCLIC}without 0\n{by_reverse}without 1\n{by_order}end\n", "core", REVERSE,
-            FORBIDDEN,
-        )
+        both = f"core 2\naxiom 0\naxiom 1\nrefutation\n{CYCLIC}without 0\n{by_reverse}without 1\n{by_order}end\n"
+        self.shows("core: two axioms", 0, both, "core", REVERSE, FORBIDDEN)
         # the cut models, of the second axiom and of the first
         rows = read(REVERSE).splitlines()
         reverse = self.file("reverse.uspec", lines(*rows[:3], *rows[5:]))
         self.judged("core: its first graph is of the second axiom", 0, OBSERVABLE, reverse, FORBIDDEN, by_reverse)
         self.judged("core: its second graph is of the first axiom", 0, OBSERVABLE, PO, FORBIDDEN, by_order)
         self.shows("core: none", 0, f"core none\n{ORDERED}end\n", "core", PO, TWO)
-        self.shows("core: an axiom that is False by itself", 0, """core 1
-axiom 0
-refutation
-unobservable
-test permitted: stricter
-false
-end
-without 0
-observable
-test permitted: ok
-end
-end
-""", "core", self.file("never.uspec", NEVER), TWO)
+        alone = "core 1\naxiom 0\nrefutation\nunobservable\ntest permitted: stricter\nfalse\nend\n"
+        free = "without 0\nobservable\ntest permitted: ok\nend\nend\n"
+        self.shows("core: an axiom that is False by itself", 0, alone + free, "core", self.file("never.uspec", NEVER), TWO)
         true = self.file("true.uspec", "True.\n")
         self.says(
             "core: a refusal is told", 3, "refused model syntax at 1:1\n",
@@ -609,17 +544,13 @@ end
             ]
         files = ("examples/models/tso-buffer.uspec", self.file("lock.test", lines(*ops)))
         for word in ("check", "check2"):
-            name = f"{word}: a lock of three cores"
-            if self.is_wanted(name):
+            if self.is_wanted(name := f"{word}: a lock of three cores"):
                 self.shows(name, 1, second(word, *files), word, *files)
 
     def test_ask(self) -> None:
         both = 'exists microop "i", exists microop "j", ProgramOrder i j /\\ EdgeExists ((i, S), (j, S))'
-        self.shows(
-            "ask: always", 0,
-            f"ask always\nwith\n{ORDERED}against\nunobservable\ntest permitted: stricter\npath 0.0@0:S 1.0@0:S\nend\nend\n",
-            "ask", PO, TWO, self.file("both.query", f"{both}\n"),
-        )
+        always = f"ask always\nwith\n{ORDERED}against\nunobservable\ntest permitted: stricter\npath 0.0@0:S 1.0@0:S\nend\nend\n"
+        self.shows("ask: always", 0, always, "ask", PO, TWO, self.file("both.query", f"{both}\n"))
         # the certificate after `with` is one of the model with the formula as its last axiom
         asked = self.file("asked.uspec", f'{read(PO)}Axiom "asked": {both}.\n')
         self.judged("ask: its graph is of the model with the formula", 0, OBSERVABLE, asked, TWO, ORDERED)
@@ -635,22 +566,18 @@ end
             query, name, litmus, word = line.split("\t")
             files = (f"examples/models/{name}.uspec", f"examples/tests/{litmus}.test", f"examples/queries/{query}.query")
             text = second("ask", *files)
-            with self.case(f"ask: {query} of {litmus} on {name} is {word}"):
-                self.assertIn(f"ask {word}", text.splitlines())
+            self.same(f"ask: {query} of {litmus} on {name} is {word}", f"ask {word}" in text.splitlines())
             self.shows(f"ask: {query} of {litmus} on {name}", 0, text, "ask", *files)
 
     def walk(self, word: str, entry: str) -> str:
         """A test of this format, with a read of an entry and a write to the page that it maps to."""
-        return self.file("walk.test", lines(
-            f'{word} "w".', f"Microop 0 0 0 0 (Read (VA 3 0) (Entry 3) ({entry})).",
-            "Microop 0 0 0 1 (Write (VA 3 0) (PA 7 0) (Data 1)).",
-        ))
+        read = f"Microop 0 0 0 0 (Read (VA 3 0) (Entry 3) ({entry}))."
+        return self.file("walk.test", lines(f'{word} "w".', read, "Microop 0 0 0 1 (Write (VA 3 0) (PA 7 0) (Data 1))."))
 
     def test_entries(self) -> None:
-        model = self.file("walk.uspec", lines(
-            'StageName 0 "S".', 'Axiom "walk": forall microops "i", forall microops "j",',
-            '  EntryOf i j /\\ MapsTagOf i j => AddEdge ((i, S), (j, S), "walk").',
-        ))
+        model = self.file("walk.uspec", f"""{S}Axiom "walk": forall microops "i", forall microops "j",
+  EntryOf i j /\\ MapsTagOf i j => AddEdge ((i, S), (j, S), "walk").
+""")
         walked = "observable\ntest unstated\nnode 0.0@0:S\nnode 0.1@0:S\nedge 0.0@0:S 0.1@0:S\nend\n"
         test = self.walk("Litmus2", "Maps 7 1 0")
         self.shows("a walk", 0, walked, "check", model, test)
@@ -671,23 +598,18 @@ pipecheck: `PA` is expected
     Microop 0 0 0 0 (Read (VA 3 0) (Entry 3) (Maps 7 2 0)).
 {' ' * 53}^
 """, word, model, test)
-        for name, fault, entry in (
-            ("both marks over 1", "mark-value at 2:50", "Maps 7 2 3"), ("a dirty mark over 1", "mark-value at 2:52", "Maps 7 1 3")
-        ):
-            self.shows(name, 3, f"refused test {fault}\n", "check", model, self.walk("Litmus2", entry))
+        for name, column, entry in (("both marks over 1", 50, "Maps 7 2 3"), ("a dirty mark over 1", 52, "Maps 7 1 3")):
+            self.shows(name, 3, f"refused test mark-value at 2:{column}\n", "check", model, self.walk("Litmus2", entry))
         again = self.file("again.test", 'Litmus2 "d".\nInit (Entry 3) 7.\nInit (Entry 3) (Maps 7 2 0).\n')
         self.shows("a mark of 2 where an address comes again", 3, "refused test again-initial at 3:1\n", "check", model, again)
         default = self.file("default.test", lines(
             'Litmus2 "d".', "Microop 0 0 0 0 (Read (VA 5 0) (Entry 5) (Maps 5 0 0)).",
             "Microop 1 0 0 0 (Read (VA 5 0) (PA 5 0) (Data 0)).",
         ))
-        initial = self.file("default.uspec",
-            f'{S}Axiom "a": forall microops "i", DataFromInitialStateAtPA i => NodeExists (i, S).\n')
-        self.shows(
-            "what an entry and a page hold where no line says it", 0,
-            "observable\ntest unstated\nnode 0.0@0:S\nnode 1.0@0:S\nend\n",
-            "check", initial, default,
-        )
+        initial = f'{S}Axiom "a": forall microops "i", DataFromInitialStateAtPA i => NodeExists (i, S).\n'
+        held = "observable\ntest unstated\nnode 0.0@0:S\nnode 1.0@0:S\nend\n"
+        name = "what an entry and a page hold where no line says it"
+        self.shows(name, 0, held, "check", self.file("default.uspec", initial), default)
 
 
 class Listings(Answers):
@@ -698,9 +620,8 @@ class Listings(Answers):
         return self.file("sb.litmus", text)
 
     def test_verdicts(self) -> None:
-        seen = f"observable\ntest unstated\n{BUFFERED}"
+        seen, unseen = f"observable\ntest unstated\n{BUFFERED}", f"unobservable\ntest unstated\n{IN_MEMORY}"
         self.shows("check86: exists states nothing", 0, seen, "check86", BUFFER, self.listing())
-        unseen = "unobservable\ntest unstated\ncycle 0.0@0:Mem 1.0@0:Mem 2.0@1:Mem 3.0@1:Mem\nend\n"
         self.shows("check86: in order it is not seen", 1, unseen, "check86", IN_ORDER, self.listing())
         for name, status, out, model, text in (
             ("verify86: its graph is verified", 0, OBSERVABLE, BUFFER, seen),
@@ -711,10 +632,8 @@ class Listings(Answers):
             self.judged(name, status, out, model, self.listing(), text, "verify86")
         denied, forbidden = LISTING.replace("exists", "~exists"), f"observable\ntest forbidden: BUG\n{BUFFERED}"
         self.says("check86: ~exists is forbidden", 0, forbidden, "", "check86", BUFFER, self.listing(denied))
-        self.shows(
-            "verify86: a graph of a test is one of the listing", 0, OBSERVABLE, "verify86", BUFFER, self.listing(denied),
-            SB_CERTIFICATE
-        )
+        name = "verify86: a graph of a test is one of the listing"
+        self.shows(name, 0, OBSERVABLE, "verify86", BUFFER, self.listing(denied), SB_CERTIFICATE)
         other = denied.replace("EAX", "exists").replace("[x]", "[MFENCE]").replace("[y]", "[ (* of y *) MOV\n]")
         for name, text in (
             ("lines that end with CR and LF", denied.replace("\n", "\r\n")),
@@ -725,17 +644,15 @@ class Listings(Answers):
         self.shows("check86: 64 instructions", 0, FREE, "check86", self.file("empty.uspec", ""), self.listing(filled))
 
     def test_faults_beside_others(self) -> None:
-        self.shows("check of a listing", 3, "refused test lexical at 3:4\n", "check", BUFFER, self.listing())
-        large = self.file("too-large.litmus", LISTING + " " * (MOST_OF_A_FILE + 1))
-        self.shows("check86: a listing past 1 MiB", 3, "refused test too-large at 1:1\n", "check86", PO, large)
-        open_one = self.listing(LISTING.replace(" /\\ 1:EAX=0", ""))
-        self.shows(
-            "check86: a refused model beside a refused listing", 3, "refused model syntax at 7:1\n", "check86", SB, open_one
-        )
-        at = "refused test x86-open at 8:20\n"
-        self.shows(
-            "verify86: a refused listing beside a missing certificate", 3, at, "verify86", BUFFER, open_one, f"{self.work}/none"
-        )
+        large, model = self.file("too-large.litmus", LISTING + " " * (MOST_OF_A_FILE + 1)), "refused model syntax at 7:1\n"
+        open_one, at = self.file("open.litmus", LISTING.replace(" /\\ 1:EAX=0", "")), "refused test x86-open at 8:20\n"
+        for name, out, words in (
+            ("check of a listing", "refused test lexical at 3:4\n", ("check", BUFFER, self.listing())),
+            ("check86: a listing past 1 MiB", "refused test too-large at 1:1\n", ("check86", PO, large)),
+            ("check86: a refused model beside a refused listing", model, ("check86", SB, open_one)),
+            ("verify86: a refused listing beside a missing certificate", at, ("verify86", BUFFER, open_one, f"{self.work}/none")),
+        ):
+            self.shows(name, 3, out, *words)
         self.says("check86: where a listing has its fault", 3, at, f"""\
 {open_one}:8:20: x86-open: the condition gives this register no value
      MOV EAX,[y] | MOV EAX,[x] ;
@@ -793,31 +710,25 @@ class Listings(Answers):
     def test_examples(self) -> None:
         pairs = (" 0 0", " 0 1", " 1 0", " 1 1")
         maps = (" Maps:6:1:0 Maps:5:1:0 0", " Maps:6:1:0 Maps:7:1:0 0", " Maps:8:1:0 Maps:5:1:0 0", " Maps:8:1:0 Maps:7:1:0 0")
-        for name, out, words in (
-            ("a sweep of message passing", swept(*pairs, unseen=(" 1 0",)), (IN_ORDER, MP_PATTERN)),
-            ("a sweep of store buffering through store buffers", swept(*pairs), (BUFFER, "examples/patterns/SB.pattern")),
-            ("a sweep of a test without an open read", swept(""), (PO, TWO)),
-            ("... that is not observable", swept("", unseen=("",)), (REVERSE, FORBIDDEN)),
-            (
-                "a sweep with page-table entries", swept(*maps, unseen=maps[1::2]),
-                ("examples/translation/tlb.uspec", "examples/patterns/MP+read+walk.pattern"),
-            ),
+        tlb, walk = "examples/translation/tlb.uspec", "examples/patterns/MP+read+walk.pattern"
+        for name, out, model, pattern in (
+            ("a sweep of message passing", swept(*pairs, unseen=(" 1 0",)), IN_ORDER, MP_PATTERN),
+            ("a sweep of store buffering through store buffers", swept(*pairs), BUFFER, "examples/patterns/SB.pattern"),
+            ("a sweep of a test without an open read", swept(""), PO, TWO),
+            ("... that is not observable", swept("", unseen=("",)), REVERSE, FORBIDDEN),
+            ("a sweep with page-table entries", swept(*maps, unseen=maps[1::2]), tlb, walk),
         ):
-            self.shows(name, 0, out, "sweep", *words)
+            self.shows(name, 0, out, "sweep", model, pattern)
 
     def opens(self, *ops: str, word: str = "Litmus") -> tuple[str, str, str]:
         """The words of a sweep of a pattern of these lines on an empty model."""
         return "sweep", self.file("empty.uspec", ""), self.file("open.pattern", lines(f'{word} "p".', *ops))
 
     def test_values(self) -> None:
-        self.shows(
-            "values that are written twice, and the initial one written again", 0, swept(" 0", " 5", " 3"),
-            *self.opens(stored(0, 5), stored(1, 0), open_read(2, 0), stored(3, 5), stored(4, 3)),
-        )
-        self.shows(
-            "reads that nothing writes", 0, swept(" 0 18446744073709551615"),
-            *self.opens(open_read(0, 0), open_read(1, 1), "Init (PA 1 0) 18446744073709551615."),
-        )
+        again = self.opens(stored(0, 5), stored(1, 0), open_read(2, 0), stored(3, 5), stored(4, 3))
+        self.shows("values that are written twice, and the initial one written again", 0, swept(" 0", " 5", " 3"), *again)
+        initial = self.opens(open_read(0, 0), open_read(1, 1), "Init (PA 1 0) 18446744073709551615.")
+        self.shows("reads that nothing writes", 0, swept(" 0 18446744073709551615"), *initial)
         self.shows("a number at an entry", 0, swept(" Maps:3:0:0", " 3"), *self.opens(
             "Microop 0 0 0 0 (Read (VA 3 0) (Entry 3) (Data Any)).", "Microop 0 0 0 1 (Write (VA 3 0) (Entry 3) (Data 3)).",
             word="Litmus2",
@@ -827,30 +738,22 @@ class Listings(Answers):
         reads = [open_read(number, 0) for number in range(1, 14)]
         done = run([program(), *self.opens(stored(0, 1), *reads[:12])])
         text = done.out.splitlines()
-        rows = [it for it in text if it.startswith("row ")]
+        rows = text[1:4097]
         with self.case("4,096 rows"):
-            self.assertEqual((done.status, done.err, len(text)), (0, "", 4100))
-            self.assertEqual(
-                [text[0], text[1], text[4096], *text[-3:]],
-                [
-                    "sweep 4096", "row 0 0 0 0 0 0 0 0 0 0 0 0 observable", "row 1 1 1 1 1 1 1 1 1 1 1 1 observable",
-                    "observable 4096", "unobservable 0", "end",
-                ],
-            )
-        with self.case("... each once"):
-            self.assertEqual(len(set(rows)), 4096)
-        with self.case("... and in order"):
-            self.assertEqual(rows, sorted(rows))
+            self.assertEqual((done.status, done.err, len(rows)), (0, "", 4096))
+            self.assertEqual([text[0], *text[4097:]], ["sweep 4096", "observable 4096", "unobservable 0", "end"])
+            self.assertEqual(rows[0], "row 0 0 0 0 0 0 0 0 0 0 0 0 observable")
+            self.assertEqual(rows[-1], "row 1 1 1 1 1 1 1 1 1 1 1 1 observable")
+        self.same("... each once", len(set(rows)), 4096)
+        self.same("... and in order", rows, sorted(rows))
         words = self.opens(stored(0, 1), *reads)
         self.says("one open read too many", 3, "refused test too-many-rows at 15:48\n", f"""\
 {words[2]}:15:48: too-many-rows: of a pattern: with this open read there are more than 4,096 rows
     Microop 13 0 0 0 (Read (VA 0 0) (PA 0 0) (Data Any)).
 {' ' * 51}^
 """, *words)
-        self.shows(
-            "too many rows come after all other faults", 3, "refused test core-number at 16:12\n",
-            *self.opens(stored(0, 1), *reads, "Microop 14 64 0 0 (Fence)."),
-        )
+        other = self.opens(stored(0, 1), *reads, "Microop 14 64 0 0 (Fence).")
+        self.shows("too many rows come after all other faults", 3, "refused test core-number at 16:12\n", *other)
 
     def test_what_may_not_be_open(self) -> None:
         words = self.opens(open_read(0, 0), stored(1, "Any"))
@@ -860,9 +763,7 @@ class Listings(Answers):
 {' ' * 51}^
 pipecheck: a number is expected
 """, *words)
-        self.shows(
-            "an initial value that is open", 3, "refused test syntax at 2:15\n", *self.opens("Init (PA 0 0) Any.")
-        )
+        self.shows("an initial value that is open", 3, "refused test syntax at 2:15\n", *self.opens("Init (PA 0 0) Any."))
         pattern = self.file("mp.pattern", lines(*(it for it in read(MP_PATTERN).splitlines() if not it.startswith("%"))))
         for word in ("check", "check2"):
             self.shows(f"{word} takes no pattern", 3, "refused test syntax at 4:47\n", word, IN_ORDER, pattern)
@@ -923,14 +824,11 @@ pipecheck: `Litmus` or `Litmus2` is expected
             self.shows(name, 3, f"refused {fault}\n", "check", *files)
 
     def test_models(self) -> None:
-        empty = self.file("empty.test", 'Litmus "e".\n')
+        empty, is_read = self.file("empty.test", 'Litmus "e".\n'), 'DefineMacro "m" "a": IsAnyRead a.'
         for fault, name, *rows in (
             ("macro-unknown at 1:30", "a macro that expands itself", 'DefineMacro "m": ExpandMacro m.'),
             ("parameter-again at 1:21", "a parameter twice", 'DefineMacro "m" "a" "a": True.'),
-            (
-                "macro-arguments at 2:24", "a macro without its argument",
-                'DefineMacro "m" "a": IsAnyRead a.', 'Axiom "x": ExpandMacro m.',
-            ),
+            ("macro-arguments at 2:24", "a macro without its argument", is_read, 'Axiom "x": ExpandMacro m.'),
             ("wrong-sort at 1:40", "a core where a micro-op is asked for", 'Axiom "x": forall cores "c", IsAnyRead c.'),
             ("core-number at 1:19", "core 64 in a model", 'Axiom "x": OnCore 64 i.'),
             ("predicate-unknown at 1:12", "a predicate that there is not", 'Axiom "x": Shared i.'),
@@ -945,35 +843,23 @@ pipecheck: `Litmus` or `Litmus2` is expected
 
     def test_tests(self) -> None:
         """After their title, on an empty model."""
-        empty, first = self.file("empty.uspec", ""), "Microop 0 0 0 0 (Fence)."
+        empty, first, on_another = self.file("empty.uspec", ""), "Microop 0 0 0 0 (Fence).", "Microop 0 1 0 1 (Fence)."
+        at_once, of_none, late = "Microop 0 1 0 0 (Fence).", "Relationship addr 0 0 -> 1 0.", "Microop 1 0 0 0 (Fence)."
         for fault, name, *rows in (
             ("core-number at 2:11", "core 64", "Microop 0 64 0 0 (Fence)."),
-            ("split-instruction at 3:11", "one instruction on two cores", first, "Microop 0 1 0 1 (Fence)."),
+            ("split-instruction at 3:11", "one instruction on two cores", first, on_another),
             ("split-instruction at 3:13", "one instruction of two threads", first, "Microop 0 0 1 1 (Fence)."),
-            (
-                "split-instruction at 3:11", "one instruction on two cores, and the same number in it", first,
-                "Microop 0 1 0 0 (Fence).",
-            ),
+            ("split-instruction at 3:11", "one instruction on two cores, and the same number in it", first, at_once),
             ("duplicate-op at 3:9", "a micro-op twice", first, first),
-            ("op-unknown at 2:19", "a relationship without micro-ops", "Relationship addr 0 0 -> 1 0."),
-            (
-                "op-unknown at 3:26", "a relationship to a later micro-op", first, "Relationship addr 0 0 -> 1 0.",
-                "Microop 1 0 0 0 (Fence).",
-            ),
+            ("op-unknown at 2:19", "a relationship without micro-ops", of_none),
+            ("op-unknown at 3:26", "a relationship to a later micro-op", first, of_none, late),
             ("again-initial at 3:1", "an initial value twice", "Init (PA 0 0) 1.", "Init (PA 0 0) 1."),
             ("again-final at 3:1", "two final values at one address", "Final (PA 0 0) 1.", "Final (PA 0 0) 2."),
             ("again-expectation at 3:1", "permitted and forbidden", "Permitted.", "Forbidden."),
             ("syntax at 2:24", "a fence with an address", "Microop 0 0 0 0 (Fence (VA 0 0))."),
-            (
-                "syntax at 5:1", "permitted and forbidden in a text that breaks off", "Permitted.", "Forbidden.", "Permitted",
-            ),
-            (
-                "lexical at 3:11", "a byte that begins nothing, after a fault of syntax", "Permitted Permitted.", "Forbidden !",
-            ),
-            (
-                "core-number at 3:11", "the first of two items with a fault", first, "Microop 1 64 0 0 (Fence).",
-                "Microop 0 1 0 1 (Fence).",
-            ),
+            ("syntax at 5:1", "permitted and forbidden in a text that breaks off", "Permitted.", "Forbidden.", "Permitted"),
+            ("lexical at 3:11", "a byte that begins nothing, after a fault of syntax", "Permitted Permitted.", "Forbidden !"),
+            ("core-number at 3:11", "the first of two items with a fault", first, "Microop 1 64 0 0 (Fence).", on_another),
         ):
             test = self.file("refused.test", lines('Litmus "d".', *rows))
             self.shows(name, 3, f"refused test {fault}\n", "check", empty, test)

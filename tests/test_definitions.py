@@ -196,24 +196,23 @@ class Scripts(Cases):
         self.judge("how many definitions each word has", self.said("definitions"), 0, COUNTS)
         self.judge("the definitions of a command's status", self.said("definitions", "--status", "gen"), 0, STATUS)
         page = self.said("definitions", "--page")
-        with self.case("how many there are of each command's status, on a page"):
-            self.assertEqual((page.status, page.out[: len(PAGE)]), (0, PAGE))
+        self.same("how many there are of each command's status, on a page", (page.status, page.out[: len(PAGE)]), (0, PAGE))
         said = "no such word: chek. There are observable, check, gen, all"
         self.fails("a word that stands for nothing", said, "definitions", "chek")
         self.fails("two words", "definitions takes one word", "definitions", "check", "gen")
         self.fails("the status of nothing", "definitions takes one word", "definitions", "--status")
         said = "no such command: all. There are check, gen"
         self.fails("the status of what is no command", said, "definitions", "--status", "all")
-        said = "TOP/crates/says/specs/Observable.antt imports Case, which TOP/crates/base/specs/Case.antt does not define"
-        self.spoilt("an import of what is not defined", "crates/base/specs/Case.antt", "pub record Case", "pub record Other", said,
-                    "definitions", "observable")
-        said = "TOP/crates/says/specs/Observable.antt has an import of another form: use super.base.specs.Case.{Case as Test}"
-        self.spoilt("an import of another form", "crates/says/specs/Observable.antt", "use Rattle.base", "use super.base", said,
-                    "definitions", "observable")
+        case, observable = "crates/base/specs/Case.antt", "crates/says/specs/Observable.antt"
+        words = "definitions", "observable"
+        said = f"TOP/{observable} imports Case, which TOP/{case} does not define"
+        self.spoilt("an import of what is not defined", case, "pub record Case", "pub record Other", said, *words)
+        said = f"TOP/{observable} has an import of another form: use super.base.specs.Case.{{Case as Test}}"
+        self.spoilt("an import of another form", observable, "use Rattle.base", "use super.base", said, *words)
 
     def test_crates(self) -> None:
-        with self.case("the crate of a file, in a checkout within a folder crates"):
-            self.assertEqual(by_crate(["/crates/top/crates/base/specs/Case.antt"]), {"base": ["Case"]})
+        found = by_crate(["/crates/top/crates/base/specs/Case.antt"])
+        self.same("the crate of a file, in a checkout within a folder crates", found, {"base": ["Case"]})
         self.judge("tables of crates", self.said("crates"), 0, TABLES)
         self.judge("names of crates", self.said("crates", "--names"), 0, NAMES)
         self.fails("another word", "no such words: names. There is --names", "crates", "names")
@@ -222,28 +221,21 @@ class Scripts(Cases):
         self.spoilt("a crate without a clause", root, "Clause: ", "", said, "crates")
         said = f"TOP/{root}: no sentence ends in: What a test says"
         self.spoilt("a crate without a sentence", root, "says.", "says", said, "crates")
-        said = "crates.txt has says before base, on which it stands"
-        self.spoilt("a crate below one that it stands on", "crates.txt", "base: thiserror\nsays: base",
-                    "says: base\nbase: thiserror", said, "crates")
+        said, new = "crates.txt has says before base, on which it stands", "says: base\nbase: thiserror"
+        self.spoilt("a crate below one that it stands on", "crates.txt", "base: thiserror\nsays: base", new, said, "crates")
         said = "crates.txt has base under no heading"
         self.spoilt("a crate under no heading", "crates.txt", "## low\n", "", said, "crates")
-        for text, wanted in (
-            ("A b. C", "A b."), ("Is `a.b? c` so? No.", "Is `a.b? c` so?"), ("To x.y of z.", "To x.y of z."),
-        ):
-            with self.case(f"the first sentence of {text}"):
-                self.assertEqual(first_sentence(text), wanted)
+        for text, wanted in (("A b. C", "A b."), ("Is `a.b? c` so? No.", "Is `a.b? c` so?"), ("To x.y of z.", "To x.y of z.")):
+            self.same(f"the first sentence of {text}", first_sentence(text), wanted)
 
     def test_pages(self) -> None:
         page = f"{self.work}/PAGE.md"
         shown = [("PAGE.md has what python3 tools crates --names writes", False)]
-        with self.case("a stale page is told"):
-            self.assertEqual([(it.name, it.is_there()) for it in shown_by(page, self.work, self.work)], shown)
+        self.same("a stale page is told", [(it.name, it.is_there()) for it in shown_by(page, self.work, self.work)], shown)
         self.judge("a stale page is renewed", self.said("renew", page), 0, "PAGE.md\n")
         self.judge("a page is renewed once", self.said("renew", page))
-        with self.case("what is renewed of it"):
-            self.assertEqual(read(page), TREE["PAGE.md"].replace("old\n", NAMES))
-        with self.case("a page that is not stale"):
-            self.assertTrue(all(it.is_there() for it in shown_by(page, self.work, self.work)))
+        self.same("what is renewed of it", read(page), TREE["PAGE.md"].replace("old\n", NAMES))
+        self.same("a page that is not stale", all(it.is_there() for it in shown_by(page, self.work, self.work)))
         self.put("PAGE.md", "nothing\n")
         with self.case("a page that shows nothing"), self.assertRaisesRegex(Fault, "^PAGE.md shows nothing$"):
             shown_by(page, self.work, self.work)
@@ -302,21 +294,16 @@ class Lists(Cases):
             ("tests of names", in_file("crates/language_tests/src/parsers/formulas.rt", r'\(\s*b"(\w+)",\s*Pred::'), names),
             ("tests of answers", in_file("crates/language_tests/src/readers/predicates.rt", r"^    \(\s*Pred::(\w+), b"), names),
         ):
-            with self.case(f"the predicates of {place} are those of the table"):
-                self.assertEqual(found, wanted)
+            self.same(f"the predicates of {place} are those of the table", found, wanted)
 
     def test_slips_and_commands(self) -> None:
         rows = read("docs/lint.md").partition("\n## What is meant\n")[0]
-        with self.case("docs/lint.md has each kind of slip"):
-            self.assertEqual(sorted(re.findall(r"^\| `([\w'-]+)` \|", rows, re.M)), sorted(KINDS))
+        self.same("docs/lint.md has each kind of slip", sorted(re.findall(r"^\| `([\w'-]+)` \|", rows, re.M)), sorted(KINDS))
         texts = map(read, glob(f"{TOP}/tests/*lint*"))
         tried = {it for text in texts for it in re.findall(r"(?:\d: |NO_ORDER = \")([\w'-]+): ", text)}
-        with self.case("tests have each kind of slip"):
-            self.assertEqual({*KINDS} - tried, set())
+        self.same("tests have each kind of slip", {*KINDS} - tried, set())
         words = in_file("commands.txt", r"^program\|([\w-]+)\|")
-        with self.case("the table `commands.txt` has what the definitions spell"):
-            self.assertEqual(words, sorted(Top().words))
-        second = in_file("tools/second/main.py", r'^    "([\w-]+)": \d,$')
+        self.same("the table `commands.txt` has what the definitions spell", words, sorted(Top().words))
+        second = in_file("tools/second/main.py", r'^    "([\w-]+)": \(\d, ')
         # formats of solvers, which no command writes, and what needs no second implementation, since it makes its own texts
-        with self.case("the second implementation has each command"):
-            self.assertEqual(second, sorted({*words, "dimacs", "smt"} - {"gen"}))
+        self.same("the second implementation has each command", second, sorted({*words, "dimacs", "smt"} - {"gen"}))

@@ -16,7 +16,7 @@ from random import Random
 from tests import random_texts
 from tests.cases import TOP, Cases, program, run, write
 
-from tools.second.main import Refused, check, judged, second_line, verify_lifted
+from tools.second.main import Refused, check, judged, judgement
 from tools.second.cases import Case, read_case
 from tools.second.lifted import LiftedJudge
 from tools.second.listings import read_listing
@@ -129,7 +129,7 @@ class SpoiltLifted(Cases):
                 judge = LiftedJudge(model_of(model), case_of(test))
             except Refused:
                 continue
-            return model, test, random_texts.lifted_text(chance, judge, second_line(False, case_of(test)))
+            return model, test, random_texts.lifted_text(chance, judge)
 
     def test_lifted(self) -> None:
         chance = Random(27)
@@ -140,7 +140,7 @@ class SpoiltLifted(Cases):
                 for _ in range(chance.randint(0, 3)):
                     text = random_texts.changed_lifted(chance, text)
                 files = [write(f"{self.work}/{name}", it) for name, it in (("model", model), ("test", test), ("text", text))]
-                answer = verify_lifted(model_of(model), case_of(test), text)[0]
+                answer = judgement("verify-lifted", model_of(model), case_of(test), text)[0]
                 self.assertEqual(run([program(), "verify-lifted", *files]).out, answer, (model, test, text))
                 words.add(answer.split()[0])
             self.assertEqual(words, {"verified", "certificate"})
@@ -171,7 +171,7 @@ class Lifts(Cases):
         judge = run([program(), "verify-lifted", model, test, write(f"{self.work}/lifted", lifted.out)])
         self.assertEqual((judge.status, judge.out), (1, VERIFIED), pair)
         text = lifted.out.encode("ascii")
-        self.assertEqual(verify_lifted(model_of(contents(model)), case_of(contents(test)), text), (VERIFIED, 1), pair)
+        self.assertEqual(judgement("verify-lifted", model_of(contents(model)), case_of(contents(test)), text), (VERIFIED, 1), pair)
         return True
 
     def test_pairs(self) -> None:

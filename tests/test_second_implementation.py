@@ -5,18 +5,20 @@ In the tables `; ` stands between the lines of a text, and a number that is want
 """
 from __future__ import annotations
 
-import os
+import io
 import re
 import sys
+import tempfile
+from functools import partial
 from typing import Any, Callable, Iterable
 
-from tests.cases import TOP, Cases, run
+from tests.cases import TOP, Cases, read, run, write
 
-from tools.second.main import Refused, ask, check, core, judged, judged_three, lift, verify, verify_lifted
+from tools.second.main import Refused, judged
+from tools.second.main import run as answer
 from tools.second.answering import Branch
 from tools.second.cases import Case, read_case
 from tools.second.listings import read_listing
-from tools.second.patterns import read_pattern, sweep, sweep_text
 from tools.second.positions import Positions
 from tools.second.predicates import PREDICATES
 from tools.second.scopes import read_model
@@ -425,59 +427,35 @@ NOT_ALL = (
 )
 
 
-def bytes_of(lines: str) -> bytes:
+def text_of(lines: str) -> str:
     """The text of these lines."""
-    return "".join(f"{line}\n" for line in lines.split("; ") if lines).encode("ascii")
+    return "".join(f"{line}\n" for line in lines.split("; ") if lines)
 
 
-def lines_of(text: str) -> str:
-    """The lines of a text, as they stand in the tables."""
-    return text.rstrip("\n").replace("\n", "; ")
+def said(word: str, *texts: str | bytes) -> str:
+    """What a command writes of files with these texts, in lines as they stand in the tables."""
+    out = io.StringIO()
+    with tempfile.TemporaryDirectory() as folder:
+        answer([word, *(write(f"{folder}/{number}", text) for number, text in enumerate(texts))], out)
+    return out.getvalue().rstrip("\n").replace("\n", "; ")
 
 
-def on_one(of: Callable[..., tuple[str, int]], model: str, *more: Any) -> str:
-    """What is said of one write in a model."""
-    return lines_of(of(read_model(model.encode("ascii")), read_case(bytes_of(ONE)), *more)[0])
+def of_one(word: str, model: str, *more: str) -> str:
+    """What a command writes of one write in a model."""
+    return said(word, model, text_of(ONE), *map(text_of, more))
 
 
-def refused(says: Callable[[], str]) -> str:
-    """What is said, or the refusal."""
-    try:
-        return says()
-    except Refused as fault:
-        return str(fault)
-
-
-def checked(first: str, lines: str) -> str:
-    """What `check` writes of a test on the model WALK."""
-    test = f'{first} "w".\n'.encode("ascii") + bytes_of(lines)
-    return refused(lambda: lines_of(check(read_model(WALK.encode("ascii")), judged("test", read_case, test))[0]))
-
-
-def asked(model: str, query: str) -> str:
-    """The first line of what `ask` writes for one write."""
-    texts = model.encode("ascii"), bytes_of(ONE), query.encode("ascii")
-    return refused(lambda: ask(*judged_three(*texts))[0].partition("\n")[0])
-
-
-def swept(first: str, lines: str, model: str = STAGES) -> str:
-    """What `sweep` writes."""
-    text = f'{first} "w".\n'.encode("ascii") + bytes_of(lines)
-    return refused(lambda: lines_of(sweep_text(sweep(read_model(model.encode("ascii")), judged("test", read_pattern, text)))))
-
-
-def example(name: str) -> bytes:
-    """The bytes of a file of examples/."""
-    with open(f"{TOP}/examples/{name}", "rb") as file:
-        return file.read()
+def of_titled(word: str, model: str, first: str, lines: str) -> str:
+    """What a command writes of a test that begins with this word, and goes on with these lines after its title."""
+    return said(word, model, f'{first} "w".\n{text_of(lines)}')
 
 
 def shipped_lifted(name: str, number: int, lines: str | None) -> str:
     """What `verify-lifted` writes of a shipped text in which these lines, or none, stand in place of one line."""
-    model, test = (example(path) for path in SHIPPED[name])
-    text = example(f"lifted/{name}.txt").split(b"\n")
-    text[number - 1 : number] = [] if lines is None else [it.encode("ascii") for it in lines.split("; ")]
-    return lines_of(verify_lifted(read_model(model), read_case(test), b"\n".join(text))[0])
+    model, test = (read(f"examples/{path}") for path in SHIPPED[name])
+    text = read(f"examples/lifted/{name}.txt").split("\n")
+    text[number - 1 : number] = [] if lines is None else lines.split("; ")
+    return said("verify-lifted", model, test, "\n".join(text))
 
 
 def told(case: Case) -> str:
@@ -492,9 +470,12 @@ def page(address: object) -> tuple[object, ...]:
     return () if address is None else (getattr(address, "tag"), getattr(address, "index"))
 
 
-def read(text: str) -> str:
+def told_listing(text: str) -> str:
     """What the case of a listing says, or its refusal."""
-    return refused(lambda: told(judged("test", read_listing, text.encode("ascii"))))
+    try:
+        return told(judged("test", read_listing, text.encode("ascii")))
+    except Refused as fault:
+        return str(fault)
 
 
 # beside an edge from S to T: an Or, written with names of stages, and whether it is forced, with one alternative left or none
@@ -531,9 +512,9 @@ def is_forced(disjunction: str) -> bool:
     written = re.sub(r"(?<!, )\b([S-V])\b", r"NodeExists (i, \1)", written)
     stages = "".join(f'StageName {number} "{name}".\n' for number, name in enumerate("STUV"))
     model = f'{stages}Axiom "f": forall microops "i", EdgeExists ((i, S), (i, T)) /\\ ({written}).\n'
-    branch = Branch(Positions(read_model(model.encode("ascii")), read_case(bytes_of(ONE))), 1)
+    branch = Branch(Positions(read_model(model.encode("ascii")), read_case(text_of(ONE).encode("ascii"))), 1)
     branch.assert_side([(0, False)], 0)
-    return branch.alternatives.forced(branch, [(2, False)]) == (2, False)
+    return branch.alternatives.forced(branch.order, [(2, False)]) == (2, False)
 
 
 # runs the program with a search that does not agree with the other one
@@ -556,10 +537,10 @@ class Second(Cases):
                     self.assertEqual(of(*given), f"certificate refused at line {wanted}" if isinstance(wanted, int) else wanted)
 
     def test_certificates(self) -> None:
-        self.tells(lambda model, text: on_one(verify, model, bytes_of(text)), CERTIFICATES)
-        self.tells(lambda model: on_one(check, model, 2), FOUND)
-        self.tells(lambda model: on_one(core, model), CORES)
-        self.tells(lambda model, text: on_one(lift, model, bytes_of(text)), LIFTS, "lift: ")
+        self.tells(partial(of_one, "verify"), CERTIFICATES)
+        self.tells(partial(of_one, "check2"), FOUND)
+        self.tells(partial(of_one, "core"), CORES)
+        self.tells(partial(of_one, "lift"), LIFTS, "lift: ")
 
     def test_forced(self) -> None:
         self.tells(lambda it: str(is_forced(it)), [(name, it, str(wanted)) for name, it, wanted in FORCED], "a forced Or: ")
@@ -570,11 +551,11 @@ class Second(Cases):
             for name, number, wanted, texts in SHIPPED_LIFTED for it in texts
         ]
         self.tells(shipped_lifted, rows, "lifted: ")
-        self.tells(lambda model, lines: on_one(verify_lifted, model, bytes_of(f"{HEADER}; lifted; {lines}")), LIFTED, "lifted: ")
+        self.tells(lambda model, lines: of_one("verify-lifted", model, f"{HEADER}; lifted; {lines}"), LIFTED, "lifted: ")
 
     def test_questions(self) -> None:
-        self.tells(asked, QUERIES, "ask: ")
-        self.tells(checked, FILES)
+        self.tells(lambda model, query: said("ask", model, text_of(ONE), query).partition("; ")[0], QUERIES, "ask: ")
+        self.tells(partial(of_titled, "check", WALK), FILES)
 
     def test_predicates(self) -> None:
         case = read_case(PREDICATES_CASE)
@@ -585,27 +566,30 @@ class Second(Cases):
     def test_listings(self) -> None:
         same = told(read_case(SAME.encode("ascii")))
         many = LISTING.replace(" MFENCE ", 59 * " MFENCE | ;\n" + " MFENCE ")
-        self.tells(read, [
+        self.tells(told_listing, [
             ("a listing says what a test says", LISTING, same),
             ("~exists is forbidden", LISTING.replace("exists", "~exists"), same.replace("unstated", "forbidden")),
             ("a listing that breaks off", "X86 T\nCom=Fr", "refused test syntax at 2:7"),
         ])
-        self.tells(lambda text: str(read(text).count("Fence")), [("a listing of 64 instructions", many, "60")])
-        self.tells(read, [(name, LISTING.replace(old, new), same) for name, old, new in WAYS], "a listing: ")
-        self.tells(read, [
+        self.tells(lambda text: str(told_listing(text).count("Fence")), [("a listing of 64 instructions", many, "60")])
+        self.tells(told_listing, [(name, LISTING.replace(old, new), same) for name, old, new in WAYS], "a listing: ")
+        self.tells(told_listing, [
             (f"{new.strip()[:60]!r} in place of {old!r}", LISTING.replace(old, new, 1), f"refused test {fault}")
             for old, rows in SPOILT.items() for new, fault in rows
         ], "a listing: ")
 
     def test_patterns(self) -> None:
-        self.tells(swept, [
+        rows = [
             (name, first, lines, "; ".join([
                 f"sweep {len(rows)}", *(f"row{row} observable" for row in rows), f"observable {len(rows)}", "unobservable 0", "end",
             ])) for name, first, lines, rows in SWEPT
-        ], "a pattern: ")
+        ]
+        self.tells(partial(of_titled, "sweep", STAGES), rows, "a pattern: ")
         in_order = f"{opens(0)}; {stores(1, 1)}; {opens(2)}"
-        self.tells(swept, [("rows that are not observable", "Litmus", in_order, IN_ORDER, NOT_ALL)], "a pattern: ")
-        self.tells(swept, [(*row, f"refused test {fault}") for *row, fault in NO_PATTERN], "a pattern: ")
+        unseen = [("rows that are not observable", "Litmus", in_order, NOT_ALL)]
+        self.tells(partial(of_titled, "sweep", IN_ORDER), unseen, "a pattern: ")
+        refused = [(*row, f"refused test {fault}") for *row, fault in NO_PATTERN]
+        self.tells(partial(of_titled, "sweep", STAGES), refused, "a pattern: ")
 
     def test_two_searches_that_do_not_agree(self) -> None:
         words = ["second", "check", *(f"{TOP}/examples/{it}" for it in ("store-buffer.uspec", "sb.test"))]

@@ -3,7 +3,7 @@ from collections import Counter
 from dataclasses import dataclass, field
 from typing import Iterable, Iterator
 
-from tools.second.grounding import Node
+from tools.second.meaning import Node
 from tools.texts.naming import Fact, Names
 
 # a clash of more facts is no part of a line; its facts are told apart from it

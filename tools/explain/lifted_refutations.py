@@ -81,7 +81,7 @@ class LiftedRefutation:
         self.width = width
         self.rules = LiftedJudge(model, case)
         self.facts = [
-            Noted(Said(True, axiom.body, []), {}, number, Origin(axiom, (), None, first_place(axiom.body)))
+            Noted(Said(True, axiom.body, {}), {}, number, Origin(axiom, (), None, first_place(axiom.body)))
             for number, axiom in enumerate(model.axioms)
         ]
         self.here = 0
@@ -287,7 +287,7 @@ class LiftedRefutation:
             return replace(above, fact=part, origin=replace(origin, label=label))
         if isinstance(formula, Quantified):
             values = {**values, formula.name: name}
-            taken = Taken(formula.name, formula.over_microops, part.env[-1][1])
+            taken = Taken(formula.name, formula.over_microops, part.env[formula.name])
             origin = replace(origin, taken=(*origin.taken, taken))
         elif isinstance(formula, Expand):
             parameters = [parameter.name for parameter in self.rules.macros[formula.macro.name].parameters]
@@ -349,7 +349,7 @@ class LiftedRefutation:
         assert isinstance(noted.fact, Said)
         names = [term.op.name] + ([] if term.core is None or isinstance(term.core, Number) else [term.core.name])
         if all(name in noted.values for name in names):
-            return self.names.node(self.rules.evaluator.node(term, noted.fact.env))
+            return self.names.node(self.rules.node(term, noted.fact.env))
         stage = term.stage.name if term.core is None else f"({self.arg(term.core, noted)}, {term.stage.name})"
         return f"({self.arg(term.op, noted)}, {stage})"
 

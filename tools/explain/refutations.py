@@ -4,8 +4,8 @@ from typing import Iterator
 
 from tools.explain.branches import branch_ends
 from tools.explain.clashes import MOST_BRANCHES, Closed, clash_heading, clash_reason, is_long
-from tools.second.judging import VERSION_2, Signed
-from tools.second.positions import Inner, Leaf
+from tools.second.judging import VERSION_2
+from tools.second.positions import Inner, Leaf, Signed
 from tools.texts.naming import Fact, Names
 from tools.texts.origins import Origin, TracedPositions
 from tools.texts.wrapping import GAP, indent

@@ -3,7 +3,7 @@ import heapq
 from typing import Callable, Iterable, Iterator, Sequence
 
 from tools.second.cases import Case
-from tools.second.grounding import Node
+from tools.second.meaning import Node
 from tools.second.models import Model
 from tools.second.positions import Inner, Leaf
 from tools.texts.naming import Names

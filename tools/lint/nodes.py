@@ -12,7 +12,7 @@ from tools.lint.places import ANY, OWN, Place, Places
 from tools.lint.slips import Slip, TestFile
 from tools.lint.truth import OutOfSteps, Steps
 from tools.second.cases import Case, Op
-from tools.second.grounding import Environment, holds, value
+from tools.second.meaning import Environment, holds, value
 from tools.second.guards import Guards
 from tools.second.models import Axiom, Binary, Edges, Expand, Formula, Model, NodeTerm, Nodes, Not, Quantified, Static
 from tools.texts.quoting import shown

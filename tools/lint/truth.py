@@ -4,7 +4,7 @@ An atom over nodes and edges decides nothing, but for the empty list. So a formu
 tree is a constant (grounding.py), and no tree is made: what decides ends the walk.
 """
 from tools.second.cases import Case
-from tools.second.grounding import Environment, holds, value
+from tools.second.meaning import Environment, holds, value
 from tools.second.guards import Guards
 from tools.second.models import Binary, Expand, Formula, Macro, Not, Quantified, Static
 

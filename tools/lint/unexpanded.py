@@ -3,9 +3,10 @@ from typing import Iterator
 
 from tools.lint.asked import Asked
 from tools.lint.slips import Slip
+from tools.second.cases import GREATEST_CORE
 from tools.second.models import Arg, Edges, Expand, Formula, Macro, Model, NodeTerm, Nodes, Number, Quantified, Static
 from tools.second.predicates import CORE, MICROOP, PLAIN, PREDICATES
-from tools.second.scopes import GREATEST_CORE, parts
+from tools.second.scopes import parts
 
 
 def unexpanded_slips(path: str, model: Model, asked: Asked) -> Iterator[Slip]:

@@ -6,7 +6,7 @@ from typing import Iterator
 
 from tools.mend.relations import CONJUNCTION, OWN, Place
 from tools.second.cases import Case
-from tools.second.grounding import Node
+from tools.second.meaning import Node
 from tools.second.models import Model
 
 # a read, the write that it has its value from, and another one of the address

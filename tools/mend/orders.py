@@ -15,7 +15,7 @@ from tools.mend.copies import Outcome
 from tools.mend.relations import OWN, Place, Relation, Relations
 from tools.mend.worlds import Edge, World
 from tools.second.cases import Value
-from tools.second.grounding import Node
+from tools.second.meaning import Node
 
 # how many edges one question is about, and how many are asked about at all: the nearest
 AT_ONCE = 48

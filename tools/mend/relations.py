@@ -7,7 +7,7 @@ from typing import Iterator
 from tools.lint.asked import Asked
 from tools.mend.worlds import Edge
 from tools.second.cases import Case
-from tools.second.grounding import Node
+from tools.second.meaning import Node
 from tools.second.models import Axiom, Edges, Formula, Macro, Model, NodeTerm, Nodes, Number
 from tools.second.predicates import MICROOP, PREDICATES
 from tools.second.scopes import parts

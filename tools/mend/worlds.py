@@ -2,7 +2,7 @@
 from collections import Counter
 from typing import Callable, Iterable
 
-from tools.second.grounding import Node
+from tools.second.meaning import Node
 
 Edge = tuple[Node, Node]
 

@@ -9,8 +9,10 @@ one way:
              scopes.py      the faults of stages, macros, sizes and names
     query    queries.py     a formula that is asked of a model, and its faults
     test     cases.py       what a litmus test says
+             meaning.py     what the parts of axioms stand for in it
     ground   grounding.py   the axioms over one test as a tree of literals over nodes
-    verdict  searching.py   some world makes the tree true, or none does
+    verdict  orders.py      the nodes and the order that the literals of a branch generate
+             searching.py   some world makes the tree true, or none does
     text     positions.py   the tree with numbered positions
              answering.py   the program's own choices in the search, which give the certificate
              conflicts.py   what such a search learns of its failures

@@ -21,20 +21,13 @@ In version 2 positions have signs, as in `judging.py`. The right side of a split
 hold, and rule 3 asks it so. A denied conjunction is a choice as a disjunction is one, and a candidate where the world makes
 it true. A candidate both of whose sides are closed comes before one with one such side.
 """
+from copy import copy
 from dataclasses import dataclass
 
 from tools.second.closing import Alternatives
 from tools.second.conflicts import Failures
-from tools.second.judging import Signed
-from tools.second.positions import Inner, Leaf, Positions
-
-
-@dataclass(frozen=True)
-class Clash:
-    """The line that closes a branch: `cycle`, `path` or `absent` with its nodes."""
-
-    word: str
-    nodes: list[int]
+from tools.second.orders import Order
+from tools.second.positions import Clash, Inner, Leaf, Positions, Signed
 
 
 @dataclass(frozen=True)
@@ -70,146 +63,69 @@ def answer(positions: Positions, version: int = 1) -> Graph | list[Step]:
             continue
         chosen = branch.choice(failures)
         if chosen is None:
-            return branch.graph()
+            return Graph([k for k in range(len(positions.nodes)) if branch.order.present >> k & 1], branch.edges)
         steps.append(chosen)
         failures.split(chosen, branch.pending.pop(chosen))
-        left, right = branch.sides(chosen)
+        left, right = positions.sides(chosen, version)
         waiting.append((branch.copy(), right))
         clash = branch.assert_side(left, failures.level)
 
 
 class Branch:
-    """What is asserted on a branch, at which levels, and the order that it generates; sets of nodes are bit sets."""
+    """What is asserted on a branch: literals, with the order that they generate, and choices; and at which levels."""
 
     def __init__(self, positions: Positions, version: int) -> None:
         self.positions = positions
         self.version = version
         self.alternatives = Alternatives(positions)
-        self.after = [0] * len(positions.nodes)
-        self.before = [0] * len(positions.nodes)
-        self.present = 0
-        self.absent = 0
-        # denied edges and edges with the levels at which they were asserted first, and nodes with the level of what says
-        # first whether they are there
-        self.denied: dict[tuple[int, int], int] = {}
-        self.edges: dict[tuple[int, int], int] = {}
-        self.told: dict[int, int] = {}
+        self.order = Order(len(positions.nodes))
+        # the levels at which literals were asserted first, and at which the choices were that are not split yet
+        self.levels: dict[Leaf, int] = {}
         self.pending: dict[Signed, int] = {}
 
     def copy(self) -> "Branch":
-        """A branch that begins with all of this one."""
-        other = Branch(self.positions, self.version)
-        other.alternatives = self.alternatives
-        other.after, other.before = self.after[:], self.before[:]
-        other.present, other.absent = self.present, self.absent
-        other.denied, other.edges, other.told = dict(self.denied), dict(self.edges), dict(self.told)
-        other.pending = dict(self.pending)
+        other = copy(self)
+        other.order, other.levels, other.pending = self.order.copy(), dict(self.levels), dict(self.pending)
         return other
 
-    def graph(self) -> Graph:
-        """The world of the asserted literals."""
-        nodes = [k for k in range(len(self.after)) if self.present >> k & 1]
-        return Graph(nodes, list(self.edges))
-
-    def sides(self, choice: Signed) -> tuple[list[Signed], list[Signed]]:
-        """What the left and the right side of a split assert, in this order."""
-        position, is_denied = choice
-        row = self.positions.rows[position]
-        assert isinstance(row, Inner)
-        not_left = [(row.left, not is_denied)] if self.version == 2 else []
-        return [(row.left, is_denied)], [*not_left, (row.right, is_denied)]
+    @property
+    def edges(self) -> list[tuple[int, int]]:
+        """The asserted edges in the order of first assertion."""
+        return [(leaf.start, leaf.end) for leaf in self.levels if leaf.wanted and leaf.end is not None]
 
     def assert_side(self, side: list[Signed], level: int) -> Clash | None:
         """Asserts all that these positions assert, in preorder, at this level, up to the first clash."""
-        waiting = side[::-1]
-        while waiting:
-            here, is_denied = waiting.pop()
-            row = self.positions.rows[here]
-            if isinstance(row, Leaf):
-                clash = self.assert_literal(Leaf(row.start, row.end, row.wanted is not is_denied), level)
-                if clash is not None:
-                    return clash
-            elif row.is_disjunction is not is_denied:
-                self.pending[here, is_denied] = level
-            else:
-                waiting += [(row.right, is_denied), (row.left, is_denied)]
-        return None
-
-    def assert_literal(self, leaf: Leaf, level: int) -> Clash | None:
-        """Asserts a literal, where it does not clash."""
-        if leaf.end is None:
-            return self.assert_node(leaf, level)
-        clash = self.clash_of_edge(leaf.start, leaf.end, leaf.wanted)
-        if clash is None and leaf.wanted:
-            self.join(leaf.start, leaf.end, level)
-        elif clash is None:
-            self.denied.setdefault((leaf.start, leaf.end), level)
-        return clash
-
-    def assert_node(self, leaf: Leaf, level: int) -> Clash | None:
-        """Asserts that a node is there, or that it is not."""
-        against = self.absent if leaf.wanted else self.present
-        if against >> leaf.start & 1:
-            return Clash("absent", [leaf.start])
-        self.told.setdefault(leaf.start, level)
-        if leaf.wanted:
-            self.present |= 1 << leaf.start
-        else:
-            self.absent |= 1 << leaf.start
-        return None
-
-    def clash_of_edge(self, start: int, end: int, wanted: bool) -> Clash | None:
-        """The first of the clashes of an edge, or the one of a denied edge."""
-        if not wanted:
-            is_joined = self.after[start] >> end & 1
-            return Clash("path", self.chain(start, end)) if is_joined else None
-        for node in (start, end):
-            if self.absent >> node & 1:
-                return Clash("absent", [node])
-        if start == end or self.after[end] >> start & 1:
-            return Clash("cycle", self.chain(end, start))
-        earlier, later = self.before[start] | 1 << start, self.after[end] | 1 << end
-        for first, last in self.denied:
-            if earlier >> first & 1 and later >> last & 1:
-                return Clash("path", self.chain(first, start) + self.chain(end, last))
+        for part in self.positions.asserted(*side):
+            if not isinstance(part, Leaf):
+                self.pending[part] = level
+                continue
+            found = self.order.ends_of_clash(part)
+            if found is not None:
+                word, ends = found
+                return Clash(word, [node for start, end in ends for node in self.chain(start, end)])
+            self.order.add(part)
+            for fact in (part, *part.implied):
+                self.levels.setdefault(fact, level)
         return None
 
     def levels_of(self, clash: Clash) -> set[int]:
         """The levels of the literals that clash, but for that of the one that was not asserted."""
-        if clash.word == "absent":
-            return {self.told[clash.nodes[0]]} if clash.nodes[0] in self.told else set()
-        chain = list(zip(clash.nodes, clash.nodes[1:]))
-        ends = clash.nodes[0], clash.nodes[-1]
-        if clash.word == "path":
-            return {self.edges[edge] for edge in chain if edge in self.edges} | {self.denied.get(ends, 0)}
-        return {self.edges[edge] for edge in [*chain, ends[::-1]] if edge in self.edges}
-
-    def join(self, start: int, end: int, level: int) -> None:
-        """Puts the end, and all after it, after the start and all before it."""
-        self.edges.setdefault((start, end), level)
-        self.told.setdefault(start, level)
-        self.told.setdefault(end, level)
-        self.present |= 1 << start | 1 << end
-        earlier, later = self.before[start] | 1 << start, self.after[end] | 1 << end
-        for node in range(len(self.after)):
-            if earlier >> node & 1:
-                self.after[node] |= later
-            if later >> node & 1:
-                self.before[node] |= earlier
+        return {self.levels[literal] for literal in clash.literals if literal in self.levels}
 
     def chain(self, start: int, end: int) -> list[int]:
         """The shortest chain of edges that rule 2 takes; one node where both ends are one."""
+        edges = self.edges
         distance = {end: 0}
         waiting = [end]
         for here in waiting:
-            for first, last in self.edges:
+            for first, last in edges:
                 if last == here and first not in distance:
                     distance[first] = distance[here] + 1
                     waiting.append(first)
         chain = [start]
         while chain[-1] != end:
             nearer = distance[chain[-1]] - 1
-            chain.append(min(b for a, b in self.edges if a == chain[-1] and distance.get(b) == nearer))
+            chain.append(min(b for a, b in edges if a == chain[-1] and distance.get(b) == nearer))
         return chain
 
     def is_true(self, position: int) -> bool:
@@ -219,28 +135,12 @@ class Branch:
             if self.is_true(row.left) is row.is_disjunction:
                 return row.is_disjunction
             row = self.positions.rows[row.right]
-        if row.end is None:
-            return bool(self.present >> row.start & 1) is row.wanted
-        return bool(self.after[row.start] >> row.end & 1) is row.wanted
-
-    def would_clash(self, leaf: Leaf) -> bool:
-        """Whether a literal would close the branch."""
-        if leaf.end is None:
-            return bool((self.absent if leaf.wanted else self.present) >> leaf.start & 1)
-        if not leaf.wanted:
-            return bool(self.after[leaf.start] >> leaf.end & 1)
-        if self.comes_to(leaf.end, leaf.start) or self.absent & (1 << leaf.start | 1 << leaf.end):
-            return True
-        return any(self.comes_to(first, leaf.start) and self.comes_to(leaf.end, last) for first, last in self.denied)
-
-    def comes_to(self, start: int, end: int) -> bool:
-        """Whether both nodes are one, or a chain leads from the first to the second."""
-        return start == end or bool(self.after[start] >> end & 1)
+        return self.order.is_true(row)
 
     def is_closed(self, side: list[Signed], has_failed: bool) -> bool:
         """Whether a side is closed at once."""
         if has_failed:
-            return any(self.alternatives.is_closed(self, place) for place in side)
+            return any(self.alternatives.is_closed(self.order, place) for place in side)
         return self.copy().assert_side(side, 0) is not None
 
     def is_candidate(self, choice: Signed) -> bool:
@@ -254,7 +154,7 @@ class Branch:
         candidates = [choice for choice in sorted(self.pending) if self.is_candidate(choice)]
         one_sided = None
         for choice in candidates:
-            closed = [self.is_closed(side, failures.count > 0) for side in self.sides(choice)]
+            closed = [self.is_closed(side, failures.count > 0) for side in self.positions.sides(choice, self.version)]
             if all(closed) or (self.version == 1 and any(closed)):
                 return choice
             if any(closed) and one_sided is None:
@@ -265,7 +165,8 @@ class Branch:
 
     def choice_by_failures(self, candidates: list[Signed], failures: Failures) -> Signed:
         """Which of the candidates is split, none of which has a closed side, where something has failed."""
-        forced = self.alternatives.forced(self, candidates)
+        forced = self.alternatives.forced(self.order, candidates)
         if forced is not None:
             return forced
-        return min(failures.newest(candidates), key=lambda it: (self.alternatives.open_count(self, it), -failures.number(it)))
+        newest = failures.newest(candidates)
+        return min(newest, key=lambda it: (self.alternatives.open_count(self.order, it), -failures.number(it)))

@@ -1,5 +1,5 @@
 """Tokens to what a litmus test says, by docs/tests.md."""
-from dataclasses import dataclass, field
+from dataclasses import dataclass, field, replace
 
 from tools.second.tokens import Fault, Reader, Token, tokens
 
@@ -98,10 +98,7 @@ class Case:
 
     def find(self, g: int, n: int) -> int | None:
         """The place of a micro-op, where the test has it so far."""
-        for k, op in enumerate(self.ops):
-            if (op.g, op.n) == (g, n):
-                return k
-        return None
+        return next((place for place, op in enumerate(self.ops) if (op.g, op.n) == (g, n)), None)
 
 
 def read_case(data: bytes) -> Case:
@@ -112,26 +109,22 @@ def read_case(data: bytes) -> Case:
 def read_items(data: bytes, takes_open: bool = False) -> "tuple[Case, list[Item]]":
     """The case, with its items as they are written. The whole grammar is judged before any item. A pattern takes open
     reads, too."""
-    reader = CaseReader(tokens(data), takes_open)
-    title, items = reader.items()
+    title, items = CaseReader(tokens(data), takes_open).items()
+    return case_of(title, items), items
+
+
+def case_of(title: str, items: "list[Item]") -> Case:
+    """The case that these items say, each of which is judged by those before it."""
     case = Case(title)
     for item in items:
         item.add_to(case)
-    return case, items
+    return case
 
 
-@dataclass(frozen=True)
-class MarkAt:
-    """A mark of an entry, with its place."""
-
-    mark: int
-    at: int
-
-
-def judge_marks(marks: tuple[MarkAt, ...]) -> None:
+def judge_marks(marks: tuple[Token, ...]) -> None:
     """The marks of an item are 0 or 1, the accessed one first. It is the last that is asked of the item."""
     for mark in marks:
-        if mark.mark > GREATEST_MARK:
+        if mark.value > GREATEST_MARK:
             raise Fault("mark-value", mark.at)
 
 
@@ -148,7 +141,7 @@ class OpItem:
     types_at: tuple[tuple[str, int], ...] = ()
     pa_at: int = 0
     value_at: int = 0
-    marks: tuple[MarkAt, ...] = ()
+    marks: tuple[Token, ...] = ()
     # whether a pattern leaves the value open; it is 0 then
     is_open: bool = False
 
@@ -171,19 +164,19 @@ class OpItem:
 
 @dataclass(frozen=True)
 class DependencyItem:
-    """A `Relationship`; each end is g, n and the place of g."""
+    """A `Relationship`; `at` is the place of its kind, and each end is g and n."""
 
     kind: str
-    ends: tuple[tuple[int, int, int], tuple[int, int, int]]
-    at: int = 0
+    at: int
+    ends: tuple[list[Token], list[Token]]
 
     def add_to(self, case: Case) -> None:
         """Judges the ends, the first one first."""
         found = []
-        for g, n, at in self.ends:
-            op = case.find(g, n)
+        for g, n in self.ends:
+            op = case.find(g.value, n.value)
             if op is None:
-                raise Fault("op-unknown", at)
+                raise Fault("op-unknown", g.at)
             found.append(op)
         case.dependencies.add((self.kind, found[0], found[1]))
 
@@ -196,7 +189,7 @@ class ValueItem:
     at: int
     pa: Address
     value: Value
-    marks: tuple[MarkAt, ...] = ()
+    marks: tuple[Token, ...] = ()
 
     def add_to(self, case: Case) -> None:
         """A second value at one address is a fault."""
@@ -209,8 +202,6 @@ class ValueItem:
 
 @dataclass(frozen=True)
 class ExpectationItem:
-    """`Permitted` or `Forbidden`."""
-
     word: str
     at: int
 
@@ -233,10 +224,15 @@ class CaseReader(Reader):
         super().__init__(all_tokens)
         self.takes_open = takes_open
         self.has_entries = False
+        # the words of physical addresses and of values
+        self.physical: tuple[str, ...] = ("PA",)
+        self.kinds: tuple[str, ...] = ("Data",)
 
     def items(self) -> tuple[str, list[Item]]:
         """The title and the items of the whole file."""
         self.has_entries = self.expect("Litmus", "Litmus2").piece == "Litmus2"
+        if self.has_entries:
+            self.physical, self.kinds = ("PA", "Entry"), ("Data", "Maps")
         title = self.expect_kind("text").content
         self.expect(".")
         found = []
@@ -252,95 +248,67 @@ class CaseReader(Reader):
             return self.microop(first)
         if first.piece == "Relationship":
             kind = self.expect_kind("name")
-            start = self.op_name()
+            start = self.numbers(2)
             self.expect("->")
-            return DependencyItem(kind.piece, (start, self.op_name()), kind.at)
+            return DependencyItem(kind.piece, kind.at, (start, self.numbers(2)))
         if first.piece in ("Init", "Final"):
-            address = self.address()
-            if self.has_entries and self.sees("("):
-                self.take()
+            address = self.address(*self.physical)
+            if self.has_entries and self.passes("("):
                 self.expect("Maps")
-                entry, marks = self.entry()
-                return ValueItem(first.piece, first.at, address, entry, marks)
+                return ValueItem(first.piece, first.at, address, *self.entry())
             return ValueItem(first.piece, first.at, address, self.number())
         return ExpectationItem(first.piece, first.at)
 
-    def op_name(self) -> tuple[int, int, int]:
-        """g, n and the place of g."""
-        at = self.next.at
-        g = self.number()
-        return g, self.number(), at
+    def numbers(self, count: int) -> list[Token]:
+        """So many numbers."""
+        return [self.expect_kind("number") for _ in range(count)]
 
-    def page(self, word: str) -> Page:
-        """A page after its word, in brackets."""
+    def address(self, *words: str) -> Address:
+        """An address after one of these words, in brackets."""
         self.expect("(")
-        self.expect(word)
-        tag = self.number()
-        index = self.number()
-        self.expect(")")
-        return Page(tag, index)
-
-    def address(self) -> Address:
-        """A physical address, in brackets."""
-        self.expect("(")
-        word = self.expect("PA", "Entry") if self.has_entries else self.expect("PA")
+        word = self.expect(*words)
         tag = self.number()
         address: Address = EntryAddress(tag) if word.piece == "Entry" else Page(tag, self.number())
         self.expect(")")
         return address
 
-    def entry(self) -> tuple[Entry, tuple[MarkAt, ...]]:
-        """An entry after its word, up to its bracket, and its marks with their places."""
-        tag = self.number()
-        marks = []
-        for _ in range(2):
-            at = self.next.at
-            marks.append(MarkAt(self.number(), at))
+    def entry(self) -> tuple[Entry, tuple[Token, ...]]:
+        """An entry after its word, up to its bracket, and its marks."""
+        tag, accessed, dirty = self.numbers(3)
         self.expect(")")
-        return Entry(tag, marks[0].mark, marks[1].mark), tuple(marks)
-
-    def types(self) -> tuple[tuple[str, int], ...]:
-        """All names that follow, with their places."""
-        found = []
-        while self.sees_kind("name"):
-            token = self.take()
-            found.append((token.piece, token.at))
-        return tuple(found)
+        return Entry(tag.value, accessed.value, dirty.value), (accessed, dirty)
 
     def microop(self, first: Token) -> OpItem:
         """A micro-op, after its first word."""
-        g_at = self.next.at
-        g = self.number()
-        core_at = self.next.at
-        core = self.number()
-        thread_at = self.next.at
-        thread = self.number()
-        n = self.number()
+        g, core, thread, n = self.numbers(4)
         self.expect("(")
         access = self.expect("Read", "Write", "Fence").piece
-        types_at = self.types()
-        types = frozenset(name for name, _ in types_at)
-        pa_at = value_at = 0
-        is_open = False
-        marks: tuple[MarkAt, ...] = ()
-        if access == "Fence":
-            op = Op(g, n, core, thread, access, types)
-        else:
-            va = self.page("VA")
-            pa_at = self.next.at
-            pa = self.address()
-            self.expect("(")
-            word = self.expect("Data", "Maps") if self.has_entries else self.expect("Data")
-            value_at = self.next.at
-            value: Value
-            if word.piece == "Maps":
-                value, marks = self.entry()
-            else:
-                is_open = self.takes_open and access == "Read" and self.sees(OPEN)
-                value = 0 if is_open else self.number()
-                if is_open:
-                    self.take()
-                self.expect(")")
-            op = Op(g, n, core, thread, access, types, va, pa, value)
+        types = []
+        while self.sees_kind("name"):
+            types.append(self.take())
+        op = Op(g.value, n.value, core.value, thread.value, access, frozenset(it.piece for it in types))
+        item = OpItem(op, first.at, g.at, core.at, thread.at, tuple((it.piece, it.at) for it in types))
+        if access != "Fence":
+            item = self.with_access(item)
         self.expect(")")
-        return OpItem(op, first.at, g_at, core_at, thread_at, types_at, pa_at, value_at, marks, is_open)
+        return item
+
+    def with_access(self, item: OpItem) -> OpItem:
+        """A read or a write with its addresses and its value, which come next."""
+        va = self.address("VA")
+        pa_at = self.next.at
+        pa = self.address(*self.physical)
+        assert isinstance(va, Page)
+        self.expect("(")
+        is_entry = self.expect(*self.kinds).piece == "Maps"
+        value_at = self.next.at
+        is_open = not is_entry and self.takes_open and item.op.access == "Read" and self.passes(OPEN)
+        value: Value = 0
+        marks: tuple[Token, ...] = ()
+        if is_entry:
+            value, marks = self.entry()
+        else:
+            value = 0 if is_open else self.number()
+            self.expect(")")
+        op = replace(item.op, va=va, pa=pa, value=value)
+        return replace(item, op=op, pa_at=pa_at, value_at=value_at, marks=marks, is_open=is_open)

@@ -6,28 +6,17 @@ where two literals would clash together: two of its own, or one of its own and o
 that it asserts.
 """
 from dataclasses import dataclass
-from typing import Protocol
 
-from tools.second.judging import Signed
-from tools.second.positions import Inner, Leaf, Positions
-
-
-class World(Protocol):
-    """What is asserted on a branch."""
-
-    def would_clash(self, leaf: Leaf) -> bool:
-        """Whether the branch is closed where it asserts this literal, too."""
-
-    def comes_to(self, start: int, end: int) -> bool:
-        """Whether both nodes are one, or a chain of asserted edges leads from the first to the second."""
+from tools.second.orders import Order
+from tools.second.positions import Inner, Leaf, Positions, Signed
 
 
 @dataclass
 class Parts:
-    """What a position asserts: the literals in preorder, and the disjunctions."""
+    """What a position asserts: the literals in preorder, and the choices."""
 
     literals: list[Leaf]
-    disjunctions: list[Signed]
+    choices: list[Signed]
 
 
 class Alternatives:
@@ -40,17 +29,9 @@ class Alternatives:
     def parts(self, place: Signed) -> Parts:
         """What the position asserts with this sign."""
         if place not in self.known:
-            found = self.known[place] = Parts([], [])
-            waiting = [place]
-            while waiting:
-                here, is_denied = waiting.pop()
-                row = self.positions.rows[here]
-                if isinstance(row, Leaf):
-                    found.literals.append(Leaf(row.start, row.end, row.wanted is not is_denied))
-                elif row.is_disjunction is not is_denied:
-                    found.disjunctions.append((here, is_denied))
-                else:
-                    waiting += [(row.right, is_denied), (row.left, is_denied)]
+            found = list(self.positions.asserted(place))
+            literals = [part for part in found if isinstance(part, Leaf)]
+            self.known[place] = Parts(literals, [part for part in found if not isinstance(part, Leaf)])
         return self.known[place]
 
     def of(self, choice: Signed) -> list[Signed]:
@@ -65,35 +46,35 @@ class Alternatives:
                 found.append((here, is_denied))
         return found
 
-    def is_closed(self, world: World, place: Signed) -> bool:
+    def is_closed(self, order: Order, place: Signed) -> bool:
         """Whether a literal of the position would clash."""
-        return any(map(world.would_clash, self.parts(place).literals))
+        return any(map(order.would_clash, self.parts(place).literals))
 
-    def is_closed_beside(self, world: World, place: Signed, others: list[Leaf]) -> bool:
+    def is_closed_beside(self, order: Order, place: Signed, others: list[Leaf]) -> bool:
         """Whether a literal of the position would clash, by itself or with one of the others."""
         return any(
-            world.would_clash(leaf) or any(clash_together(world, leaf, other) for other in others)
+            order.would_clash(leaf) or any(clash_together(order, leaf, other) for other in others)
             for leaf in self.parts(place).literals
         )
 
-    def is_as_good_as_closed(self, world: World, place: Signed) -> bool:
+    def is_as_good_as_closed(self, order: Order, place: Signed) -> bool:
         """Whether the alternative would close the branch: by its literals, or by a disjunction of closed alternatives."""
         parts = self.parts(place)
-        return self.is_closed_beside(world, place, parts.literals) or any(
-            all(self.is_closed_beside(world, inner, parts.literals) for inner in self.of(choice)) for choice in parts.disjunctions
+        return self.is_closed_beside(order, place, parts.literals) or any(
+            all(self.is_closed_beside(order, inner, parts.literals) for inner in self.of(choice)) for choice in parts.choices
         )
 
-    def forced(self, world: World, choices: list[Signed]) -> Signed | None:
+    def forced(self, order: Order, choices: list[Signed]) -> Signed | None:
         """The first choice each of whose alternatives is as good as closed, or else the first with one that is not."""
-        left = {choice: sum(not self.is_as_good_as_closed(world, place) for place in self.of(choice)) for choice in choices}
+        left = {choice: sum(not self.is_as_good_as_closed(order, place) for place in self.of(choice)) for choice in choices}
         return next((choice for count in (0, 1) for choice in choices if left[choice] == count), None)
 
-    def open_count(self, world: World, choice: Signed) -> int:
+    def open_count(self, order: Order, choice: Signed) -> int:
         """How many alternatives are not closed."""
-        return sum(not self.is_closed(world, place) for place in self.of(choice))
+        return sum(not self.is_closed(order, place) for place in self.of(choice))
 
 
-def clash_together(world: World, one: Leaf, other: Leaf) -> bool:
+def clash_together(order: Order, one: Leaf, other: Leaf) -> bool:
     """Whether two literals, neither of which would clash by itself, would do so together."""
     if one.end is None and other.end is None:
         return one.start == other.start and one.wanted is not other.wanted
@@ -101,14 +82,13 @@ def clash_together(world: World, one: Leaf, other: Leaf) -> bool:
         node, edge = (one, other) if one.end is None else (other, one)
         return edge.wanted and not node.wanted and node.start in (edge.start, edge.end)
     if one.wanted and other.wanted:
-        return edges_clash(world, one.start, one.end, other.start, other.end) or edges_clash(
-            world, other.start, other.end, one.start, one.end
-        )
+        is_first = edges_clash(order, one.start, one.end, other.start, other.end)
+        return is_first or edges_clash(order, other.start, other.end, one.start, one.end)
     edge, denied = (one, other) if one.wanted else (other, one)
     assert edge.end is not None and denied.end is not None
-    return edge.wanted and world.comes_to(denied.start, edge.start) and world.comes_to(edge.end, denied.end)
+    return edge.wanted and order.comes_to(denied.start, edge.start) and order.comes_to(edge.end, denied.end)
 
 
-def edges_clash(world: World, start: int, end: int, later_start: int, later_end: int) -> bool:
+def edges_clash(order: Order, start: int, end: int, later_start: int, later_end: int) -> bool:
     """Whether the end of an edge comes to the start of a later one, and an edge over both would clash."""
-    return world.comes_to(end, later_start) and world.would_clash(Leaf(start, later_end, True))
+    return order.comes_to(end, later_start) and order.would_clash(Leaf(start, later_end, True))

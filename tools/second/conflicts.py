@@ -11,7 +11,7 @@ side is searched by the splits that were needed on the left, in the same order.
 from dataclasses import dataclass, field
 from typing import Sequence
 
-from tools.second.judging import Signed
+from tools.second.positions import Signed
 
 PERIOD = 64
 NO_RECORD = 0, 0

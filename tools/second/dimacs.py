@@ -7,29 +7,24 @@ place of the tree has a variable that implies its members (Tseitin's transformat
 alone, so that one direction is enough).
 """
 from itertools import permutations
-from typing import TextIO
 
-from tools.second.grounding import Conjunction, Disjunction, Literal, Node, Tree, nodes_of
+from tools.second.grounding import Conjunction, Literal, Tree, nodes_of
+from tools.second.meaning import Node
 
 
 class Clauses:
-    """Clauses over numbered variables."""
+    """Clauses over numbered variables: those that say that the pairs are a strict order on the nodes, and more."""
 
     def __init__(self, nodes: list[Node]) -> None:
+        self.presence = {node: k for k, node in enumerate(nodes, 1)}
+        self.pair = {pair: k for k, pair in enumerate(permutations(nodes, 2), len(nodes) + 1)}
+        self.variables = len(self.presence) + len(self.pair)
         self.clauses: list[list[int]] = []
-        self.presence = {node: k + 1 for k, node in enumerate(nodes)}
-        pairs = list(permutations(nodes, 2))
-        self.pair = {pair: k + 1 + len(nodes) for k, pair in enumerate(pairs)}
-        self.variables = len(nodes) + len(pairs)
-
-    def add_order(self) -> None:
-        """The pairs that hold are a strict order on the nodes that are there."""
         for (a, b), variable in self.pair.items():
-            self.clauses.append([-variable, self.presence[a]])
-            self.clauses.append([-variable, self.presence[b]])
+            self.clauses += [[-variable, self.presence[a]], [-variable, self.presence[b]]]
             if a < b:
                 self.clauses.append([-variable, -self.pair[b, a]])
-        for a, b, c in permutations(self.presence, 3):
+        for a, b, c in permutations(nodes, 3):
             self.clauses.append([-self.pair[a, b], -self.pair[b, c], self.pair[a, c]])
 
     def new_variable(self) -> int:
@@ -48,32 +43,24 @@ class Clauses:
         if isinstance(tree, bool):
             return self.truth() if tree else -self.truth()
         if isinstance(tree, Literal):
-            return self.literal_of_atom(tree)
+            return self.atom(tree) if tree.wanted else -self.atom(tree)
         below = [self.literal_of(member) for member in tree.members]
         variable = self.new_variable()
         if isinstance(tree, Conjunction):
-            self.clauses.extend([-variable, member] for member in below)
+            self.clauses += [[-variable, member] for member in below]
         else:
             self.clauses.append([-variable, *below])
         return variable
 
-    def literal_of_atom(self, atom: Literal) -> int:
-        """The literal of a node or an edge. An edge from a node to itself is never there."""
-        if atom.end is None:
-            variable = self.presence[atom.start]
-        elif atom.start == atom.end:
-            variable = -self.truth()
-        else:
-            variable = self.pair[atom.start, atom.end]
-        return variable if atom.wanted else -variable
+    def atom(self, literal: Literal) -> int:
+        """A literal that says that a node or an edge is there. An edge from a node to itself is never there."""
+        if literal.end is None:
+            return self.presence[literal.start]
+        return -self.truth() if literal.start == literal.end else self.pair[literal.start, literal.end]
 
 
-def write_dimacs(tree: Tree, out: TextIO) -> None:
-    """Writes the question."""
+def dimacs(tree: Tree) -> str:
     clauses = Clauses(nodes_of(tree))
-    clauses.add_order()
     clauses.clauses.append([clauses.literal_of(tree)])
-    out.write("c satisfiable exactly where the outcome is observable\n")
-    out.write(f"p cnf {clauses.variables} {len(clauses.clauses)}\n")
-    for clause in clauses.clauses:
-        out.write(" ".join(map(str, clause)) + " 0\n")
+    head = f"c satisfiable exactly where the outcome is observable\np cnf {clauses.variables} {len(clauses.clauses)}\n"
+    return head + "".join(f"{' '.join(map(str, clause))} 0\n" for clause in clauses.clauses)

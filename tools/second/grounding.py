@@ -1,20 +1,16 @@
 """The axioms over one test as one tree of literals over nodes.
 
 Quantifiers and macros are gone, predicates are answered, constants are folded, and negations stand at literals
-alone. The tree comes in two shapes. `ground` gives conjunctions and disjunctions of many members, which is what the
-search here wants. `ground_nested` gives them two members each, as the positions of a refutation count them.
+alone. The tree comes in two shapes: joined, with conjunctions and disjunctions of many members, which is what the search
+here wants; and nested, with two members each, as the positions of a refutation count them.
 """
 from dataclasses import dataclass
 from typing import Callable, Iterator, Union
 
 from tools.second.cases import Case
 from tools.second.guards import Guards
-from tools.second.models import Arg, Binary, Edges, Expand, Formula, Model, NodeTerm, Nodes, Not, Number, Quantified, Static
-from tools.second.models import Word
-from tools.second.predicates import PLAIN, PREDICATES
-
-# a micro-op by its place in test order, a core, a stage number
-Node = tuple[int, int, int]
+from tools.second.meaning import Environment, Meaning, Node, holds
+from tools.second.models import Binary, Edges, Expand, Formula, Model, Nodes, Not, Quantified, Static
 
 
 @dataclass(frozen=True)
@@ -41,22 +37,13 @@ class Disjunction:
 
 
 Tree = Union[bool, Literal, Conjunction, Disjunction]
-# names to micro-ops and cores, both numbers: names were judged before, so no sort is mistaken
-Environment = dict[str, int]
-
-
 # makes one tree of members, a conjunction or not
-Join = Callable[[bool, list["Tree"]], "Tree"]
+Join = Callable[[bool, list[Tree]], Tree]
 
 
 def ground(model: Model, case: Case) -> Tree:
-    """The tree of all axioms over this test."""
+    """The joined tree of all axioms over this test."""
     return Grounder(model, case, joined).axioms()
-
-
-def ground_nested(model: Model, case: Case) -> Tree:
-    """The same with two members everywhere, nested to the right."""
-    return Grounder(model, case, nested).axioms()
 
 
 def joined(conjunction: bool, members: list[Tree]) -> Tree:
@@ -90,19 +77,13 @@ def nested(conjunction: bool, members: list[Tree]) -> Tree:
     return tree
 
 
-class Grounder:
-    """Grounds formulas of one model over one case."""
-
+class Grounder(Meaning):
     def __init__(self, model: Model, case: Case, join: Join) -> None:
+        super().__init__(model, case)
         self.join = join
-        self.model = model
-        self.case = case
-        self.macros = model.macros
         self.guards = Guards()
-        self.stages = {stage.name.name: stage.number.value for stage in model.stages}
 
     def axioms(self) -> Tree:
-        """The tree of all axioms."""
         return self.join(True, [self.tree(axiom.body, {}, True) for axiom in self.model.axioms])
 
     def tree(self, formula: Formula, env: Environment, wanted: bool) -> Tree:
@@ -114,10 +95,7 @@ class Grounder:
         if isinstance(formula, Quantified):
             return self.quantified(formula, env, wanted)
         if isinstance(formula, Expand):
-            macro = self.macros[formula.macro.name]
-            values = [value(arg, env) for arg in formula.args]
-            names = [parameter.name for parameter in macro.parameters]
-            return self.tree(macro.body, {**env, **dict(zip(names, values))}, wanted)
+            return self.tree(*self.body_of(formula, env), wanted)
         if isinstance(formula, Static):
             return holds(self.case, formula, env) is wanted
         return self.join(wanted, [Literal(*ends, wanted) for ends in self.atoms(formula, env)])
@@ -138,7 +116,7 @@ class Grounder:
     def open_values(self, formula: Quantified, env: Environment) -> Iterator[Environment]:
         """The values of the variable with which no guard makes the body the constant that changes nothing."""
         guards = self.guards.of(formula)
-        for number in range(len(self.case.ops)) if formula.over_microops else self.case.cores:
+        for number in self.values(formula):
             inside = {**env, formula.name: number}
             if not any(holds(self.case, guard.predicate, inside) is guard.value for guard in guards):
                 yield inside
@@ -149,41 +127,11 @@ class Grounder:
             return [(self.node(term, env), None) for term in formula.members]
         return [(self.node(term.start, env), self.node(term.end, env)) for term in formula.members]
 
-    def node(self, term: NodeTerm, env: Environment) -> Node:
-        """The node that a term names; without a core it is that of the micro-op."""
-        op = env[term.op.name]
-        core = self.case.ops[op].core if term.core is None else value(term.core, env)
-        return op, core, self.stages[term.stage.name]
-
-
-def holds(case: Case, formula: Static, env: Environment) -> bool:
-    """Whether a predicate of the table holds in a case."""
-    takes, row = PREDICATES[formula.predicate.name]
-    args = [
-        arg.name if kind == PLAIN and isinstance(arg, Word) else value(arg, env) for kind, arg in zip(takes, formula.args)
-    ]
-    return row(case, *args)
-
-
-def value(arg: Arg, env: Environment) -> int:
-    """What an argument stands for."""
-    return arg.value if isinstance(arg, Number) else env[arg.name]
-
 
 def nodes_of(tree: Tree) -> list[Node]:
     """The nodes of a tree in the order of first sight."""
-    found: dict[Node, None] = {}
-    for literal in literals_of(tree):
-        found.setdefault(literal.start)
-        if literal.end is not None:
-            found.setdefault(literal.end)
-    return list(found)
-
-
-def literals_of(tree: Tree) -> Iterator[Literal]:
-    """The literals of a tree from left to right."""
+    if isinstance(tree, bool):
+        return []
     if isinstance(tree, Literal):
-        yield tree
-    elif isinstance(tree, (Conjunction, Disjunction)):
-        for member in tree.members:
-            yield from literals_of(member)
+        return [tree.start] if tree.end is None else [tree.start, tree.end]
+    return list(dict.fromkeys(node for member in tree.members for node in nodes_of(member)))

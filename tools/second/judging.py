@@ -12,15 +12,12 @@ from typing import Callable
 
 from tools.second.cases import Case
 from tools.second.evaluating import false_axioms
-from tools.second.grounding import Node
+from tools.second.meaning import Node
 from tools.second.models import Model
-from tools.second.positions import Inner, Leaf, NodeNames, Positions, is_decimal
+from tools.second.positions import Clash, Leaf, NodeNames, Positions, Signed, is_decimal
 
 LIMIT = 67_108_864
 VERSION_2 = "version 2"
-
-# a position, and whether it is denied
-Signed = tuple[int, bool]
 
 
 class Refused(Exception):
@@ -30,20 +27,24 @@ class Refused(Exception):
         super().__init__(f"certificate refused at line {line}")
 
 
-def judge(model: Model, case: Case, second_lines: dict[bool, str], data: bytes, takes_version_2: bool = True) -> bool:
+def second_line(is_observable: bool, case: Case) -> str:
+    """How a verdict compares with what the test states."""
+    if case.expectation == "unstated":
+        return "test unstated"
+    if case.expectation == "permitted":
+        return "test permitted: ok" if is_observable else "test permitted: stricter"
+    return "test forbidden: BUG" if is_observable else "test forbidden: ok"
+
+
+def judge(model: Model, case: Case, data: bytes, takes_version_2: bool = True) -> bool:
     """Whether the certificate is of an observable outcome; Refused where it is none."""
     whole, rest = lines_of(data)
-    verdict = whole[0] if whole else ""
-    if verdict not in ("observable", "unobservable"):
-        raise Refused(1)
-    is_observable = verdict == "observable"
-    if len(whole) < 2 or whole[1] != second_lines[is_observable]:
-        raise Refused(2)
-    has_signs = takes_version_2 and not is_observable and whole[2:3] == [VERSION_2]
-    header = 3 if has_signs else 2
+    is_observable = whole[:1] == ["observable"]
+    judge_header(whole, ["observable" if is_observable else "unobservable", second_line(is_observable, case)])
+    version = 2 if takes_version_2 and not is_observable and whole[2:3] == [VERSION_2] else 1
     judge_line: GraphJudge | TreeJudge
-    judge_line = GraphJudge(model, case) if is_observable else TreeJudge(model, case, has_signs)
-    judge_body(whole, rest, header, judge_line.accepts)
+    judge_line = GraphJudge(model, case) if is_observable else TreeJudge(model, case, version)
+    judge_body(whole, rest, 1 + version, judge_line.accepts)
     return is_observable
 
 
@@ -53,6 +54,13 @@ def lines_of(data: bytes) -> tuple[list[str], str]:
         raise Refused(0)
     lines = data.decode("latin-1").split("\n")
     return lines[:-1], lines[-1]
+
+
+def judge_header(whole: list[str], header: list[str]) -> None:
+    """Refused where the first lines are not these."""
+    for number, line in enumerate(header, 1):
+        if whole[number - 1 : number] != [line]:
+            raise Refused(number)
 
 
 def judge_body(whole: list[str], rest: str, header: int, accepts: Callable[[str], bool]) -> None:
@@ -68,8 +76,6 @@ def judge_body(whole: list[str], rest: str, header: int, accepts: Callable[[str]
 
 
 class GraphJudge:
-    """Judges the lines of a graph."""
-
     def __init__(self, model: Model, case: Case) -> None:
         self.model = model
         self.case = case
@@ -94,48 +100,18 @@ class GraphJudge:
         return False
 
 
-class Asserted:
-    """The positions of choices that are asserted on a branch, with their signs, and the literals."""
-
-    def __init__(self) -> None:
-        self.choices: set[Signed] = set()
-        self.literals: set[tuple[Node, Node | None, bool]] = set()
-
-    def below(self, positions: Positions, *more: Signed) -> "Asserted":
-        """This branch with more positions asserted."""
-        other = Asserted()
-        other.choices, other.literals = set(self.choices), set(self.literals)
-        waiting = list(more)
-        while waiting:
-            here, is_denied = waiting.pop()
-            row = positions.rows[here]
-            if isinstance(row, Leaf):
-                end = None if row.end is None else positions.nodes[row.end]
-                other.literals.add((positions.nodes[row.start], end, row.wanted is not is_denied))
-            elif row.is_disjunction is not is_denied:
-                other.choices.add((here, is_denied))
-            else:
-                waiting += [(row.left, is_denied), (row.right, is_denied)]
-        return other
-
-    def has_chain(self, nodes: list[Node]) -> bool:
-        """Whether each node has an asserted edge to the next."""
-        return all((a, b, True) in self.literals for a, b in zip(nodes, nodes[1:]))
-
-    def has_node(self, node: Node) -> bool:
-        """Whether the node is asserted, or is an end of an asserted edge."""
-        return any(wanted and node in (start, end) for start, end, wanted in self.literals)
+# the literals and the choices that are asserted on a branch
+Branch = set[Leaf | Signed]
 
 
 class TreeJudge:
     """Judges the steps of a refutation. The open branches stand in a list, the present one last."""
 
-    def __init__(self, model: Model, case: Case, has_signs: bool) -> None:
-        self.has_signs = has_signs
+    def __init__(self, model: Model, case: Case, version: int) -> None:
+        self.version = version
         self.positions = Positions(model, case)
-        self.names = NodeNames(model, case)
-        has_root = self.positions.constant is None
-        self.open = [Asserted().below(self.positions, (0, False)) if has_root else Asserted()]
+        self.numbers = {word: number for number, word in enumerate(self.positions.words)}
+        self.open = [self.below(set(), [(0, False)] if self.positions.constant is None else [])]
 
     def accepts(self, line: str) -> bool:
         """Whether the step is right on the present branch; `end` where none is open."""
@@ -147,29 +123,22 @@ class TreeJudge:
             return len(rest) == 1 and self.splits(branch, rest[0])
         if word == "false":
             return not rest and self.positions.constant is False
-        nodes = [node for node in map(self.names.read, rest) if node is not None]
-        return len(nodes) == len(rest) and self.closes(branch, word, nodes)
-
-    def splits(self, branch: Asserted, word: str) -> bool:
-        """Opens both sides of an asserted choice, the left one first."""
-        is_denied = self.has_signs and word.startswith("~")
-        digits = word[1:] if is_denied else word
-        if not is_decimal(digits) or (int(digits), is_denied) not in branch.choices:
+        is_clash = {"cycle": len(rest) >= 1, "path": len(rest) >= 2, "absent": len(rest) == 1}.get(word, False)
+        if not is_clash or not all(it in self.numbers for it in rest):
             return False
-        row = self.positions.rows[int(digits)]
-        assert isinstance(row, Inner)
-        left, right = (row.left, is_denied), (row.right, is_denied)
-        not_left = [(row.left, not is_denied)] if self.has_signs else []
-        self.open += [branch.below(self.positions, *not_left, right), branch.below(self.positions, left)]
+        return branch.issuperset(Clash(word, [self.numbers[it] for it in rest]).literals)
+
+    def splits(self, branch: Branch, word: str) -> bool:
+        """Opens both sides of an asserted choice, the left one first."""
+        is_denied = self.version == 2 and word.startswith("~")
+        digits = word[1:] if is_denied else word
+        if not is_decimal(digits) or (int(digits), is_denied) not in branch:
+            return False
+        left, right = self.positions.sides((int(digits), is_denied), self.version)
+        self.open += [self.below(branch, right), self.below(branch, left)]
         return True
 
-    @staticmethod
-    def closes(branch: Asserted, word: str, nodes: list[Node]) -> bool:
-        """Whether a clash is one of the branch."""
-        if word == "cycle" and nodes:
-            return branch.has_chain(nodes + nodes[:1])
-        if word == "path" and len(nodes) >= 2:
-            return branch.has_chain(nodes) and (nodes[0], nodes[-1], False) in branch.literals
-        if word == "absent" and len(nodes) == 1:
-            return (nodes[0], None, False) in branch.literals and branch.has_node(nodes[0])
-        return False
+    def below(self, branch: Branch, side: list[Signed]) -> Branch:
+        """A branch with these positions asserted, too."""
+        facts = set(self.positions.asserted(*side))
+        return branch.union(facts, *(fact.implied for fact in facts if isinstance(fact, Leaf)))

@@ -10,9 +10,9 @@ from dataclasses import dataclass, replace
 from typing import Union
 
 from tools.second.cases import Case
-from tools.second.evaluating import Evaluator, World
 from tools.second.grounding import Literal
-from tools.second.judging import Refused, judge_body, lines_of
+from tools.second.judging import judge_body, judge_header, lines_of, second_line
+from tools.second.meaning import Environment, Meaning, Node, holds
 from tools.second.models import Binary, Edges, Expand, Formula, Model, Nodes, Not, Quantified, Static
 from tools.second.positions import is_decimal
 
@@ -23,11 +23,11 @@ ADDING = {"left": 1, "right": 1, "not": 1, "bind": 1, "inst": 2, "member": 2}
 
 @dataclass(frozen=True)
 class Said:
-    """A formula that holds, or that does not; variables have the values of their innermost, that is last, binding."""
+    """A formula that holds, or that does not."""
 
     holds: bool
     formula: Formula
-    env: list[tuple[str, int]]
+    env: Environment
     start: int = 0
 
 
@@ -35,24 +35,21 @@ class Said:
 Fact = Union[Said, Literal]
 
 
-def judge_lifted(model: Model, case: Case, second_line: str, data: bytes) -> None:
+def judge_lifted(model: Model, case: Case, data: bytes) -> None:
     """Refused where the text is no lifted refutation of the model and the test."""
     whole, rest = lines_of(data)
-    for number, line in enumerate(("unobservable", second_line, LIFTED), 1):
-        if whole[number - 1 : number] != [line]:
-            raise Refused(number)
+    judge_header(whole, ["unobservable", second_line(False, case), LIFTED])
     judge_body(whole, rest, 3, LiftedJudge(model, case).accepts)
 
 
-class LiftedJudge:
+class LiftedJudge(Meaning):
     """Judges the lines of a lifted refutation. The open branches stand in a list, the present one last."""
 
     def __init__(self, model: Model, case: Case) -> None:
-        self.case = case
-        self.macros = model.macros
-        # nodes and predicates are the same in every world, so that an empty one does
-        self.evaluator = Evaluator(model, case, World([], []))
-        self.open: list[list[Fact]] = [[Said(True, axiom.body, []) for axiom in model.axioms]]
+        super().__init__(model, case)
+        self.op_names = [f"{op.g}.{op.n}" for op in case.ops]
+        self.core_names = [str(core) for core in case.cores]
+        self.open: list[list[Fact]] = [[Said(True, axiom.body, {}) for axiom in model.axioms]]
 
     def accepts(self, line: str) -> bool:
         """Whether the line is right on the present branch; `end` where none is open."""
@@ -67,7 +64,8 @@ class LiftedJudge:
             return part is not None
         if word == "split":
             return len(rest) == 1 and self.splits(self.fact(rest[0]))
-        is_closed = self.closes(word, [fact for fact in map(self.fact, rest) if fact is not None], len(rest))
+        facts = [fact for fact in map(self.fact, rest) if fact is not None]
+        is_closed = len(facts) == len(rest) and self.closes(word, facts)
         if is_closed:
             self.open.pop()
         return is_closed
@@ -86,50 +84,37 @@ class LiftedJudge:
                 return Said(False, side, fact.env)
             case "left", False, Binary("=>", side, _):
                 return Said(True, side, fact.env)
-            case "not", holds, Not(operand):
-                return Said(not holds, operand, fact.env)
-            case "bind", holds, Expand(_, name, args):
-                macro = self.macros[name.name]
-                values = [self.evaluator.value(arg, fact.env) for arg in args]
-                bound = [(parameter.name, value) for parameter, value in zip(macro.parameters, values)]
-                return Said(holds, macro.body, fact.env + bound)
-            case "inst", holds, Quantified(universal=universal) as formula if universal is holds:
-                value = self.member_named(formula, which)
-                return None if value is None else self.instance(fact, value)
+            case "not", is_so, Not(operand):
+                return Said(not is_so, operand, fact.env)
+            case "bind", is_so, Expand() as formula:
+                return Said(is_so, *self.body_of(formula, fact.env))
+            case "inst", is_so, Quantified(universal=universal) as formula if universal is is_so:
+                names = self.names(formula)
+                return self.member(fact, names.index(which)) if which in names else None
             case "member", True, (Nodes(members) | Edges(members)):
-                is_there = is_decimal(which) and int(which) < len(members)
-                return self.literal(fact, int(which)) if is_there else None
+                return self.member(fact, int(which)) if is_decimal(which) and int(which) < len(members) else None
         return None
 
-    def member_named(self, formula: Quantified, word: str) -> int | None:
-        """The value of this name in the range: a micro-op by g.n, a core by its number."""
-        numbers = word.split(".")
-        if not all(map(is_decimal, numbers)):
-            return None
-        if formula.over_microops:
-            return self.case.find(int(numbers[0]), int(numbers[1])) if len(numbers) == 2 else None
-        return int(word) if len(numbers) == 1 and int(word) in self.case.cores else None
+    def names(self, formula: Quantified) -> list[str]:
+        """How the values of a variable are named: a micro-op by g.n, a core by its number."""
+        return self.op_names if formula.over_microops else self.core_names
 
-    @staticmethod
-    def instance(fact: Said, value: int) -> Fact:
-        """The body of a quantifier at a value."""
-        assert isinstance(fact.formula, Quantified)
-        return Said(fact.holds, fact.formula.body, fact.env + [(fact.formula.name, value)])
-
-    def literal(self, fact: Said, place: int) -> Fact:
-        """The member of a list at this place."""
-        if isinstance(fact.formula, Nodes):
-            return Literal(self.evaluator.node(fact.formula.members[place], fact.env), None, fact.holds)
-        assert isinstance(fact.formula, Edges)
-        edge = fact.formula.members[place]
-        ends = [self.evaluator.node(term, fact.env) for term in (edge.start, edge.end)]
-        return Literal(ends[0], ends[1], fact.holds)
+    def member(self, fact: Said, place: int) -> Fact:
+        """The body of a quantifier at this value, or the member of a list at this place."""
+        formula, env = fact.formula, fact.env
+        if isinstance(formula, Quantified):
+            return Said(fact.holds, formula.body, {**env, formula.name: place})
+        if isinstance(formula, Nodes):
+            return Literal(self.node(formula.members[place], env), None, fact.holds)
+        assert isinstance(formula, Edges)
+        edge = formula.members[place]
+        return Literal(self.node(edge.start, env), self.node(edge.end, env), fact.holds)
 
     def members(self, fact: Said) -> int | None:
         """How many members there are where the fact is right if it is right of one; None where it says nothing such."""
         match fact.holds, fact.formula:
-            case holds, Quantified(universal=universal, over_microops=over_microops) if universal is not holds:
-                return len(self.case.ops) if over_microops else len(self.case.cores)
+            case is_so, Quantified(universal=universal) as formula if universal is not is_so:
+                return len(self.values(formula))
             case False, (Nodes(members) | Edges(members)):
                 return len(members)
         return None
@@ -146,9 +131,7 @@ class LiftedJudge:
         count = self.members(fact)
         if count is None or fact.start >= count:
             return None
-        is_quantified = isinstance(fact.formula, Quantified)
-        first = self.instance(fact, fact.start) if is_quantified else self.literal(fact, fact.start)
-        return first, replace(fact, start=fact.start + 1)
+        return self.member(fact, fact.start), replace(fact, start=fact.start + 1)
 
     def splits(self, fact: Fact | None) -> bool:
         """Opens the branches of both sides, the left one first."""
@@ -159,37 +142,31 @@ class LiftedJudge:
         self.open += [branch + [sides[1]], branch + [sides[0]]]
         return True
 
-    def closes(self, word: str, facts: list[Fact], count: int) -> bool:
-        """Whether these facts, so many words that all have to name one, are right together in no world."""
-        if not facts or len(facts) != count:
-            return False
-        if word == "false":
-            return count == 1 and isinstance(facts[0], Said) and self.is_false(facts[0])
-        literals = [fact for fact in facts if isinstance(fact, Literal)]
-        if len(literals) != count:
-            return False
-        if word == "cycle":
-            return is_chain(literals) and literals[-1].end == literals[0].start
-        denial = literals[-1 if word == "path" else 0]
-        if denial.wanted or count < 2:
-            return False
-        if word == "path":
-            ends = literals[0].start, literals[-2].end
-            return is_chain(literals[:-1]) and (denial.start, denial.end) == ends
-        if word == "absent":
-            present = literals[1]
-            return count == 2 and denial.end is None and present.wanted and denial.start in (present.start, present.end)
+    def closes(self, word: str, facts: list[Fact]) -> bool:
+        """Whether these facts are right together in no world, as the word says."""
+        match word, facts:
+            case "false", [Said() as fact]:
+                return self.is_false(fact)
+            case "absent", [Literal(node, None, False), Literal(start, end, True)]:
+                return node in (start, end)
+            case "path", [*edges, Literal(start, end, False)]:
+                return ends_of_chain(edges) == (start, end)
+            case "cycle", _:
+                ends = ends_of_chain(facts)
+                return ends is not None and ends[0] == ends[1]
         return False
 
     def is_false(self, fact: Said) -> bool:
         """No member is left of which the fact could be right, or a predicate is otherwise."""
         if isinstance(fact.formula, Static):
-            return self.evaluator.holds(fact.formula, fact.env) is not fact.holds
+            return holds(self.case, fact.formula, fact.env) is not fact.holds
         count = self.members(fact)
         return count is not None and fact.start >= count
 
 
-def is_chain(edges: list[Literal]) -> bool:
-    """Whether all are edges that hold, each of which ends where the next one begins."""
-    joined = all(one.end == other.start for one, other in zip(edges, edges[1:]))
-    return joined and all(edge.wanted and edge.end is not None for edge in edges)
+def ends_of_chain(facts: list[Fact]) -> tuple[Node, Node] | None:
+    """The ends of a chain of edges that hold, each of which ends where the next one begins; None where the facts are none."""
+    edges = [(fact.start, fact.end) for fact in facts if isinstance(fact, Literal) and fact.wanted and fact.end is not None]
+    if not facts or len(edges) != len(facts) or any(one[1] != other[0] for one, other in zip(edges, edges[1:])):
+        return None
+    return edges[0][0], edges[-1][1]

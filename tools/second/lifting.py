@@ -6,16 +6,14 @@ once: a part that is always true is left out, and where one of two sides is fals
 and that side closed. Such a side on the right waits until what stands before it is closed.
 """
 from dataclasses import dataclass
-from typing import Hashable, Iterator
+from typing import Iterator
 
 from tools.second.cases import Case
-from tools.second.grounding import Literal, Node
+from tools.second.grounding import Literal
+from tools.second.judging import second_line
 from tools.second.lifted import LIFTED, Fact, LiftedJudge, Said
 from tools.second.models import Binary, Edges, Expand, Model, Nodes, Not, Quantified, Static
-from tools.second.positions import Inner, NodeNames, Positions
-
-# the word of a line that adds a part, with what stands after the fact's number
-Way = tuple[str, ...]
+from tools.second.positions import Clash, Inner, Leaf, Positions
 
 
 @dataclass
@@ -29,21 +27,20 @@ class Later:
     position: int | None
 
 
-def lifted_text(model: Model, case: Case, second_line: str, steps: list[str]) -> str:
+def lifted_text(model: Model, case: Case, steps: list[str]) -> str:
     """The text that these steps give, which have to refute the ground tree in version 1."""
-    return "\n".join(["unobservable", second_line, LIFTED, *Lifter(model, case).lifted(steps), "end", ""])
+    return "\n".join(["unobservable", second_line(False, case), LIFTED, *Lifter(model, case).lifted(steps), "end", ""])
 
 
 class Lifter:
     """The facts of the first open branch, what is known there, the branches that wait, and the lines so far."""
 
     def __init__(self, model: Model, case: Case) -> None:
-        self.case = case
         self.rules = LiftedJudge(model, case)
         self.positions = Positions(model, case)
-        self.names = NodeNames(model, case)
-        self.facts: list[Fact] = list(self.rules.open[0])
-        self.known: dict[Hashable, int] = {}
+        self.facts = list(self.rules.open[0])
+        # the numbers of the facts that are choices, by their positions, and of those that are literals
+        self.known: dict[int | Leaf, int] = {}
         self.later: list[Later] = []
         self.lines: list[str] = []
 
@@ -53,13 +50,14 @@ class Lifter:
         if False in kinds:
             self.close(self.facts[kinds.index(False)], kinds.index(False), len(self.facts))
             return self.lines
-        self.take_each(list(enumerate(self.facts)), 0)
+        self.take_each([(number, "", "", fact) for number, fact in enumerate(self.facts)], 0)
         for step in steps:
             word, *rest = step.split(" ")
             if word == "split":
                 self.split(int(rest[0]))
             else:
-                self.leaf(word, [node for node in map(self.names.read, rest) if node is not None])
+                clash = Clash(word, list(map(self.positions.words.index, rest)))
+                self.lines.append(" ".join([word, *(str(self.known[literal]) for literal in clash.literals)]))
                 self.go_on()
         return self.lines
 
@@ -74,17 +72,6 @@ class Lifter:
         self.later.append(Later(len(self.facts), len(self.known), second, row.right))
         self.facts.append(first)
         self.unfold(first, len(self.facts) - 1, row.left)
-
-    def leaf(self, word: str, nodes: list[Node]) -> None:
-        """Closes the branch by facts that say what the nodes of a leaf do."""
-        if word == "absent":
-            numbers = [self.known["denied", nodes[0]], self.known["there", nodes[0]]]
-        else:
-            chain = nodes + nodes[:1] if word == "cycle" else nodes
-            numbers = [self.known["before", *ends] for ends in zip(chain, chain[1:])]
-            if word == "path":
-                numbers.append(self.known["not before", nodes[0], nodes[-1]])
-        self.lines.append(" ".join([word, *map(str, numbers)]))
 
     def go_on(self) -> None:
         """Enters the next branch that has a side to take; those before it are closed."""
@@ -104,11 +91,14 @@ class Lifter:
     def unfold(self, fact: Fact, number: int, position: int) -> None:
         """Takes a fact apart that is no constant and whose tree stands at this position."""
         if isinstance(fact, Literal):
-            self.know(fact, number)
+            leaf = self.positions.leaf(fact)
+            # the first fact that says it stays
+            for said in (leaf, *leaf.implied):
+                self.known.setdefault(said, number)
         elif self.is_choice(fact):
             self.choose(fact, number, position)
         else:
-            self.take_each([(number, way, part) for way, part in self.parts(fact)], position)
+            self.take_each([(number, *part) for part in self.parts(fact)], position)
 
     def choose(self, fact: Said, number: int, position: int) -> None:
         """Takes a fact with two sides apart: a choice is known, and a side that is false is closed, or waits for that."""
@@ -127,12 +117,15 @@ class Lifter:
             self.facts.append(second)
             self.unfold(second, count, position)
 
-    def take_each(self, members: list[tuple[int, Fact]] | list[tuple[int, Way, Fact]], position: int) -> None:
-        """Takes each of these apart that is no constant. They stand in the tree as members of a conjunction do."""
+    def take_each(self, members: list[tuple[int, str, str, Fact]], position: int) -> None:
+        """Takes each of these apart that is no constant, once a line with such words has added it where it is a part of a
+        fact. They stand in the tree as members of a conjunction do."""
         left = [member for member in members if self.constant(member[-1]) is None]
-        for k, (number, *way, fact) in enumerate(left):
-            if way:
-                number = self.derive(number, way[0], fact)
+        for k, (number, word, which, fact) in enumerate(left):
+            if word:
+                self.lines.append(f"{word} {number} {which}".rstrip())
+                self.facts.append(fact)
+                number = len(self.facts) - 1
             row = self.positions.rows[position]
             if k == len(left) - 1:
                 self.unfold(fact, number, position)
@@ -140,22 +133,6 @@ class Lifter:
                 assert isinstance(row, Inner)
                 self.unfold(fact, number, row.left)
                 position = row.right
-
-    def derive(self, number: int, way: Way, part: Fact) -> int:
-        """Adds a part of the fact of this number."""
-        word, *rest = way
-        self.lines.append(" ".join([word, str(number), *rest]))
-        self.facts.append(part)
-        return len(self.facts) - 1
-
-    def know(self, literal: Literal, number: int) -> None:
-        """Notes what a single node or edge says. The first fact that says it stays."""
-        ends = [literal.start] if literal.end is None else [literal.start, literal.end]
-        words = ("there", "denied") if literal.end is None else ("before", "not before")
-        self.known.setdefault((words[0] if literal.wanted else words[1], *ends), number)
-        if literal.wanted and literal.end is not None:
-            for end in ends:
-                self.known.setdefault(("there", end), number)
 
     def close(self, fact: Fact, number: int, count: int) -> None:
         """Closes a branch of so many facts, of which the one of this number is false whatever the world."""
@@ -167,8 +144,8 @@ class Lifter:
             for side in self.sides(fact):
                 self.close(side, count, count + 1)
         else:
-            way, part = next((way, part) for way, part in self.parts(fact) if self.constant(part) is False)
-            self.lines.append(" ".join([way[0], str(number), *way[1:]]))
+            word, which, part = next(it for it in self.parts(fact) if self.constant(it[-1]) is False)
+            self.lines.append(f"{word} {number} {which}".rstrip())
             self.close(part, count, count + 1)
 
     # what a fact is
@@ -183,28 +160,25 @@ class Lifter:
         assert sides is not None
         return sides
 
-    def parts(self, fact: Said) -> Iterator[tuple[Way, Fact]]:
-        """Facts that hold together exactly where this one does, each with the line that adds it."""
-        for way in self.ways(fact):
-            part = self.rules.part_of(fact, way[0], "".join(way[1:]))
-            assert part is not None
-            yield way, part
-
-    def ways(self, fact: Said) -> Iterator[Way]:
-        """How the parts are named."""
+    def parts(self, fact: Said) -> Iterator[tuple[str, str, Fact]]:
+        """Facts that hold together exactly where this one does, each with the word of the line that adds it, and with what
+        stands last on it where several parts have one word."""
+        ways: list[tuple[str, str]] = []
         match fact.formula:
             case Not():
-                yield ("not",)
+                ways = [("not", "")]
             case Expand():
-                yield ("bind",)
+                ways = [("bind", "")]
             case Binary():
-                yield from (("left",), ("right",))
+                ways = [("left", ""), ("right", "")]
             case Nodes(members) | Edges(members):
-                yield from (("member", str(k)) for k in range(len(members)))
-            case Quantified(over_microops=True):
-                yield from (("inst", f"{op.g}.{op.n}") for op in self.case.ops)
-            case Quantified():
-                yield from (("inst", str(core)) for core in self.case.cores)
+                ways = [("member", str(k)) for k in range(len(members))]
+            case Quantified() as formula:
+                ways = [("inst", name) for name in self.rules.names(formula)]
+        for word, which in ways:
+            part = self.rules.part_of(fact, word, which)
+            assert part is not None
+            yield word, which, part
 
     def constant(self, fact: Fact) -> bool | None:
         """The truth of a fact whatever the world; None where that depends on the world."""
@@ -218,7 +192,7 @@ class Lifter:
         if self.rules.is_false(fact):
             return False
         is_choice = self.is_choice(fact)
-        members = self.sides(fact) if is_choice else (part for _, part in self.parts(fact))
+        members = self.sides(fact) if is_choice else (part for *_, part in self.parts(fact))
         found: bool | None = not is_choice
         for member in members:
             kind = self.constant(member)

@@ -1,14 +1,14 @@
 """Herd's X86 listings: bytes to the case that a listing says, by docs/tests.md."""
 import re
 from dataclasses import dataclass
-from typing import Callable, TypeVar
+from typing import Callable
 
-from tools.second.cases import GREATEST_CORE, MOST_OPS, Case, ExpectationItem, Item, Location, Op, OpItem, ValueItem, read_items
+from tools.second.cases import GREATEST_CORE, MOST_OPS, Case, ExpectationItem, Item, Location, Op, OpItem, ValueItem
+from tools.second.cases import case_of, read_items
 from tools.second.patterns import ENDING as PATTERN_ENDING
 from tools.second.patterns import read_pattern_items
-from tools.second.tokens import Fault, Reader, Token, tokens
+from tools.second.tokens import Fault, Part, Reader, Token, tokens
 
-Part = TypeVar("Part")
 # the ending of a file that is read as a listing where no command says how
 ENDING = ".litmus"
 BLANKS = b" \t\r"
@@ -67,7 +67,7 @@ def read_listing(data: bytes) -> Case:
     return read_listing_items(data)[0]
 
 
-def read_file_items(path: str, data: bytes) -> "tuple[Case, list[Item]]":
+def read_file_items(path: str, data: bytes) -> tuple[Case, list[Item]]:
     """The case of a file, with its items: a listing, a pattern or a test, as its ending says. Open reads have 0."""
     if path.endswith(PATTERN_ENDING):
         pattern, items = read_pattern_items(data)
@@ -75,15 +75,12 @@ def read_file_items(path: str, data: bytes) -> "tuple[Case, list[Item]]":
     return read_listing_items(data) if path.endswith(ENDING) else read_items(data)
 
 
-def read_listing_items(data: bytes) -> "tuple[Case, list[Item]]":
+def read_listing_items(data: bytes) -> tuple[Case, list[Item]]:
     """The case, with the items that a test would have in its place. They stand where the listing says them."""
     title, start = behind_header(data)
     listing = ListingReader(tokens(data, PIECE, start)).listing()
     items = Judge(listing).items()
-    case = Case(title)
-    for item in items:
-        item.add_to(case)
-    return case, items
+    return case_of(title, items), items
 
 
 def behind_header(data: bytes) -> tuple[str, int]:
@@ -91,10 +88,8 @@ def behind_header(data: bytes) -> tuple[str, int]:
     first = FIRST_LINE.match(data)
     if first is None:
         raise Fault("syntax", 0)
-    at = data.find(b"\n") + 1 or len(data)
-    while at < len(data):
-        end = data.find(b"\n", at)
-        line = data[at : len(data) if end < 0 else end]
+    at = first.end()
+    for line in data[at:].split(b"\n"):
         rest = line.lstrip(BLANKS)
         if rest.startswith(b"{"):
             return first.group(1).decode("latin-1"), at
@@ -108,36 +103,22 @@ class ListingReader(Reader):
     """Reads what stands after the header. No word is reserved: its place says what it is."""
 
     def listing(self) -> Listing:
-        """The whole of it."""
         inits = self.within("{", "}", self.of_location)
         head, _ = self.cells(lambda: self.expect_kind("name"))
         rows = []
         while not self.sees("~", "exists"):
             rows.append(Row(*self.cells(self.cell)))
         condition = self.next
-        if self.sees("~"):
-            self.take()
+        self.passes("~")
         self.expect("exists")
         equations = self.equations()
         self.expect_kind("end")
         return Listing(tuple(inits), head, tuple(rows), condition, tuple(equations))
 
-    def within(self, opening: str, closing: str, read: Callable[[], Part]) -> list[Part]:
-        """What this reads between these two, with `;` between each and the next."""
-        found = []
-        self.expect(opening)
-        while not self.sees(closing):
-            found.append(read())
-            if not self.sees(closing):
-                self.expect(";")
-        self.take()
-        return found
-
     def cells(self, read: Callable[[], Part]) -> tuple[tuple[Part, ...], Token]:
         """The cells of a line, as this reads them, and the `;` after them."""
         cells = [read()]
-        while self.sees("|"):
-            self.take()
+        while self.passes("|"):
             cells.append(read())
         return tuple(cells), self.expect(";")
 
@@ -159,19 +140,15 @@ class ListingReader(Reader):
 
     def equations(self) -> list[Equation]:
         """The equations of the condition, with or without brackets."""
-        is_bracketed = self.sees("(")
-        if is_bracketed:
-            self.take()
+        is_bracketed = self.passes("(")
         found = [self.equation()]
-        while self.sees("/\\"):
-            self.take()
+        while self.passes("/\\"):
             found.append(self.equation())
         if is_bracketed:
             self.expect(")")
         return found
 
     def equation(self) -> Equation:
-        """One equation."""
         if self.next.kind != "number":
             return self.of_location()
         thread = self.take()
@@ -181,13 +158,11 @@ class ListingReader(Reader):
         return Equation(name, self.expect_kind("number"), thread)
 
     def of_location(self) -> Equation:
-        """An equation of a location."""
         name = self.in_brackets() if self.sees("[") else self.expect_kind("name")
         self.expect("=")
         return Equation(name, self.expect_kind("number"))
 
     def in_brackets(self) -> Token:
-        """A name in brackets."""
         self.expect("[")
         name = self.expect_kind("name")
         self.expect("]")
@@ -224,7 +199,9 @@ class Judge:
         for register, token in self.loads.items():
             if register not in self.values:
                 raise Fault("x86-open", token.at)
-        return [*self.states("Init", self.inits), *self.ops(), *self.states("Final", self.finals), *self.expectations()]
+        condition = self.listing.condition
+        forbids: list[Item] = [ExpectationItem("Forbidden", condition.at)] if condition.piece == "~" else []
+        return [*self.states("Init", self.inits), *self.ops(), *self.states("Final", self.finals), *forbids]
 
     def location(self, name: Token) -> Location:
         """The location of a name. Locations are numbered as they are named first."""
@@ -239,7 +216,6 @@ class Judge:
         known[location] = equation
 
     def judge_head(self) -> None:
-        """The names of the columns."""
         for number, name in enumerate(self.listing.head):
             if number > GREATEST_CORE:
                 raise Fault("core-number", name.at)
@@ -271,7 +247,7 @@ class Judge:
 
     def judge_register(self, equation: Equation, thread: Token) -> None:
         """A register that its thread loads has one value."""
-        register = int(thread.piece), equation.name.piece
+        register = thread.value, equation.name.piece
         if register not in self.loads:
             raise Fault("x86-unloaded", thread.at)
         if register in self.values:
@@ -280,7 +256,7 @@ class Judge:
 
     def states(self, word: str, known: dict[Location, Equation]) -> list[Item]:
         """The values at the start, or at the end."""
-        return [ValueItem(word, one.name.at, location, int(one.number.piece)) for location, one in known.items()]
+        return [ValueItem(word, one.name.at, location, one.number.value) for location, one in known.items()]
 
     def ops(self) -> list[Item]:
         """The micro-ops, column by column."""
@@ -293,7 +269,6 @@ class Judge:
         return found
 
     def op(self, g: int, column: int, one: Instruction) -> OpItem:
-        """A micro-op."""
         at = one.word.at
         if one.location is None:
             fence = Op(g, 0, column, column, "Fence", frozenset({one.word.piece}))
@@ -303,10 +278,5 @@ class Judge:
             access, value = "Read", self.values[column, one.register.piece]
         assert value is not None
         place = self.location(one.location)
-        op = Op(g, 0, column, column, access, frozenset(), place, place, int(value.piece))
+        op = Op(g, 0, column, column, access, frozenset(), place, place, value.value)
         return OpItem(op, at, at, at, at, (), one.location.at, value.at)
-
-    def expectations(self) -> list[Item]:
-        """What the listing states of its outcome."""
-        word = self.listing.condition
-        return [ExpectationItem("Forbidden", word.at)] if word.piece == "~" else []

@@ -14,58 +14,42 @@
     python3 tools second dimacs MODEL TEST        the question for a SAT solver
     python3 tools second smt MODEL TEST           the question for an SMT solver
 
-The modules are in second/. All text goes to standard output, in the lines and with the exit statuses that the program
-has: 0 observable, 1 unobservable, 2 words that are no command, 3 a file with a fault, 4 a file that cannot be read, 5
-standard output that fails, 6 a refused certificate; of `core` and `ask` 0 where no file has a fault; and 125 where this
-program itself fails, say since two ways to a verdict do not agree. The verdict of `check`, `check2` and `check86`
-is found in two ways, by a search of its own and by one that makes the program's choices and gives the text;
-they have to agree, and the certificate is judged before it is written. So is each certificate of `core` and of `ask`.
-`verify` and `verify86` judge certificates of version 1 and of version 2; `verify-lifted` judges lifted refutations, on
-the axioms as they are written. `sweep` ends with 0 and takes its own search alone; the witness of an
-observable row is judged by the written axioms.
+All text goes to standard output, in the lines and with the exit statuses that the program has: 0 observable, 1
+unobservable, 2 words that are no command, 3 a file with a fault, 4 a file that cannot be read, 5 standard output that
+fails, 6 a refused certificate; of `core`, `ask` and `sweep` 0 where no file has a fault; and 125 where this program
+itself fails, say since two ways to a verdict do not agree. A verdict is found in two ways, by a search of its own and
+by one that makes the program's choices and gives the text; they have to agree, and each certificate is judged before it
+is written. `sweep` takes its own search alone.
 """
 import sys
-from typing import Callable, TextIO, TypeVar
+from functools import partial
+from typing import Any, Callable, TextIO, TypeVar
 
-from tools.second.answering import Clash, Graph, Step, answer
+from tools.second.answering import Graph, Step, answer
 from tools.second.cases import Case, read_case
 from tools.second.cores import minimal_set, with_axioms, without
-from tools.second.dimacs import write_dimacs
-from tools.second.evaluating import false_axioms
+from tools.second.dimacs import dimacs
 from tools.second.grounding import ground
 from tools.second.judging import Refused as CertificateRefused
-from tools.second.judging import VERSION_2, judge
+from tools.second.judging import VERSION_2, judge, second_line
 from tools.second.lifted import judge_lifted
 from tools.second.lifting import lifted_text
 from tools.second.listings import read_listing
 from tools.second.models import Formula, Model, Not
-from tools.second.patterns import Pattern, read_pattern, sweep, sweep_text
-from tools.second.positions import NodeNames, Positions
+from tools.second.patterns import read_pattern, sweep, sweep_text
+from tools.second.positions import Clash, Positions
 from tools.second.queries import InModel, read_query, with_axiom
 from tools.second.scopes import read_model
-from tools.second.searching import search
+from tools.second.searching import is_observable
 from tools.second.shortening import shortened
-from tools.second.smtlib import write_smtlib
+from tools.second.smtlib import smtlib
 from tools.second.standard_output import status_of
 from tools.second.tokens import Fault
 
-Read = TypeVar("Read", Model, Case, Pattern)
-Second = TypeVar("Second", Case, Pattern)
+Read = TypeVar("Read")
+# a text, and the exit status
+Answer = tuple[str, int]
 LIMIT = 1_048_576
-WORDS = {
-    "check": 3,
-    "check2": 3,
-    "check86": 3,
-    "core": 3,
-    "ask": 4,
-    "verify": 4,
-    "verify86": 4,
-    "verify-lifted": 4,
-    "lift": 4,
-    "sweep": 3,
-    "dimacs": 3,
-    "smt": 3,
-}
 
 
 class Refused(Exception):
@@ -95,20 +79,6 @@ def judged(kind: str, read: Callable[[bytes], Read], data: bytes) -> Read:
         raise refusal(kind, fault, data) from fault
 
 
-def read_both(model_path: str, test_path: str, read: Callable[[bytes], Second]) -> tuple[Model, Second]:
-    """The model and the test, by this reader. Both are read whole before one is judged."""
-    model_data = file_bytes("model", model_path)
-    test_data = file_bytes("test", test_path)
-    return judged("model", read_model, model_data), judged("test", read, test_data)
-
-
-def read_three(model_path: str, test_path: str, query_path: str) -> tuple[Model, Case, Formula]:
-    """The model, the test and the query. All are read whole before one is judged."""
-    model_data = file_bytes("model", model_path)
-    test_data = file_bytes("test", test_path)
-    return judged_three(model_data, test_data, file_bytes("query", query_path))
-
-
 def judged_three(model_data: bytes, test_data: bytes, query_data: bytes) -> tuple[Model, Case, Formula]:
     """What the bytes of a model, a test and a query say, or the refusal by their first fault."""
     model, case = judged("model", read_model, model_data), judged("test", read_case, test_data)
@@ -120,26 +90,11 @@ def judged_three(model_data: bytes, test_data: bytes, query_data: bytes) -> tupl
         raise refusal("query", fault, query_data) from fault
 
 
-def second_line(is_observable: bool, case: Case) -> str:
-    """How a verdict compares with what the test states."""
-    if case.expectation == "unstated":
-        return "test unstated"
-    if case.expectation == "permitted":
-        return "test permitted: ok" if is_observable else "test permitted: stricter"
-    return "test forbidden: BUG" if is_observable else "test forbidden: ok"
-
-
-def second_lines(case: Case) -> dict[bool, str]:
-    """The second line of each verdict."""
-    return {is_observable: second_line(is_observable, case) for is_observable in (True, False)}
-
-
 def certificate(model: Model, case: Case, version: int) -> str:
     """The text of the answer, a refutation in this version."""
     positions = Positions(model, case)
     found = answer(positions, version)
-    names = NodeNames(model, case)
-    words = [names.write(node) for node in positions.nodes]
+    words = positions.words
     if isinstance(found, Graph):
         body = [f"node {words[k]}" for k in found.nodes]
         body += [f"edge {words[start]} {words[end]}" for start, end in found.edges]
@@ -147,32 +102,26 @@ def certificate(model: Model, case: Case, version: int) -> str:
         body = [VERSION_2] if version == 2 else []
         steps = shortened(positions, found, version) if found else []
         body += [step_line(step, words) for step in steps] or ["false"]
-    is_observable = isinstance(found, Graph)
-    first = "observable" if is_observable else "unobservable"
-    return "\n".join([first, second_line(is_observable, case), *body, "end", ""])
+    verdict = "observable" if isinstance(found, Graph) else "unobservable"
+    return "\n".join([verdict, second_line(isinstance(found, Graph), case), *body, "end", ""])
 
 
 def step_line(step: Step, words: list[str]) -> str:
-    """The line of a split or of a clash."""
     if isinstance(step, Clash):
         return " ".join([step.word, *(words[k] for k in step.nodes)])
     position, is_denied = step
     return f"split {'~' if is_denied else ''}{position}"
 
 
-def check(model: Model, case: Case, version: int = 1) -> tuple[str, int]:
-    """The certificate and the exit status."""
-    witness = search(ground(model, case))
-    if witness is not None and false_axioms(model, case, witness.nodes, witness.edges):
-        raise AssertionError("the witness makes an axiom false")
-    is_observable = witness is not None
+def check(model: Model, case: Case, version: int = 1) -> Answer:
+    verdict = is_observable(model, case)
     text = certificate(model, case, version)
-    if judge(model, case, second_lines(case), text.encode("ascii")) is not is_observable:
+    if judge(model, case, text.encode("ascii")) is not verdict:
         raise AssertionError("the two searches differ")
-    return text, 0 if is_observable else 1
+    return text, 0 if verdict else 1
 
 
-def core(model: Model, case: Case) -> tuple[str, int]:
+def core(model: Model, case: Case) -> Answer:
     """A minimal set of axioms that forbid the outcome, with the certificates that `check` writes of them."""
     kept = minimal_set(model, case)
     if kept is None:
@@ -184,7 +133,7 @@ def core(model: Model, case: Case) -> tuple[str, int]:
     return f"{text}end\n", 0
 
 
-def ask(model: Model, case: Case, formula: Formula) -> tuple[str, int]:
+def ask(model: Model, case: Case, formula: Formula) -> Answer:
     """In which worlds that satisfy the model the formula holds, with the certificates that `check` writes where it is
     an axiom more, and where its denial is."""
     added, holds_nowhere = check(with_axiom(model, formula), case)
@@ -193,65 +142,58 @@ def ask(model: Model, case: Case, formula: Formula) -> tuple[str, int]:
     return f"ask {word}\nwith\n{added}against\n{against}end\n", 0
 
 
-def verify(model: Model, case: Case, data: bytes) -> tuple[str, int]:
-    """What is to be said of a certificate, and the exit status."""
+def judgement(word: str, model: Model, case: Case, data: bytes) -> Answer:
+    """What `verify`, `verify-lifted` or `lift` says of a certificate. A refutation of version 1 is lifted by `lift`."""
     try:
-        is_observable = judge(model, case, second_lines(case), data)
+        if word == "verify-lifted":
+            judge_lifted(model, case, data)
+        elif judge(model, case, data, takes_version_2=word == "verify"):
+            return "verified observable\n", 0
     except CertificateRefused as refused:
         return f"{refused}\n", 6
-    return ("verified observable\n", 0) if is_observable else ("verified unobservable\n", 1)
-
-
-def verify_lifted(model: Model, case: Case, data: bytes) -> tuple[str, int]:
-    """What is to be said of a lifted refutation, and the exit status."""
-    try:
-        judge_lifted(model, case, second_line(False, case), data)
-    except CertificateRefused as refused:
-        return f"{refused}\n", 6
-    return "verified unobservable\n", 1
-
-
-def lift(model: Model, case: Case, data: bytes) -> tuple[str, int]:
-    """The lifted refutation that a refutation of version 1 becomes, and the exit status; of any other text what is to
-    be said of it."""
-    try:
-        is_observable = judge(model, case, second_lines(case), data, takes_version_2=False)
-    except CertificateRefused as refused:
-        return f"{refused}\n", 6
-    if is_observable:
-        return "verified observable\n", 0
-    text = lifted_text(model, case, second_line(False, case), data.decode("ascii").split("\n")[2:-2])
-    judge_lifted(model, case, second_line(False, case), text.encode("ascii"))
+    if word != "lift":
+        return "verified unobservable\n", 1
+    text = lifted_text(model, case, data.decode("ascii").split("\n")[2:-2])
+    judge_lifted(model, case, text.encode("ascii"))
     return text, 0
 
 
-def answer_on_two(words: list[str], out: TextIO) -> tuple[str, int]:
-    """The answer to a command on a model and a test, and the exit status. Questions for solvers are written at once."""
-    model, case = read_both(words[1], words[2], read_listing if words[0].endswith("86") else read_case)
-    if words[0].startswith("check"):
-        return check(model, case, 2 if words[0] == "check2" else 1)
-    if words[0] == "core":
-        return core(model, case)
-    if len(words) == 4:
-        with open(words[3], "rb") as file:
-            return {"lift": lift, "verify-lifted": verify_lifted}.get(words[0], verify)(model, case, file.read())
-    write = write_dimacs if words[0] == "dimacs" else write_smtlib
-    write(ground(model, case), out)
-    return "", 0
+# of each command how many files it takes, how the second one is read, and what answers
+COMMANDS: dict[str, tuple[int, Callable[[bytes], Any], Callable[..., Answer]]] = {
+    "check": (2, read_case, check),
+    "check2": (2, read_case, lambda model, case: check(model, case, 2)),
+    "check86": (2, read_listing, check),
+    "core": (2, read_case, core),
+    "sweep": (2, read_pattern, lambda model, pattern: (sweep_text(sweep(model, pattern)), 0)),
+    "dimacs": (2, read_case, lambda model, case: (dimacs(ground(model, case)), 0)),
+    "smt": (2, read_case, lambda model, case: (smtlib(ground(model, case)), 0)),
+    "ask": (3, read_case, ask),
+    "verify": (3, read_case, partial(judgement, "verify")),
+    "verify86": (3, read_listing, partial(judgement, "verify")),
+    "verify-lifted": (3, read_case, partial(judgement, "verify-lifted")),
+    "lift": (3, read_case, partial(judgement, "lift")),
+}
+
+
+def answered(word: str, paths: list[str]) -> Answer:
+    """The answer to a command. Models, tests and queries are read whole before one is judged."""
+    if word not in COMMANDS or len(paths) != COMMANDS[word][0]:
+        return "pipecheck: bad command line\n", 2
+    _, read, answers = COMMANDS[word]
+    model_data, test_data = file_bytes("model", paths[0]), file_bytes("test", paths[1])
+    if word == "ask":
+        return ask(*judged_three(model_data, test_data, file_bytes("query", paths[2])))
+    model, test = judged("model", read_model, model_data), judged("test", read, test_data)
+    if len(paths) == 2:
+        return answers(model, test)
+    with open(paths[2], "rb") as file:
+        return answers(model, test, file.read())
 
 
 def run(words: list[str], out: TextIO) -> int:
     """Does what the words ask and answers the exit status."""
-    if not words or len(words) != WORDS.get(words[0]):
-        out.write("pipecheck: bad command line\n")
-        return 2
     try:
-        if words[0] == "ask":
-            text, status = ask(*read_three(words[1], words[2], words[3]))
-        elif words[0] == "sweep":
-            text, status = sweep_text(sweep(*read_both(words[1], words[2], read_pattern))), 0
-        else:
-            text, status = answer_on_two(words, out)
+        text, status = answered("".join(words[:1]), words[1:])
     except Refused as refused:
         text, status = f"{refused}\n", 3
     except OSError:

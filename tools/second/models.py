@@ -1,9 +1,9 @@
 """Tokens to a written model, by the grammar of docs/language.md."""
 import re
 from dataclasses import dataclass
-from typing import Callable, TypeVar, Union
+from typing import Union
 
-from tools.second.tokens import Fault, Reader, Token, tokens
+from tools.second.tokens import Fault, Reader, Token
 
 RESERVED = frozenset(
     """StageName Axiom DefineMacro ExpandMacro forall exists microop microops core cores AddEdge AddEdges EdgeExists
@@ -55,15 +55,11 @@ class EdgeTerm:
 
 @dataclass(frozen=True)
 class Not:
-    """The operand does not hold."""
-
     operand: "Formula"
 
 
 @dataclass(frozen=True)
 class Binary:
-    """Two formulas and the connective between them."""
-
     connective: str
     left: "Formula"
     right: "Formula"
@@ -82,8 +78,6 @@ class Quantified:
 
 @dataclass(frozen=True)
 class Static:
-    """A predicate of the test with its arguments."""
-
     predicate: Word
     args: tuple[Arg, ...]
 
@@ -106,8 +100,6 @@ class Edges:
 
 @dataclass(frozen=True)
 class Expand:
-    """The body of a macro, its parameters bound to the values of the arguments."""
-
     at: int
     macro: Word
     args: tuple[Arg, ...]
@@ -118,8 +110,6 @@ Formula = Union[Not, Binary, Quantified, Static, Nodes, Edges, Expand]
 
 @dataclass(frozen=True)
 class Stage:
-    """The declaration of a stage."""
-
     number: Number
     name: Word
 
@@ -135,8 +125,6 @@ class Axiom:
 
 @dataclass(frozen=True)
 class Macro:
-    """A formula with a name and parameters."""
-
     name: Word
     parameters: tuple[Word, ...]
     body: Formula
@@ -151,21 +139,11 @@ class Model:
 
     @property
     def axioms(self) -> list[Axiom]:
-        """The axioms in their order."""
         return [item for item in self.items if isinstance(item, Axiom)]
 
     @property
     def macros(self) -> dict[str, Macro]:
-        """The macros by their names."""
         return {item.name.name: item for item in self.items if isinstance(item, Macro)}
-
-
-Member = TypeVar("Member", NodeTerm, EdgeTerm)
-
-
-def written_model(data: bytes) -> Model:
-    """The model that the bytes say, or their first fault of tokens or grammar."""
-    return ModelReader(tokens(data)).model()
 
 
 class ModelReader(Reader):
@@ -176,7 +154,6 @@ class ModelReader(Reader):
         self.open = 0
 
     def model(self) -> Model:
-        """The whole file."""
         stages: list[Stage] = []
         items: list[Union[Axiom, Macro]] = []
         while self.next.kind != "end":
@@ -195,7 +172,7 @@ class ModelReader(Reader):
         number = self.expect_kind("number")
         name = self.quoted_name()
         self.expect(".")
-        return Stage(Number(int(number.piece), number.at), name)
+        return Stage(Number(number.value, number.at), name)
 
     def macro(self) -> Macro:
         """A macro, after its first word."""
@@ -226,7 +203,6 @@ class ModelReader(Reader):
         return self.sees_kind("name") and self.next.piece not in RESERVED
 
     def name(self) -> Word:
-        """A name that is not reserved."""
         if not self.is_name():
             raise self.refuse()
         token = self.take()
@@ -239,46 +215,34 @@ class ModelReader(Reader):
         self.open += 1
         return self.take()
 
-    def formula(self) -> Formula:
-        """A list of operands with connectives between them. A quantifier can only begin the last operand."""
-        outside = self.open
-        operands: list[Formula] = []
-        between: list[str] = []
-        opened = {connective: 0 for connective in CONNECTIVES}
-        while True:
-            operand, is_last = self.operand()
-            operands.append(operand)
-            if is_last or not self.sees(*CONNECTIVES):
-                self.open = outside
-                return grouped(operands, between)
-            connective = self.next.piece
-            # a looser connective ends the tighter ones of its list
-            for tighter in CONNECTIVES[CONNECTIVES.index(connective) + 1 :]:
-                self.open -= opened[tighter]
-                opened[tighter] = 0
-            self.opener()
-            opened[connective] += 1
-            between.append(connective)
+    def formula(self, level: int = 0) -> Formula:
+        """A formula with no looser connective outside brackets than that of this level; each groups to the right."""
+        is_tightest = level == len(CONNECTIVES) - 1
+        left = self.operand() if is_tightest else self.formula(level + 1)
+        # each of them could stand here, whatever the level
+        if not self.sees(*CONNECTIVES) or self.next.piece != CONNECTIVES[level]:
+            return left
+        self.opener()
+        right = self.formula(level)
+        self.open -= 1
+        return Binary(CONNECTIVES[level], left, right)
 
-    def operand(self) -> tuple[Formula, bool]:
-        """An operand, and whether it goes on to the end of its list, as a quantifier does."""
+    def operand(self) -> Formula:
+        """What connectives join. A quantifier takes all that follows, so that it is the last of its list."""
         if self.sees("~"):
             self.opener()
-            operand, is_last = self.operand()
+            operand: Formula = Not(self.operand())
             self.open -= 1
-            return Not(operand), is_last
+            return operand
         if self.sees("("):
             self.opener()
             inside = self.formula()
             self.expect(")")
             self.open -= 1
-            return inside, False
-        if self.sees("forall", "exists"):
-            return self.quantified(), True
-        return self.atom(), False
+            return inside
+        return self.quantified() if self.sees("forall", "exists") else self.atom()
 
     def quantified(self) -> Formula:
-        """A quantifier with its body."""
         first = self.opener()
         over = self.expect("microop", "microops", "core", "cores").piece
         name = self.quoted_name().name
@@ -301,21 +265,10 @@ class ModelReader(Reader):
         if first.piece in ("AddEdge", "EdgeExists"):
             return Edges((self.edge(),), first.at)
         if first.piece in ("AddEdges", "EdgesExist"):
-            return Edges(tuple(self.members(self.edge)), first.at)
+            return Edges(tuple(self.within("[", "]", self.edge)), first.at)
         if first.piece == "NodeExists":
             return Nodes((self.node(),), first.at)
-        return Nodes(tuple(self.members(self.node)), first.at)
-
-    def members(self, member: Callable[[], Member]) -> list[Member]:
-        """A list in square brackets, where one semicolon may stand after the last member."""
-        self.expect("[")
-        found = []
-        while not self.sees("]"):
-            found.append(member())
-            if not self.sees("]"):
-                self.expect(";")
-        self.expect("]")
-        return found
+        return Nodes(tuple(self.within("[", "]", self.node)), first.at)
 
     def args(self) -> tuple[Arg, ...]:
         """All names and numbers that follow."""
@@ -325,10 +278,9 @@ class ModelReader(Reader):
         return tuple(found)
 
     def arg(self) -> Arg:
-        """A name or a number."""
         if self.sees_kind("number"):
             token = self.take()
-            return Number(int(token.piece), token.at)
+            return Number(token.value, token.at)
         return self.name()
 
     def node(self) -> NodeTerm:
@@ -337,8 +289,7 @@ class ModelReader(Reader):
         op = self.name()
         self.expect(",")
         core = None
-        if self.sees("("):
-            self.take()
+        if self.passes("("):
             core = self.arg()
             self.expect(",")
             stage = self.name()
@@ -354,21 +305,6 @@ class ModelReader(Reader):
         start = self.node()
         self.expect(",")
         end = self.node()
-        texts = []
-        for _ in range(2):
-            if self.sees(","):
-                self.take()
-                texts.append(self.expect_kind("text").content)
+        texts = [self.expect_kind("text").content for _ in range(2) if self.passes(",")]
         self.expect(")")
         return EdgeTerm(start, end, texts[0] if texts else "")
-
-
-def grouped(operands: list[Formula], between: list[str]) -> Formula:
-    """The list as one formula: it is cut at the first of its loosest connective, and so are both sides."""
-    for connective in CONNECTIVES:
-        if connective in between:
-            cut = between.index(connective)
-            left = grouped(operands[: cut + 1], between[:cut])
-            right = grouped(operands[cut + 1 :], between[cut + 1 :])
-            return Binary(connective, left, right)
-    return operands[0]

@@ -2,13 +2,10 @@
 reads may get; and the sweep, which says of each combination whether it is observable."""
 from dataclasses import dataclass, replace
 from itertools import product
-from typing import Iterator
 
 from tools.second.cases import Case, Entry, Item, OpItem, Value, read_items
-from tools.second.evaluating import false_axioms
-from tools.second.grounding import ground
 from tools.second.models import Model
-from tools.second.searching import search
+from tools.second.searching import is_observable
 from tools.second.tokens import Fault
 
 MOST_ROWS = 4096
@@ -23,10 +20,6 @@ class Pattern:
     case: Case
     opens: tuple[int, ...]
     choices: tuple[tuple[Value, ...], ...]
-
-    def rows(self) -> Iterator[tuple[Value, ...]]:
-        """All combinations, the last open read changing fastest."""
-        return product(*self.choices)
 
     def row_case(self, row: tuple[Value, ...]) -> Case:
         """The case in which the open reads get these values."""
@@ -64,17 +57,9 @@ def read_pattern_items(data: bytes) -> tuple[Pattern, list[Item]]:
     return Pattern(case, tuple(opens), tuple(choices)), items
 
 
-def is_observable(model: Model, case: Case) -> bool:
-    """Whether some world makes every axiom true; the witness is judged again by the written axioms."""
-    witness = search(ground(model, case))
-    if witness is not None and false_axioms(model, case, witness.nodes, witness.edges):
-        raise AssertionError("the witness makes an axiom false")
-    return witness is not None
-
-
 def sweep(model: Model, pattern: Pattern) -> list[tuple[tuple[Value, ...], bool]]:
-    """Each row, and whether it is observable."""
-    return [(row, is_observable(model, pattern.row_case(row))) for row in pattern.rows()]
+    """Each row, the last open read changing fastest, and whether it is observable."""
+    return [(row, is_observable(model, pattern.row_case(row))) for row in product(*pattern.choices)]
 
 
 def value_text(value: Value) -> str:
@@ -83,7 +68,6 @@ def value_text(value: Value) -> str:
 
 
 def sweep_text(rows: list[tuple[tuple[Value, ...], bool]]) -> str:
-    """The text of a sweep."""
     verdicts = {True: "observable", False: "unobservable"}
     lines = [f"sweep {len(rows)}"]
     lines += [" ".join(["row", *map(value_text, row), verdicts[is_seen]]) for row, is_seen in rows]

@@ -4,14 +4,22 @@ Positions are counted in preorder over conjunctions, disjunctions and literals, 
 as they are first seen in that order, the first end of an edge before the second. A tree that is a constant has no
 position.
 """
+import re
 from dataclasses import dataclass
+from typing import Iterator
 
-from tools.second.cases import Case
-from tools.second.grounding import Conjunction, Disjunction, Literal, Node, Tree, ground_nested
-from tools.second.models import NAME, Model
-from tools.second.tokens import GREATEST_NUMBER, MOST_DIGITS
+from tools.second.cases import GREATEST_CORE, Case
+from tools.second.grounding import Conjunction, Disjunction, Grounder, Literal, Tree, nested
+from tools.second.meaning import Node
+from tools.second.models import Model
+from tools.second.tokens import GREATEST_NUMBER
 
-GREATEST_CORE = 63
+# a number of a certificate, without leading zeros
+DECIMAL = "(0|[1-9][0-9]{0,19})"
+NODE = re.compile(rf"{DECIMAL}\.{DECIMAL}@{DECIMAL}:(.*)")
+
+# a position, and whether it is denied
+Signed = tuple[int, bool]
 
 
 @dataclass(frozen=True)
@@ -31,6 +39,52 @@ class Leaf:
     end: int | None
     wanted: bool
 
+    @property
+    def implied(self) -> "list[Leaf]":
+        """What an edge says beside itself: that both of its ends are there."""
+        if self.end is None or not self.wanted:
+            return []
+        return [Leaf(self.start, None, True), Leaf(self.end, None, True)]
+
+
+@dataclass(frozen=True)
+class Clash:
+    """The line that closes a branch: `cycle`, `path` or `absent` with its nodes."""
+
+    word: str
+    nodes: list[int]
+
+    @property
+    def literals(self) -> list[Leaf]:
+        """What it says that the branch asserts: the edges of a cycle; those of a path, and that there is none between its
+        ends; or that a node is not there, and that it is."""
+        chain = [Leaf(start, end, True) for start, end in zip(self.nodes, self.nodes[1:])]
+        first, last = self.nodes[0], self.nodes[-1]
+        if self.word == "absent":
+            return [Leaf(first, None, False), Leaf(first, None, True)]
+        return [*chain, Leaf(last, first, True) if self.word == "cycle" else Leaf(first, last, False)]
+
+
+class NodeNames:
+    """Nodes as certificates write them: g.n@core:Stage."""
+
+    def __init__(self, model: Model, case: Case) -> None:
+        self.case = case
+        self.stages = {stage.number.value: stage.name.name for stage in model.stages}
+        self.numbers = {name: number for number, name in self.stages.items()}
+
+    def write(self, node: Node) -> str:
+        op, core, stage = node
+        return f"{self.case.ops[op].g}.{self.case.ops[op].n}@{core}:{self.stages[stage]}"
+
+    def read(self, word: str) -> Node | None:
+        """The node of a text; None where it is none of this model and test."""
+        found = NODE.fullmatch(word)
+        if found is None or int(found[3]) > GREATEST_CORE or found[4] not in self.numbers:
+            return None
+        op = self.case.find(int(found[1]), int(found[2]))
+        return None if op is None else (op, int(found[3]), self.numbers[found[4]])
+
 
 class Positions:
     """The positions of one model over one test."""
@@ -39,10 +93,12 @@ class Positions:
         self.rows: list[Inner | Leaf] = []
         self.nodes: list[Node] = []
         self.numbers: dict[Node, int] = {}
-        tree = ground_nested(model, case) if tree is None else tree
+        tree = Grounder(model, case, nested).axioms() if tree is None else tree
         self.constant = tree if isinstance(tree, bool) else None
         if self.constant is None:
             self.add(tree)
+        names = NodeNames(model, case)
+        self.words = [names.write(node) for node in self.nodes]
 
     def add(self, tree: Tree) -> int:
         """Adds a tree and answers its position. It loops on right members, which may be nested deeply."""
@@ -55,8 +111,8 @@ class Positions:
             left, tree = tree.members
             self.add(left)
         assert isinstance(tree, Literal)
+        right = len(self.rows)
         self.rows.append(self.leaf(tree))
-        right = len(self.rows) - 1
         for place, is_disjunction in reversed(waiting):
             self.rows[place] = Inner(is_disjunction, place + 1, right)
             right = place
@@ -74,35 +130,30 @@ class Positions:
             self.nodes.append(node)
         return self.numbers[node]
 
+    def asserted(self, *places: Signed) -> Iterator[Leaf | Signed]:
+        """What these positions assert together, in preorder: literals, and choices, which are disjunctions and denied
+        conjunctions."""
+        waiting = list(reversed(places))
+        while waiting:
+            here, is_denied = waiting.pop()
+            row = self.rows[here]
+            if isinstance(row, Leaf):
+                yield Leaf(row.start, row.end, row.wanted is not is_denied)
+            elif row.is_disjunction is not is_denied:
+                yield here, is_denied
+            else:
+                waiting += [(row.right, is_denied), (row.left, is_denied)]
 
-class NodeNames:
-    """Nodes as certificates write them: g.n@core:Stage."""
-
-    def __init__(self, model: Model, case: Case) -> None:
-        self.case = case
-        self.stages = {stage.number.value: stage.name.name for stage in model.stages}
-
-    def write(self, node: Node) -> str:
-        """The text of a node."""
-        op, core, stage = node
-        return f"{self.case.ops[op].g}.{self.case.ops[op].n}@{core}:{self.stages[stage]}"
-
-    def read(self, word: str) -> Node | None:
-        """The node of a text; None where it is none of this model and test."""
-        parts = word.replace("@", ".", 1).replace(":", ".", 1).split(".")
-        if len(parts) != 4 or not NAME.match(parts[3]) or not all(is_decimal(part) for part in parts[:3]):
-            return None
-        g, n, core = map(int, parts[:3])
-        op = self.case.find(g, n)
-        stages = [number for number, name in self.stages.items() if name == parts[3]]
-        if op is None or core > GREATEST_CORE or not stages:
-            return None
-        node = op, core, stages[0]
-        # the marks between the parts stand in their order
-        return node if self.write(node) == word else None
+    def sides(self, choice: Signed, version: int) -> tuple[list[Signed], list[Signed]]:
+        """What the left and the right side of a split assert: in version 2 the right one also that the left member does not
+        hold."""
+        position, is_denied = choice
+        row = self.rows[position]
+        assert isinstance(row, Inner)
+        not_left = [(row.left, not is_denied)] if version == 2 else []
+        return [(row.left, is_denied)], [*not_left, (row.right, is_denied)]
 
 
 def is_decimal(word: str) -> bool:
-    """Whether a word is a number of a certificate, without leading zeros."""
-    digits = word.isascii() and word.isdigit() and (word == "0" or word[0] != "0")
-    return digits and len(word) <= MOST_DIGITS and int(word) <= GREATEST_NUMBER
+    """Whether a word is a number of a certificate."""
+    return re.fullmatch(DECIMAL, word) is not None and int(word) <= GREATEST_NUMBER

@@ -1,8 +1,8 @@
 """A formula that is asked of a model, in a file of its own, with the faults that it may have."""
 from dataclasses import replace
 
-from tools.second.models import Axiom, Expand, Formula, Model, ModelReader, Not
-from tools.second.scopes import NameJudge, Scope, judge_macros, judge_sizes, value_sort, widened
+from tools.second.models import Axiom, Formula, Model, ModelReader, Not
+from tools.second.scopes import NameJudge, Scope, judge_macros, judge_sizes
 from tools.second.tokens import Fault, tokens
 
 
@@ -29,19 +29,11 @@ def read_query(data: bytes, model: Model) -> Formula:
 
 
 class QueryJudge(NameJudge):
-    """Judges the names of a query, outside before inside and left before right, as those of an axiom."""
+    """Judges the names of a query as those of an axiom. The bodies of its macros stand in the model."""
 
-    def __init__(self, model: Model) -> None:
-        super().__init__(model)
-        self.bodies = NameJudge(model)
-
-    def expansion(self, formula: Expand, scope: Scope) -> None:
-        """The arguments, then the number of variables, then the macro's body, which stands in the model."""
-        macro = self.macros[formula.macro.name]
-        sorts = [value_sort(arg, scope) for arg in formula.args]
-        bound = tuple((parameter.name, sort) for parameter, sort in zip(macro.parameters, sorts))
-        inside = widened(scope, bound, formula.at)
+    def body(self, formula: Formula, scope: Scope) -> None:
+        """The body of a macro, where it is expanded."""
         try:
-            self.bodies.formula(macro.body, inside)
+            NameJudge(self.model).formula(formula, scope)
         except Fault as fault:
             raise InModel(fault.word, fault.place) from fault

@@ -3,13 +3,13 @@
 A name in a macro's body that is neither a parameter nor bound in the body has the binding in force where the macro
 is expanded. So names are judged in the axioms, with each macro followed into its body.
 """
-from tools.second.models import Arg, Axiom, Binary, Edges, Expand, Formula, Macro, Model, NodeTerm, Nodes, Not, Number, Quantified
-from tools.second.models import Static, written_model
+from tools.second.cases import GREATEST_CORE
+from tools.second.models import Arg, Axiom, Binary, Edges, Expand, Formula, Macro, Model, ModelReader, NodeTerm, Nodes, Not
+from tools.second.models import Number, Quantified, Static
 from tools.second.predicates import CORE, MICROOP, PLAIN, PREDICATES
-from tools.second.tokens import Fault
+from tools.second.tokens import Fault, tokens
 
 GREATEST_STAGE = 63
-GREATEST_CORE = 63
 MOST_HEIGHT = 512
 MOST_SIZE = 1_000_000
 MOST_VARIABLES = 32
@@ -17,27 +17,28 @@ MOST_VARIABLES = 32
 
 def read_model(data: bytes) -> Model:
     """The model that the bytes say, or their first fault."""
-    model = written_model(data)
+    model = ModelReader(tokens(data)).model()
     judge_stages(model)
     judge_macros(model)
     judge_sizes(model)
-    judge_names(model)
+    # outside before inside and left before right
+    judge = NameJudge(model)
+    for axiom in model.axioms:
+        judge.formula(axiom.body, ())
     return model
 
 
 def judge_stages(model: Model) -> None:
     """Numbers of at most 63, and no number or name twice."""
-    numbers: set[int] = set()
-    names: set[str] = set()
+    seen: set[int | str] = set()
     for stage in model.stages:
         if stage.number.value > GREATEST_STAGE:
             raise Fault("stage-number", stage.number.at)
-        if stage.number.value in numbers:
+        if stage.number.value in seen:
             raise Fault("stage-again", stage.number.at)
-        if stage.name.name in names:
+        if stage.name.name in seen:
             raise Fault("stage-again", stage.name.at)
-        numbers.add(stage.number.value)
-        names.add(stage.name.name)
+        seen |= {stage.number.value, stage.name.name}
 
 
 def parts(formula: Formula) -> list[Formula]:
@@ -53,10 +54,9 @@ def parts(formula: Formula) -> list[Formula]:
 
 def judge_macros(model: Model) -> None:
     """Each macro's name is new, so are its parameters, and expansions fit. A macro names earlier ones alone."""
-    first_of_name: dict[str, Macro] = {}
-    for item in model.items:
-        if isinstance(item, Macro):
-            first_of_name.setdefault(item.name.name, item)
+    macros = [item for item in model.items if isinstance(item, Macro)]
+    # of macros of one name the first stands
+    first_of_name = {macro.name.name: macro for macro in reversed(macros)}
     earlier: dict[str, Macro] = {}
     for item in model.items:
         if isinstance(item, Axiom):
@@ -117,17 +117,11 @@ def measured(formula: Formula, known: dict[str, tuple[int, int]]) -> tuple[int, 
 Scope = tuple[tuple[str, str], ...]
 
 
-def judge_names(model: Model) -> None:
-    """Every name of every axiom, outside before inside and left before right."""
-    judge = NameJudge(model)
-    for axiom in model.axioms:
-        judge.formula(axiom.body, ())
-
-
 class NameJudge:
     """Judges names. A scope is the variables with their sorts, the innermost last, hidden ones included."""
 
     def __init__(self, model: Model) -> None:
+        self.model = model
         self.macros = model.macros
         self.stages = {stage.name.name for stage in model.stages}
 
@@ -155,9 +149,12 @@ class NameJudge:
     def expansion(self, formula: Expand, scope: Scope) -> None:
         """The arguments, then the number of variables, then the macro's body."""
         macro = self.macros[formula.macro.name]
-        sorts = [value_sort(arg, scope) for arg in formula.args]
-        bound = tuple((parameter.name, sort) for parameter, sort in zip(macro.parameters, sorts))
-        self.formula(macro.body, widened(scope, bound, formula.at))
+        bound = tuple((parameter.name, sort_of(arg, scope)) for parameter, arg in zip(macro.parameters, formula.args))
+        self.body(macro.body, widened(scope, bound, formula.at))
+
+    def body(self, formula: Formula, scope: Scope) -> None:
+        """The body of a macro, where it is expanded."""
+        self.formula(formula, scope)
 
     def static(self, formula: Static, scope: Scope) -> None:
         """A predicate's name, the number of its arguments, and each of them."""
@@ -185,35 +182,21 @@ def widened(scope: Scope, bound: Scope, at: int) -> Scope:
     return scope + bound
 
 
-def sort_of(name: str, scope: Scope) -> str | None:
-    """The sort of the innermost binding of a name."""
-    for bound, sort in reversed(scope):
-        if bound == name:
-            return sort
-    return None
-
-
-def value_sort(arg: Arg, scope: Scope) -> str:
-    """The sort of an argument of an expansion: a number is a core."""
+def sort_of(arg: Arg, scope: Scope) -> str:
+    """The sort of an argument: a number is a core, and a name has that of its innermost, that is last, binding."""
     if isinstance(arg, Number):
-        judge_arg(CORE, arg, scope)
+        if arg.value > GREATEST_CORE:
+            raise Fault("core-number", arg.at)
         return CORE
-    sort = sort_of(arg.name, scope)
-    if sort is None:
+    sorts = dict(scope)
+    if arg.name not in sorts:
         raise Fault("unbound", arg.at)
-    return sort
+    return sorts[arg.name]
 
 
 def judge_arg(wanted: str, arg: Arg, scope: Scope) -> None:
     """The argument is of the kind that is asked for."""
-    if isinstance(arg, Number):
-        if wanted != CORE:
-            raise Fault("wrong-sort", arg.at)
-        if arg.value > GREATEST_CORE:
-            raise Fault("core-number", arg.at)
-    elif wanted != PLAIN:
-        sort = sort_of(arg.name, scope)
-        if sort is None:
-            raise Fault("unbound", arg.at)
-        if sort != wanted:
-            raise Fault("wrong-sort", arg.at)
+    if isinstance(arg, Number) and wanted != CORE:
+        raise Fault("wrong-sort", arg.at)
+    if wanted != PLAIN and sort_of(arg, scope) != wanted:
+        raise Fault("wrong-sort", arg.at)

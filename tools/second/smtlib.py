@@ -5,9 +5,9 @@ time stamps would be shorter and would say something else: a denied edge may be 
 numbers one is at most the other.
 """
 from itertools import permutations
-from typing import TextIO
 
-from tools.second.grounding import Conjunction, Literal, Node, Tree, nodes_of
+from tools.second.grounding import Conjunction, Literal, Tree, nodes_of
+from tools.second.meaning import Node
 
 
 def name(node: Node) -> str:
@@ -26,36 +26,25 @@ def before(start: Node, end: Node) -> str:
 
 
 def term(tree: Tree) -> str:
-    """A tree as a term."""
+    """A tree as a term. An edge from a node to itself is never there."""
     if isinstance(tree, bool):
         return "true" if tree else "false"
-    if isinstance(tree, Literal):
-        return atom(tree)
-    word = "and" if isinstance(tree, Conjunction) else "or"
-    return f"({word} {' '.join(term(member) for member in tree.members)})"
-
-
-def atom(literal: Literal) -> str:
-    """A literal as a term. An edge from a node to itself is never there."""
-    if literal.end is None:
-        symbol = there(literal.start)
-    elif literal.start == literal.end:
-        symbol = "false"
+    if not isinstance(tree, Literal):
+        word = "and" if isinstance(tree, Conjunction) else "or"
+        return f"({word} {' '.join(map(term, tree.members))})"
+    if tree.end is None:
+        symbol = there(tree.start)
     else:
-        symbol = before(literal.start, literal.end)
-    return symbol if literal.wanted else f"(not {symbol})"
+        symbol = "false" if tree.start == tree.end else before(tree.start, tree.end)
+    return symbol if tree.wanted else f"(not {symbol})"
 
 
-def write_smtlib(tree: Tree, out: TextIO) -> None:
-    """Writes the question."""
+def smtlib(tree: Tree) -> str:
     nodes = nodes_of(tree)
-    out.write("; sat exactly where the outcome is observable\n(set-logic QF_UF)\n")
-    for node in nodes:
-        out.write(f"(declare-const {there(node)} Bool)\n")
-    for a, b in permutations(nodes, 2):
-        out.write(f"(declare-const {before(a, b)} Bool)\n")
-    for a, b in permutations(nodes, 2):
-        out.write(f"(assert (=> {before(a, b)} (and {there(a)} {there(b)} (not {before(b, a)}))))\n")
-    for a, b, c in permutations(nodes, 3):
-        out.write(f"(assert (=> (and {before(a, b)} {before(b, c)}) {before(a, c)}))\n")
-    out.write(f"(assert {term(tree)})\n(check-sat)\n")
+    pairs = list(permutations(nodes, 2))
+    lines = ["; sat exactly where the outcome is observable", "(set-logic QF_UF)"]
+    lines += [f"(declare-const {there(node)} Bool)" for node in nodes]
+    lines += [f"(declare-const {before(a, b)} Bool)" for a, b in pairs]
+    lines += [f"(assert (=> {before(a, b)} (and {there(a)} {there(b)} (not {before(b, a)}))))" for a, b in pairs]
+    lines += [f"(assert (=> (and {before(a, b)} {before(b, c)}) {before(a, c)}))" for a, b, c in permutations(nodes, 3)]
+    return "\n".join([*lines, f"(assert {term(tree)})", "(check-sat)", ""])

@@ -1,6 +1,7 @@
 """Bytes to tokens, for models and tests alike, and for listings by their own pieces; and the faults of a file."""
 import re
 from dataclasses import dataclass
+from typing import Callable, TypeVar
 
 GREATEST_NUMBER = (1 << 64) - 1
 MOST_DIGITS = len(str(GREATEST_NUMBER))
@@ -17,9 +18,10 @@ PIECE = re.compile(
     re.VERBOSE | re.DOTALL,
 )
 
-
 # how what could stand at a place is called, by its kind
 KINDS = {"name": "a name", "number": "a number", "text": "a text in quotes", "end": "the end of the file"}
+
+Part = TypeVar("Part")
 
 
 class Fault(Exception):
@@ -45,6 +47,11 @@ class Token:
     def content(self) -> str:
         """What stands between the quotes of a text."""
         return self.piece[1:-1]
+
+    @property
+    def value(self) -> int:
+        """What a number says."""
+        return int(self.piece)
 
 
 def tokens(data: bytes, piece: re.Pattern[bytes] = PIECE, start: int = 0) -> list[Token]:
@@ -78,7 +85,6 @@ class Reader:
 
     @property
     def next(self) -> Token:
-        """The token that comes next."""
         return self.all_tokens[self.next_index]
 
     def take(self) -> Token:
@@ -103,6 +109,24 @@ class Reader:
             raise self.refuse()
         return self.take()
 
+    def passes(self, piece: str) -> bool:
+        """Whether the next token is this name or symbol, which is taken then."""
+        is_there = self.sees(piece)
+        if is_there:
+            self.take()
+        return is_there
+
+    def within(self, opening: str, closing: str, read: Callable[[], Part]) -> list[Part]:
+        """What this reads between these two, with `;` between each and the next; one may stand after the last, too."""
+        found = []
+        self.expect(opening)
+        while not self.sees(closing):
+            found.append(read())
+            if not self.sees(closing):
+                self.expect(";")
+        self.take()
+        return found
+
     def sees_kind(self, kind: str, called: str = "") -> bool:
         """Whether the next token is of this kind, which may be called otherwise at this place."""
         self.looked_for.append(called or KINDS[kind])
@@ -116,4 +140,4 @@ class Reader:
 
     def number(self) -> int:
         """The value of the next token, which has to be a number."""
-        return int(self.expect_kind("number").piece)
+        return self.expect_kind("number").value

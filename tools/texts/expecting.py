@@ -1,7 +1,7 @@
 """What could stand where a file has a fault of syntax, in words."""
 from tools.second.cases import CaseReader
 from tools.second.listings import ListingReader, PIECE, behind_header
-from tools.second.models import Model, written_model
+from tools.second.models import Model, ModelReader
 from tools.second.queries import read_query
 from tools.second.tokens import Fault, tokens
 
@@ -18,7 +18,7 @@ def syntax_fault(kind: str, data: bytes) -> Fault | None:
     """The fault of tokens or of syntax of a text that is to be a model, a query, a test, a pattern or a listing."""
     try:
         if kind == "model":
-            written_model(data)
+            ModelReader(tokens(data)).model()
         elif kind == "query":
             read_query(data, Model((), ()))
         elif kind == "listing":

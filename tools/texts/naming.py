@@ -1,6 +1,6 @@
 """How micro-ops, addresses, nodes and places of a model are written where a certificate is explained."""
 from tools.second.cases import Address, Case, Location
-from tools.second.grounding import Node
+from tools.second.meaning import Node
 from tools.second.models import Axiom, Model
 from tools.second.positions import NodeNames
 from tools.texts.origins import Origin

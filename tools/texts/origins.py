@@ -3,7 +3,8 @@ took, the macro, and the label of an edge."""
 from dataclasses import dataclass
 
 from tools.second.cases import Case
-from tools.second.grounding import Conjunction, Disjunction, Environment, Grounder, Literal, Tree, nested
+from tools.second.grounding import Conjunction, Disjunction, Grounder, Literal, Tree, nested
+from tools.second.meaning import Environment
 from tools.second.models import Axiom, Binary, Edges, Expand, Formula, Model, Nodes, Not, Quantified, Static
 from tools.second.positions import Positions
 from tools.second.scopes import parts
