@@ -84,7 +84,6 @@ class AnswerReader:
         self.next = 0
 
     def refused(self) -> AnswerRefused:
-        """The refusal of the next line."""
         return AnswerRefused(self.next + 1)
 
     def expect(self, *wanted: str) -> str:
