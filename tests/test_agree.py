@@ -15,7 +15,7 @@ from typing import Callable, Iterable, Iterator
 
 from tests.cases import (
     PATIENCE, TOP, Cases, Done, apart, call, comes, command, environment, pipecheck, program, read, run, signal_unseen, tool,
-    tool_entry, write
+    tool_entry, without_output, write
 )
 
 # what is imported here is there in each process that is forked from this one
@@ -182,14 +182,12 @@ class Ended(AgreeCases):
     def test_goes_on(self) -> None:
         """What it has got goes when it is done, and is taken up for the same bytes alone. The program is called by a script that
         waits at its 40th call, up to a sign."""
-        waits = write(f"{self.work}/waits", f"""\
-#!/bin/sh
+        waits = command(f"{self.work}/waits", f"""\
 [ ! -e "{self.work}/go" ] || exec "{program()}" "$@"
 echo >>"{self.work}/calls"
 [ $(wc -l <"{self.work}/calls") -lt 40 ] || sleep 600
 exec "{program()}" "$@"
 """)
-        os.chmod(waits, 0o755)
         calls, words = write(f"{self.work}/calls", ""), ("--all", "2+2", EARLY)
         whole = self.agree(*words, PIPECHECK=program())
         process = self.begun([*AGREE, *words], {"PIPECHECK": waits})
@@ -252,8 +250,8 @@ exec "{program()}" "$@"
         self.same("a signal that Python does not see at once ends agree", call(entry, []).status, signal.SIGTERM)
 
     def test_full_device(self) -> None:
-        with open("/dev/full", "wb") as full:
-            self.gives("a full device is no answer", [*AGREE, BUFFER, MP], 5, stdout=full, env=self.variables({}))
+        with without_output("full") as how:
+            self.gives("a full device is no answer", [*AGREE, BUFFER, MP], 5, env=self.variables({}), **how)
 
 
 def children_of(process: int) -> list[int]:

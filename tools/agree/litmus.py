@@ -136,9 +136,7 @@ def test_of_text(whole: str) -> Test:
             op = replace(op, address=numbers(address), virtual=virtual, is_open=is_open)
             op = op if is_open else replace(op, value=value_of(value))
         lines[here].append((int(g), int(n), op))
-    dependencies = {
-        (kind, names[int(g), int(n)], names[int(h), int(m)]) for kind, g, n, h, m in DEPENDENCY.findall(text)
-    }
+    dependencies = {(kind, names[int(g), int(n)], names[int(h), int(m)]) for kind, g, n, h, m in DEPENDENCY.findall(text)}
     values = {(word, numbers(address)): value_of(value) for word, address, value in VALUE.findall(text)}
     return Test(
         tuple(tuple(op for _, _, op in sorted(line, key=lambda entry: entry[:2])) for line in lines),

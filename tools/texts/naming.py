@@ -61,9 +61,7 @@ class Names:
 
     def origin(self, origin: Origin | None) -> str:
         """Where a part of the tree comes from."""
-        if origin is None:
-            return "several axioms"
-        label = f'"{origin.label}" by ' if origin.label else ""
+        label = f'"{origin.label}" by ' if origin is not None and origin.label else ""
         return label + self.formula(origin) + self.inside(origin)
 
     def formula(self, origin: Origin | None) -> str:

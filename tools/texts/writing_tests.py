@@ -62,7 +62,8 @@ def notes(data: bytes, start: int) -> Iterator[str]:
 
 def item_lines(listing: Listing, items: list[Item]) -> Iterator[tuple[str, str]]:
     """Each item with a comment that has its names."""
-    cells = instructions(listing)
+    # the instructions in the order of their micro-ops
+    cells = (cell for column in zip(*(row.cells for row in listing.rows)) for cell in column if cell is not None)
     for item in items:
         if isinstance(item, OpItem):
             yield op_text(item.op), op_comment(item.op, next(cells))
@@ -77,12 +78,6 @@ def item_lines(listing: Listing, items: list[Item]) -> Iterator[tuple[str, str]]
 def value_line(word: str, location: Location, value: object) -> tuple[str, str]:
     """An `Init` or a `Final` with a comment that names its location."""
     return f"{word} {address_text(location)} {value}.", f"{printable(location.name)} = {value}"
-
-
-def instructions(listing: Listing) -> Iterator[Instruction]:
-    """The instructions in the order of their micro-ops."""
-    for column in range(len(listing.head)):
-        yield from (one for row in listing.rows if (one := row.cells[column]) is not None)
 
 
 def op_text(op: Op) -> str:

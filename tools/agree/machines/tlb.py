@@ -23,27 +23,19 @@ where it sets a mark. A run that translates otherwise, or goes to another page, 
 """
 from typing import Iterator, NamedTuple
 
-from tools.agree.litmus import (
-    Memory, NotRun, Op, Outcome, ReadValues, Test, ends, replaced, values_of, with_item, with_read
-)
+from tools.agree.litmus import Memory, NotRun, Op, Outcome, ReadValues, Test, ends, replaced, values_of, with_item, with_read
 
 # the machine runs tests of format 2, and no others
 TAKES_ENTRIES = True
 
 
-class Translation(NamedTuple):
-    """What the TLB has of a virtual tag."""
-
-    frame: int
-    is_dirty: bool
-
-
 class Core(NamedTuple):
-    """How many instructions are translated and how many are done, the TLB, and the buffer with the oldest entry first."""
+    """How many instructions are translated and how many are done; the TLB, which has entries by their virtual tags; and the
+    buffer with the oldest entry first."""
 
     translated: int = 0
     done: int = 0
-    tlb: tuple[tuple[int, Translation], ...] = ()
+    tlb: tuple[tuple[int, tuple[int, int, int]], ...] = ()
     buffer: Memory = ()
 
 
@@ -133,10 +125,9 @@ def translates(state: State, k: int, core: Core, line: tuple[Instruction, ...]) 
     elif instruction.walk is not None:
         yield from walks(state, k, following, instruction, instruction.walk)
     else:
-        found = dict(core.tlb).get(instruction.access.virtual[0])
-        if found is None or not (found.is_dirty or instruction.access.kind == "Read"):
-            return
-        if instruction.access.address == (found.frame, instruction.access.virtual[1]):
+        tag, index = instruction.access.virtual
+        frame, _, dirty = dict(core.tlb).get(tag, (None, 0, 0))
+        if instruction.access.address == (frame, index) and (dirty or instruction.access.kind == "Read"):
             yield with_core(state, k, following)
 
 
@@ -150,7 +141,7 @@ def walks(state: State, k: int, core: Core, instruction: Instruction, walk: Op) 
     mark = instruction.mark
     is_as_stated = mark is None if marked == entry else mark is not None and mark.value == marked
     if is_as_stated and instruction.access.address == (frame, instruction.access.virtual[1]):
-        tlb = replaced(core.tlb, walk.address[0], Translation(frame, marked[2] == 1))
+        tlb = replaced(core.tlb, walk.address[0], marked)
         after = with_core(state, k, core._replace(tlb=tuple(sorted(tlb))))
         memory = replaced(state.memory, walk.address, marked)
         yield after._replace(memory=memory, reads=with_read(state.reads, walk, entry))

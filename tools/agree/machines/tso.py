@@ -12,9 +12,7 @@ drain. That is partial store order (The SPARC Architecture Manual, version 8); s
 """
 from typing import Iterator, NamedTuple
 
-from tools.agree.litmus import (
-    Memory, NotRun, Op, Outcome, ReadValues, Test, ends, replaced, values_of, with_item, with_read
-)
+from tools.agree.litmus import Memory, NotRun, Op, Outcome, ReadValues, Test, ends, replaced, values_of, with_item, with_read
 
 # whether a test may have instructions of two micro-ops
 TAKES_LOCKED = True

@@ -57,9 +57,7 @@ class Rules:
 
     def perform(self, state: State, op: Op) -> State:
         """A write goes to memory."""
-        return state._replace(
-            performed=state.performed | {op.place}, memory=replaced(state.memory, op.address, op.value)
-        )
+        return state._replace(performed=state.performed | {op.place}, memory=replaced(state.memory, op.address, op.value))
 
     def value_seen(self, state: State, op: Op) -> Value:
         """What a read gets that forwards nothing."""
@@ -83,9 +81,7 @@ class Rules:
         if op.kind == "Fence":
             return not op.is_full_fence or all(self.is_done(state, other) for other in earlier)
         fences_done = all(other.place in state.executed for other in earlier if other.is_full_fence)
-        reads_done = op.kind == "Write" or all(
-            other.place in state.executed for other in same_address(earlier, op, "Read")
-        )
+        reads_done = op.kind == "Write" or all(other.place in state.executed for other in same_address(earlier, op, "Read"))
         return fences_done and reads_done and self.follows(state, op, "addr", "data")
 
     def execute(self, state: State, op: Op) -> Iterator[State]:

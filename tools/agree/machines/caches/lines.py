@@ -55,37 +55,28 @@ def is_first(waiting: tuple[Op, ...]) -> bool:
 
 
 def outcomes(test: Test, is_oldest: IsOldest = is_first) -> set[Outcome]:
-    rules = Rules(test, is_oldest)
-    start = State((Core(),) * len(test.cores), test.memory, ())
-    return {(values_of(end.reads), end.memory) for end in ends(start, rules.steps)}
 
-
-class Rules:
-    """The steps of the machine on one test."""
-
-    def __init__(self, test: Test, is_oldest: IsOldest) -> None:
-        self.test = test
-        self.is_oldest = is_oldest
-
-    def steps(self, state: State) -> Iterator[State]:
-        """A cache asks, has its answer or gives up a line; a buffer drains; or a micro-op executes."""
-        for k, (core, ops) in enumerate(zip(state.cores, self.test.cores)):
-            yield from self.asks(state, k, core, ops)
+    def steps(state: State) -> Iterator[State]:
+        for k, (core, ops) in enumerate(zip(state.cores, test.cores)):
+            for asking in asks(test, core, ops, is_oldest):
+                yield with_core(state, k, asking)
             yield from comes_or_goes(state, k, core)
             yield from drains(state, k, core)
             if core.done < len(ops):
                 yield from executes(state, k, core, ops[core.done])
 
-    def asks(self, state: State, k: int, core: Core, ops: tuple[Op, ...]) -> Iterator[State]:
-        """A read that is not executed asks for its line."""
-        there = dict(core.lines)
-        executed = {op.place for op in ops[: core.done]}
-        for number in range(core.done, len(ops)):
-            op = ops[number]
-            sources = {i for kind, i, j in self.test.dependencies if kind == "addr" and j == op.place}
-            if op.kind == "Read" and op.address not in there and sources <= executed:
-                line = Line(op.place, self.is_oldest(ops[core.done : number]))
-                yield with_core(state, k, with_line(core, op.address, line))
+    start = State((Core(),) * len(test.cores), test.memory, ())
+    return {(values_of(end.reads), end.memory) for end in ends(start, steps)}
+
+
+def asks(test: Test, core: Core, ops: tuple[Op, ...], is_oldest: IsOldest) -> Iterator[Core]:
+    """A read that is not executed asks for its line."""
+    there = dict(core.lines)
+    executed = {op.place for op in ops[: core.done]}
+    for number, op in enumerate(ops[core.done :], core.done):
+        sources = {i for kind, i, j in test.dependencies if kind == "addr" and j == op.place}
+        if op.kind == "Read" and op.address not in there and sources <= executed:
+            yield with_line(core, op.address, Line(op.place, is_oldest(ops[core.done : number])))
 
 
 def comes_or_goes(state: State, k: int, core: Core) -> Iterator[State]:
