@@ -143,7 +143,6 @@ def ask_answer(model_text: bytes, test_text: bytes, query_text: bytes) -> Answer
 
 
 def contents(path: str | bytes) -> bytes:
-    """The bytes of a file."""
     with open(path, "rb") as file:
         return file.read()
 
@@ -180,11 +179,9 @@ class Runs:
     said: list[str] = field(default_factory=list)
 
     def path(self, name: str) -> str:
-        """The path of a file of this worker."""
         return os.path.join(self.folder, name)
 
     def write(self, name: str, text: bytes) -> str:
-        """Writes a file, and returns its path."""
         return cases.write(self.path(name), text)
 
     def call(self, args: Words, memory: int = 0, **how: Any) -> Answer:

@@ -53,7 +53,6 @@ sys.setrecursionlimit(20_000)
 
 @cache
 def contents(path: str) -> bytes:
-    """The bytes of a file."""
     with open(path, "rb") as file:
         return file.read()
 

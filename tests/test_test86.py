@@ -189,7 +189,6 @@ class Maker:
     chance: Random
 
     def listing(self) -> bytes:
-        """A listing."""
         chance = self.chance
         columns = chance.randint(1, 4)
         loads: dict[tuple[int, str], str] = {}
@@ -209,10 +208,6 @@ class Maker:
         """What may stand between two tokens."""
         return self.chance.choice((" ", "\t", "\r\n", "  ", self.chance.choice(COMMENTS)))
 
-    def location(self) -> str:
-        """A location."""
-        return self.chance.choice(LOCATIONS)
-
     def cell(self, column: int, loads: dict[tuple[int, str], str]) -> str:
         """An instruction or none; a register is loaded once by its thread."""
         kind = self.chance.choice("WWRRRF ")
@@ -220,18 +215,16 @@ class Maker:
         if kind == "F":
             return self.blank() + "MFENCE"
         if kind == "W":
-            return f"{self.blank()}MOV [{self.location()}],${self.chance.choice(NUMBERS)}"
+            return f"{self.blank()}MOV [{self.chance.choice(LOCATIONS)}],${self.chance.choice(NUMBERS)}"
         if kind == "R" and (column, register) not in loads:
             loads[column, register] = self.chance.choice(NUMBERS)
-            return f" MOV {register}, [{self.location()}]{self.blank()}"
+            return f" MOV {register}, [{self.chance.choice(LOCATIONS)}]{self.blank()}"
         return self.blank()
 
     def equation(self, name: str) -> str:
-        """A value of a location."""
         return f"{self.chance.choice((name, f'[{name}]'))} = {self.chance.choice(NUMBERS)}"
 
     def inits(self) -> str:
-        """The first block."""
         names = self.chance.sample(LOCATIONS, self.chance.randint(0, 4))
         return ";".join(map(self.equation, names)) + (";" if names and self.chance.random() < 0.5 else "")
 
@@ -310,7 +303,6 @@ class Typed(Cases):
     """Texts that are typed from docs/tests.md."""
 
     def put(self, listing: bytes) -> str:
-        """The path of a listing."""
         return write(f"{self.work}/listing.litmus", listing)
 
     def test_texts(self) -> None:
