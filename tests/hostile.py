@@ -209,6 +209,18 @@ class Runs:
 
     # what is run
 
+    def whole(self) -> None:
+        """A model and a test without a fault."""
+        self.pair(random_texts.ModelMaker(self.random).text(), random_texts.test_text(self.random))
+
+    def changed(self) -> None:
+        """A model and a test of which one or both are changed."""
+        model_text, test_text = random_texts.ModelMaker(self.random).text(), random_texts.test_text(self.random)
+        which = self.random.randrange(3)
+        model_text = random_texts.changed_file(self.random, model_text) if which != 1 else model_text
+        test_text = random_texts.changed_file(self.random, test_text) if which != 0 else test_text
+        self.pair(model_text, test_text)
+
     def pair(self, model_text: bytes, test_text: bytes) -> None:
         """Both kinds of check on a pair, against the second implementation; then what can be done with the certificate."""
         files: Words = [self.write("model", model_text), self.write("test", test_text)]
@@ -358,19 +370,27 @@ class Runs:
         graph = b"observable\ntest unstated\nend\n"
         return 0, b"core none\n" + graph + b"end\n" if word == "core" else graph
 
-    def pattern(self, model_text: bytes, pattern_text: bytes) -> None:
-        """A sweep of two files, against the second implementation's."""
+    def pattern(self) -> None:
+        """A sweep, against the second implementation's."""
+        pattern_text = random_texts.opened(self.random, random_texts.test_text(self.random), self.random.random() < 0.05)
+        if self.random.random() < 0.3:
+            pattern_text = random_texts.changed_file(self.random, pattern_text)
+        model_text = random_texts.ModelMaker(self.random).text()
         files: Words = [self.write("model", model_text), self.write("test", pattern_text)]
         answer = within(sweep_answer, model_text, pattern_text)
         self.demand(["sweep", *files], answer)
         if self.random.random() < 0.1:
             self.little_memory(["sweep", *files], answer)
 
-    def query(self, model_text: bytes, test_text: bytes, query_text: bytes) -> None:
-        """A query of three files, against the second implementation's answer."""
-        texts = {"model": model_text, "test": test_text, "query": query_text}
-        files: Words = [self.write(name, text) for name, text in texts.items()]
-        answer = within(ask_answer, *texts.values(), seconds=2 * SECONDS_OF_A_READING)
+    def query(self) -> None:
+        """A query, against the second implementation's answer."""
+        maker = random_texts.ModelMaker(self.random)
+        texts = [maker.text(), random_texts.test_text(self.random), maker.query()]
+        if self.random.random() < 0.4:
+            which = self.random.choice((0, 1, 2, 2, 2))
+            texts[which] = random_texts.changed_file(self.random, texts[which])
+        files: Words = [*map(self.write, ("model", "test", "query"), texts)]
+        answer = within(ask_answer, *texts, seconds=2 * SECONDS_OF_A_READING)
         if answer[0] == 3:
             self.word_of(answer[1])
         self.demand(["ask", *files], answer)
@@ -401,40 +421,14 @@ class Runs:
     def judged(self, name: str) -> None:
         """The case of this name; what is wrong with it is kept."""
         self.random = Random(name)
+        kinds = {self.whole: 5, self.changed: 5, self.arguments: 1, self.machine: 2, self.pattern: 3, self.query: 3}
+        (kind,) = self.random.choices([*kinds], weights=[*kinds.values()])
         try:
-            self.one()
+            kind()
         except Late:
             self.counts["late"] += 1
         except (Wrong, AssertionError) as wrong:
             self.kept(name, wrong)
-
-    def one(self) -> None:
-        """One case of a kind that is chosen at random."""
-        kinds = ("whole", "changed", "arguments", "machine", "pattern", "query")
-        kind = self.random.choices(kinds, weights=(5, 5, 1, 2, 3, 3))[0]
-        if kind == "arguments":
-            self.arguments()
-        elif kind == "machine":
-            self.machine()
-        elif kind == "pattern":
-            pattern = random_texts.opened(self.random, random_texts.test_text(self.random), self.random.random() < 0.05)
-            if self.random.random() < 0.3:
-                pattern = random_texts.changed_file(self.random, pattern)
-            self.pattern(random_texts.ModelMaker(self.random).text(), pattern)
-        elif kind == "query":
-            maker = random_texts.ModelMaker(self.random)
-            texts = [maker.text(), random_texts.test_text(self.random), maker.query()]
-            if self.random.random() < 0.4:
-                which = self.random.choice((0, 1, 2, 2, 2))
-                texts[which] = random_texts.changed_file(self.random, texts[which])
-            self.query(*texts)
-        else:
-            model_text, test_text = random_texts.ModelMaker(self.random).text(), random_texts.test_text(self.random)
-            if kind == "changed":
-                which = self.random.randrange(3)
-                model_text = random_texts.changed_file(self.random, model_text) if which != 1 else model_text
-                test_text = random_texts.changed_file(self.random, test_text) if which != 0 else test_text
-            self.pair(model_text, test_text)
 
     def kept(self, name: str, wrong: Exception) -> None:
         """Keeps the files of a wrong run."""

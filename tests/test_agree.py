@@ -175,10 +175,6 @@ class Ended(AgreeCases):
         """Waits until something comes true, or fails."""
         self.assertTrue(comes(is_so), "it did not come true in time")
 
-    def wait_until_all(self, asked: str) -> None:
-        """Waits until each process that compares waits for the program, which notes that in this folder."""
-        self.wait_until(lambda: len(os.listdir(asked)) >= len(os.sched_getaffinity(0)))
-
     def test_goes_on(self) -> None:
         """What it has got goes when it is done, and is taken up for the same bytes alone. The program is called by a script that
         waits at its 40th call, up to a sign."""
@@ -224,7 +220,8 @@ exec "{program()}" "$@"
             waits = command(f"{self.work}/waits", f'[ -s "$3" ] || exec "{program()}" "$@"\n: >"{asked}/$$"\nexec sleep 600\n')
             process = self.begun(["env", f"--default-signal={name}", *AGREE, "--random", "7", "100000", BUFFER],
                                  {"PIPECHECK": waits, "TMPDIR": room})
-            self.wait_until_all(asked)
+            # each process that compares waits for the program
+            self.wait_until(lambda: len(os.listdir(asked)) >= len(os.sched_getaffinity(0)))
             workers = children_of(process.pid)
             number = signal.Signals[f"SIG{name}"]
             process.send_signal(number)
@@ -319,6 +316,8 @@ tso-buffer-no-write-between.uspec SB+fences+old.test: shown yes, tso allows no
         self.gives("the comments of tests are what the table says", [*tool("comments"), "--check"])
 
 
+# the types of fences
+FENCES = "ab"
 # a core's accesses and fences, each a text
 Core = tuple[str, ...]
 # shapes, addresses, kinds of fences, whether there are exchanges, and how many programs there are, where that is known
@@ -351,7 +350,7 @@ class Small(Cases):
             name = f"{words} over {locations} addresses{more}: {wanted} programs"
             if self.is_wanted(name):
                 shapes = shapes_of(words)
-                family = Family(shapes, locations, tuple(chr(ord("a") + k) for k in range(fences)), has_exchanges)
+                family = Family(shapes, locations, tuple(FENCES[:fences]), has_exchanges)
                 found = [least(texts_of(program), locations) for program in family.programs]
                 every = {*found}
                 if (words, fences) != LONG:
@@ -372,7 +371,7 @@ def all_programs(shapes: Iterable[Shape], locations: int, fences: int, kinds: st
 def cores(length: int, locations: int, fences: int, kinds: str) -> Iterator[Core]:
     """All that a core of so many accesses may do. A number stands for an address."""
     accesses = [f"{kind}{address}" for kind in kinds for address in range(locations)]
-    gaps = ["", *(f"F{chr(ord('a') + k)}" for k in range(fences))]
+    gaps = ["", *(f"F{name}" for name in FENCES[:fences])]
     yield from product(*([accesses, gaps] * (length - 1) + [accesses]))
 
 
