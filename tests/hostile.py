@@ -31,22 +31,20 @@ from dataclasses import dataclass, field
 from glob import escape as glob_escape
 from glob import glob
 from importlib import import_module
+from itertools import count, takewhile
 from random import Random
-from typing import Any, Callable
+from typing import Any, Callable, Iterable
 
-from tests import random_texts
+from tests import cases, random_texts
 from tools import TOP
 from tools.agree.litmus import read_test
 from tools.second.cases import Case, read_case
-from tools.second.evaluating import false_axioms
-from tools.second.grounding import ground
 from tools.second.judging import Refused as CertificateRefused
 from tools.second.judging import judge, second_line
 from tools.second.lifted import LiftedJudge, judge_lifted
 from tools.second.models import Model
-from tools.second.patterns import read_pattern, sweep, sweep_text
+from tools.second.patterns import is_observable, read_pattern, sweep, sweep_text
 from tools.second.scopes import read_model
-from tools.second.searching import search
 from tools.second.main import LIMIT, Refused, ask, core, judged, judged_three
 from tools.standing import tested
 
@@ -57,6 +55,7 @@ SECONDS_OF_A_READING = 5
 USAGE = b"pipecheck: bad command line\n"
 UNOBSERVABLE = b"verified unobservable\n"
 Answer = tuple[int, bytes]
+Words = list[str | bytes]
 
 
 class Wrong(Exception):
@@ -83,7 +82,7 @@ def fault_words() -> dict[str, set[str]]:
 WORDS = fault_words()
 
 
-def within(seconds: float, work: Callable[..., Any], *args: Any) -> Any:
+def within(work: Callable[..., Any], *args: Any, seconds: float = SECONDS_OF_A_READING) -> Any:
     """What the work gives within so many seconds."""
 
     def stop(*_: Any) -> None:
@@ -101,40 +100,31 @@ def within(seconds: float, work: Callable[..., Any], *args: Any) -> Any:
 
 @dataclass
 class Read:
-    """What the second implementation makes of two files: the line of their refusal, or what they say with its verdict."""
+    """What a model and a test say, and the verdict of the second implementation."""
 
-    refused: bytes = b""
-    model: Model | None = None
-    case: Case | None = None
-    is_observable: bool = False
+    model: Model
+    case: Case
+    is_observable: bool
 
-    def second(self) -> bytes:
-        """The second line of the verdict."""
-        assert self.case is not None
-        return second_line(self.is_observable, self.case).encode()
+
+def judge_sizes(**texts: bytes) -> None:
+    """No file is read where one of them is too large."""
+    for kind, text in texts.items():
+        if len(text) > LIMIT:
+            raise Refused(f"refused {kind} too-large at 1:1")
 
 
 def read_pair(model_text: bytes, test_text: bytes) -> Read:
     """Reads a model and a test, and searches."""
-    for kind, text in (("model", model_text), ("test", test_text)):
-        if len(text) > LIMIT:
-            return Read(refused=f"refused {kind} too-large at 1:1\n".encode())
-    try:
-        model, case = judged("model", read_model, model_text), judged("test", read_case, test_text)
-    except Refused as refused:
-        return Read(refused=f"{refused}\n".encode())
-    witness = search(ground(model, case))
-    if witness is not None and false_axioms(model, case, witness.nodes, witness.edges):
-        raise Wrong("the second implementation's witness makes an axiom false")
-    return Read(model=model, case=case, is_observable=witness is not None)
+    judge_sizes(model=model_text, test=test_text)
+    model, case = judged("model", read_model, model_text), judged("test", read_case, test_text)
+    return Read(model, case, is_observable(model, case))
 
 
 def sweep_answer(model_text: bytes, pattern_text: bytes) -> Answer:
     """What `sweep` has to answer to two files."""
-    for kind, text in (("model", model_text), ("test", pattern_text)):
-        if len(text) > LIMIT:
-            return 3, f"refused {kind} too-large at 1:1\n".encode()
     try:
+        judge_sizes(model=model_text, test=pattern_text)
         model, pattern = judged("model", read_model, model_text), judged("test", read_pattern, pattern_text)
     except Refused as refused:
         return 3, f"{refused}\n".encode()
@@ -143,10 +133,8 @@ def sweep_answer(model_text: bytes, pattern_text: bytes) -> Answer:
 
 def ask_answer(model_text: bytes, test_text: bytes, query_text: bytes) -> Answer:
     """What `ask` has to answer to three files."""
-    for kind, text in (("model", model_text), ("test", test_text), ("query", query_text)):
-        if len(text) > LIMIT:
-            return 3, f"refused {kind} too-large at 1:1\n".encode()
     try:
+        judge_sizes(model=model_text, test=test_text, query=query_text)
         asked = judged_three(model_text, test_text, query_text)
     except Refused as refused:
         return 3, f"{refused}\n".encode()
@@ -155,7 +143,6 @@ def ask_answer(model_text: bytes, test_text: bytes, query_text: bytes) -> Answer
 
 
 def contents(path: str | bytes) -> bytes:
-    """The bytes of a file."""
     with open(path, "rb") as file:
         return file.read()
 
@@ -163,17 +150,15 @@ def contents(path: str | bytes) -> bytes:
 def judgement(read: Read, text: bytes, takes_version_2: bool = True) -> Answer:
     """What `verify` has to answer to this text; by the rules of version 1 alone what `lift` answers to it, but for a
     refutation."""
-    assert read.model is not None and read.case is not None
     try:
-        is_observable = judge(read.model, read.case, text, takes_version_2)
+        is_graph = judge(read.model, read.case, text, takes_version_2)
     except CertificateRefused as refused:
         return 6, f"{refused}\n".encode()
-    return (0, b"verified observable\n") if is_observable else (1, UNOBSERVABLE)
+    return (0, b"verified observable\n") if is_graph else (1, UNOBSERVABLE)
 
 
 def lifted_judgement(read: Read, text: bytes) -> Answer:
     """What `verify-lifted` has to answer to this text."""
-    assert read.model is not None and read.case is not None
     try:
         judge_lifted(read.model, read.case, text)
     except CertificateRefused as refused:
@@ -181,13 +166,6 @@ def lifted_judgement(read: Read, text: bytes) -> Answer:
     if read.is_observable:
         raise Wrong("the second implementation takes a lifted refutation of an observable outcome")
     return 1, UNOBSERVABLE
-
-
-def core_of(read: Read) -> Answer:
-    """What `core` has to answer."""
-    assert read.model is not None and read.case is not None
-    text, status = core(read.model, read.case)
-    return status, text.encode()
 
 
 @dataclass
@@ -201,22 +179,19 @@ class Runs:
     said: list[str] = field(default_factory=list)
 
     def path(self, name: str) -> str:
-        """The path of a file of this worker."""
         return os.path.join(self.folder, name)
 
     def write(self, name: str, text: bytes) -> str:
-        """Writes a file, and returns its path."""
-        with open(self.path(name), "wb") as file:
-            file.write(text)
-        return self.path(name)
+        return cases.write(self.path(name), text)
 
-    def call(self, args: list[str | bytes], stdout: Any = subprocess.PIPE, memory: int = 0) -> Answer:
+    def call(self, args: Words, memory: int = 0, **how: Any) -> Answer:
         """Runs the program: its status, negative where a signal ended it, and what it wrote."""
         self.counts["runs"] += 1
-        limit = (lambda: resource.setrlimit(resource.RLIMIT_AS, (memory, memory))) if memory else None
+        if memory:
+            how["preexec_fn"] = cases.within(resource.RLIMIT_AS, memory)
+        options: dict[str, Any] = {"stdin": subprocess.DEVNULL, "stdout": subprocess.PIPE, "stderr": subprocess.PIPE, **how}
         try:
-            done = subprocess.run([PROGRAM, *args], stdin=subprocess.DEVNULL, stdout=stdout, stderr=subprocess.PIPE,
-                                  timeout=SECONDS_OF_A_CALL, preexec_fn=limit, check=False)
+            done = subprocess.run([PROGRAM, *args], timeout=SECONDS_OF_A_CALL, check=False, **options)
         except subprocess.TimeoutExpired as error:
             raise Late from error
         # under a limit of memory it is the system that may say there why the program could not begin
@@ -224,7 +199,7 @@ class Runs:
             raise Wrong(f"{args}: standard error has {done.stderr[:80]!r}")
         return done.returncode, done.stdout or b""
 
-    def demand(self, args: list[str | bytes], *allowed: Answer) -> Answer:
+    def demand(self, args: Words, *allowed: Answer) -> Answer:
         """Runs the program; its answer has to be one of these."""
         answer = self.call(args)
         if answer not in allowed:
@@ -234,54 +209,66 @@ class Runs:
 
     # what is run
 
+    def whole(self) -> None:
+        """A model and a test without a fault."""
+        self.pair(random_texts.ModelMaker(self.random).text(), random_texts.test_text(self.random))
+
+    def changed(self) -> None:
+        """A model and a test of which one or both are changed."""
+        model_text, test_text = random_texts.ModelMaker(self.random).text(), random_texts.test_text(self.random)
+        which = self.random.randrange(3)
+        model_text = random_texts.changed_file(self.random, model_text) if which != 1 else model_text
+        test_text = random_texts.changed_file(self.random, test_text) if which != 0 else test_text
+        self.pair(model_text, test_text)
+
     def pair(self, model_text: bytes, test_text: bytes) -> None:
         """Both kinds of check on a pair, against the second implementation; then what can be done with the certificate."""
-        files: list[str | bytes] = [self.write("model", model_text), self.write("test", test_text)]
-        read = within(SECONDS_OF_A_READING, read_pair, model_text, test_text)
-        if read.refused:
-            self.refused(files, read.refused)
+        files: Words = [self.write("model", model_text), self.write("test", test_text)]
+        try:
+            read = within(read_pair, model_text, test_text)
+        except Refused as refused:
+            self.refused(files, f"{refused}\n".encode())
             return
         for word in ("check", "check2"):
             status, text = self.call([word, *files])
             verdict = b"observable" if read.is_observable else b"unobservable"
+            second = second_line(read.is_observable, read.case).encode()
             lines = text.split(b"\n")
-            if status != (0 if read.is_observable else 1) or lines[:2] != [verdict, read.second()]:
+            if status != (0 if read.is_observable else 1) or lines[:2] != [verdict, second]:
                 raise Wrong(f"{word}: status {status}, {text[:80]!r}; the second implementation says {verdict!r}")
             if (lines[2:3] == [b"version 2"]) is not (word == "check2" and not read.is_observable):
                 raise Wrong(f"{word}: another version, {text[:80]!r}")
             accepted = (status, b"verified " + verdict + b"\n")
-            if within(SECONDS_OF_A_READING, judgement, read, text) != accepted:
+            if within(judgement, read, text) != accepted:
                 raise Wrong(f"{word}: the second implementation refuses the certificate")
             self.certificate(files, read, text, accepted)
             self.outside([word, *files], (status, text))
-        self.demand(["core", *files], within(SECONDS_OF_A_READING, core_of, read))
+        answer, status = within(core, read.model, read.case)
+        self.demand(["core", *files], (status, answer.encode()))
         self.lifted(files, read)
 
-    def lifted(self, files: list[str | bytes], read: Read) -> None:
+    def lifted(self, files: Words, read: Read) -> None:
         """Texts that begin as a lifted refutation does, and changes of them, against the second implementation."""
-        assert read.model is not None and read.case is not None
         judge_of = LiftedJudge(read.model, read.case)
-        text = within(SECONDS_OF_A_READING, random_texts.lifted_text, self.random, judge_of)
+        text = within(random_texts.lifted_text, self.random, judge_of)
         for _ in range(3):
-            self.write("certificate", text)
-            answer = within(SECONDS_OF_A_READING, lifted_judgement, read, text)
-            self.demand(["verify-lifted", *files, self.path("certificate")], answer)
+            self.demand(["verify-lifted", *files, self.write("certificate", text)], within(lifted_judgement, read, text))
             text = random_texts.changed_lifted(self.random, text)
 
-    def lift(self, files: list[str | bytes], read: Read, text: bytes) -> None:
+    def lift(self, files: Words, read: Read, text: bytes) -> None:
         """What `lift` makes of a certificate, which is there as a file. Both judges take the text that it makes."""
-        lift: list[str | bytes] = ["lift", *files, self.path("certificate")]
-        due = within(SECONDS_OF_A_READING, judgement, read, text, False)
+        lift: Words = ["lift", *files, self.path("certificate")]
+        due = within(judgement, read, text, False)
         if due != (1, UNOBSERVABLE):
             self.demand(lift, due)
             return
         status, made = self.call(lift)
-        if status != 0 or within(SECONDS_OF_A_READING, lifted_judgement, read, made) != due:
+        if status != 0 or within(lifted_judgement, read, made) != due:
             raise Wrong(f"lift: status {status}, {made[:80]!r}, which the second implementation does not take")
         self.demand(["verify-lifted", *files, self.write("made", made)], due)
         self.outside(lift, (status, made))
 
-    def refused(self, files: list[str | bytes], line: bytes) -> None:
+    def refused(self, files: Words, line: bytes) -> None:
         """All commands on two files refuse them by this line, which has a word of docs/faults.md."""
         word = self.word_of(line)
         third = self.path("none")
@@ -301,9 +288,9 @@ class Runs:
             raise Wrong(f"docs/faults.md has no word {word!r} of a {kind!r}")
         return word
 
-    def certificate(self, files: list[str | bytes], read: Read, text: bytes, accepted: Answer) -> None:
+    def certificate(self, files: Words, read: Read, text: bytes, accepted: Answer) -> None:
         """The certificate, rewritings that keep it right, and changes of it."""
-        verify: list[str | bytes] = ["verify", *files, self.write("certificate", text)]
+        verify: Words = ["verify", *files, self.write("certificate", text)]
         self.demand(verify, accepted)
         if len(text) > 20_000:
             return
@@ -313,38 +300,25 @@ class Runs:
         for _ in range(self.random.choice((1, 2, 4))):
             spoilt = random_texts.changed_certificate(self.random, text)
             self.write("certificate", spoilt)
-            self.demand(verify, within(SECONDS_OF_A_READING, judgement, read, spoilt))
+            self.demand(verify, within(judgement, read, spoilt))
             self.lift(files, read, spoilt)
 
-    def outside(self, args: list[str | bytes], answer: Answer) -> None:
+    def outside(self, args: Words, answer: Answer) -> None:
         """Now and then the same with an output that fails, or with little memory."""
         if self.random.random() < 0.1:
             self.failing_output(args)
         if self.random.random() < 0.2:
             self.little_memory(args, answer)
 
-    def failing_output(self, args: list[str | bytes]) -> None:
+    def failing_output(self, args: Words) -> None:
         """A full device, a closed output, a pipe that nobody reads: status 5."""
-        kind = self.random.choice(("full", "closed", "pipe"))
-        if kind == "closed":
-            self.counts["runs"] += 1
-            done = subprocess.run(["sh", "-c", 'exec "$@" >&-', "sh", PROGRAM, *args], stdin=subprocess.DEVNULL,
-                                  timeout=SECONDS_OF_A_CALL, check=False)
-            status = done.returncode
-        elif kind == "full":
-            with open("/dev/full", "wb") as full:
-                status = self.call(args, stdout=full)[0]
-        else:
-            reader, writer = os.pipe()
-            os.close(reader)
-            try:
-                status = self.call(args, stdout=writer)[0]
-            finally:
-                os.close(writer)
+        kind = self.random.choice(("full", "closed", "unread"))
+        with cases.without_output(kind) as how:
+            status, _ = self.call(args, **how)
         if status != 5:
-            raise Wrong(f"{args}: status {status} on a {kind} output")
+            raise Wrong(f"{args}: status {status} where the output is {kind}")
 
-    def little_memory(self, args: list[str | bytes], answer: Answer) -> None:
+    def little_memory(self, args: Words, answer: Answer) -> None:
         """A limit of address space: the same answer, or status 7 and nothing written."""
         memory = int(2 ** self.random.uniform(21, 25))
         found = self.call(args, memory=memory)
@@ -357,18 +331,18 @@ class Runs:
 
     def arguments(self) -> None:
         """Arguments of any kind: no command, names of no file, bytes that are no text."""
-        names: list[str | bytes] = [
+        names: Words = [
             self.write("model", b'StageName 0 "S".\n'), self.write("test", b'Litmus "t".\n'), self.path("none"), self.folder, "",
             b"\xff", "x" * 300, "--help", "check", "verify", "core", "sweep", "lift", "ask", "gen",
             str(self.random.randint(0, 9)), "02", "+4", "4 ", "17", "1e1"]
         words = "check check2 verify core sweep verify-lifted lift ask gen Check help".split()
-        firsts: list[str | bytes] = [*words, "", b"\xc3("]
+        firsts: Words = [*words, "", b"\xc3("]
         args = [self.random.choice(firsts)]
         count = self.random.choice((0, 1, 1, 2, 2, 2, 3, 3, 4))
         args += self.random.choices(names, weights=[6, 6] + [1] * (len(names) - 2), k=count)
         self.demand(args, self.answer_to(args))
 
-    def answer_to(self, args: list[str | bytes]) -> Answer:
+    def answer_to(self, args: Words) -> Answer:
         """What the program answers to arguments of the names above, by docs/faults.md."""
         if b"\xff" in args or b"\xc3(" in args:
             return 8, b""
@@ -383,7 +357,7 @@ class Runs:
         if any(not os.path.isfile(name) for name in args[1:4 if word == "ask" else 3]):
             return 4, b""
         if word == "ask":
-            return ask_answer(*map(contents, args[1:4]))
+            return ask_answer(*map(contents, args[1:]))
         kinds = [os.path.basename(name) for name in args[1:3]]
         if kinds[0] == "test":
             return 3, b"refused model syntax at 1:1\n"
@@ -396,19 +370,27 @@ class Runs:
         graph = b"observable\ntest unstated\nend\n"
         return 0, b"core none\n" + graph + b"end\n" if word == "core" else graph
 
-    def pattern(self, model_text: bytes, pattern_text: bytes) -> None:
-        """A sweep of two files, against the second implementation's."""
-        files: list[str | bytes] = [self.write("model", model_text), self.write("test", pattern_text)]
-        answer = within(SECONDS_OF_A_READING, sweep_answer, model_text, pattern_text)
+    def pattern(self) -> None:
+        """A sweep, against the second implementation's."""
+        pattern_text = random_texts.opened(self.random, random_texts.test_text(self.random), self.random.random() < 0.05)
+        if self.random.random() < 0.3:
+            pattern_text = random_texts.changed_file(self.random, pattern_text)
+        model_text = random_texts.ModelMaker(self.random).text()
+        files: Words = [self.write("model", model_text), self.write("test", pattern_text)]
+        answer = within(sweep_answer, model_text, pattern_text)
         self.demand(["sweep", *files], answer)
         if self.random.random() < 0.1:
             self.little_memory(["sweep", *files], answer)
 
-    def query(self, model_text: bytes, test_text: bytes, query_text: bytes) -> None:
-        """A query of three files, against the second implementation's answer."""
-        texts = {"model": model_text, "test": test_text, "query": query_text}
-        files: list[str | bytes] = [self.write(name, text) for name, text in texts.items()]
-        answer = within(2 * SECONDS_OF_A_READING, ask_answer, *texts.values())
+    def query(self) -> None:
+        """A query, against the second implementation's answer."""
+        maker = random_texts.ModelMaker(self.random)
+        texts = [maker.text(), random_texts.test_text(self.random), maker.query()]
+        if self.random.random() < 0.4:
+            which = self.random.choice((0, 1, 2, 2, 2))
+            texts[which] = random_texts.changed_file(self.random, texts[which])
+        files: Words = [*map(self.write, ("model", "test", "query"), texts)]
+        answer = within(ask_answer, *texts, seconds=2 * SECONDS_OF_A_READING)
         if answer[0] == 3:
             self.word_of(answer[1])
         self.demand(["ask", *files], answer)
@@ -417,15 +399,14 @@ class Runs:
     def machine(self) -> None:
         """A test on a shipped model, against the machine that the model names."""
         path = self.random.choice(SHIPPED)
-        with open(path, "rb") as file:
-            model_text = file.read()
+        model_text = contents(path)
         name = re.search(rb"(?im)^%[ \t]*memory model:[ \t]*([\w-]+)", model_text)[1].decode().lower()  # type: ignore[index]
         text = random_texts.machine_test(self.random)
         self.write("model", model_text)
         test_path = self.write("test", text)
         test = read_test(test_path)
-        outcomes = within(SECONDS_OF_A_CALL, lambda: import_module(f"tools.agree.machines.{name}").outcomes(test))
-        allowed = test.shown_by(outcomes)
+        outcomes = within(import_module(f"tools.agree.machines.{name}").outcomes, test, seconds=SECONDS_OF_A_CALL)
+        allowed = bool(test.rows_shown_by(outcomes))
         status, answer = self.call(["check", self.path("model"), test_path])
         if status != (0 if allowed else 1):
             raise Wrong(f"{path}: status {status}, {answer[:80]!r}; the machine {name} {'allows' if allowed else 'forbids'} it")
@@ -440,48 +421,21 @@ class Runs:
     def judged(self, name: str) -> None:
         """The case of this name; what is wrong with it is kept."""
         self.random = Random(name)
+        kinds = {self.whole: 5, self.changed: 5, self.arguments: 1, self.machine: 2, self.pattern: 3, self.query: 3}
+        (kind,) = self.random.choices([*kinds], weights=[*kinds.values()])
         try:
-            self.one()
+            kind()
         except Late:
             self.counts["late"] += 1
-        except Wrong as wrong:
+        except (Wrong, AssertionError) as wrong:
             self.kept(name, wrong)
 
-    def one(self) -> None:
-        """One case of a kind that is chosen at random."""
-        kinds = ("whole", "changed", "arguments", "machine", "pattern", "query")
-        kind = self.random.choices(kinds, weights=(5, 5, 1, 2, 3, 3))[0]
-        if kind == "arguments":
-            self.arguments()
-        elif kind == "machine":
-            self.machine()
-        elif kind == "pattern":
-            pattern = random_texts.opened(self.random, random_texts.test_text(self.random), self.random.random() < 0.05)
-            if self.random.random() < 0.3:
-                pattern = random_texts.changed_file(self.random, pattern)
-            self.pattern(random_texts.ModelMaker(self.random).text(), pattern)
-        elif kind == "query":
-            maker = random_texts.ModelMaker(self.random)
-            texts = [maker.text(), random_texts.test_text(self.random), maker.query()]
-            if self.random.random() < 0.4:
-                which = self.random.choice((0, 1, 2, 2, 2))
-                texts[which] = random_texts.changed_file(self.random, texts[which])
-            self.query(*texts)
-        else:
-            model_text, test_text = random_texts.ModelMaker(self.random).text(), random_texts.test_text(self.random)
-            if kind == "changed":
-                which = self.random.randrange(3)
-                model_text = random_texts.changed_file(self.random, model_text) if which != 1 else model_text
-                test_text = random_texts.changed_file(self.random, test_text) if which != 0 else test_text
-            self.pair(model_text, test_text)
-
-    def kept(self, name: str, wrong: Wrong) -> None:
+    def kept(self, name: str, wrong: Exception) -> None:
         """Keeps the files of a wrong run."""
         self.counts["wrong"] += 1
         folder = tempfile.mkdtemp(prefix="wrong-", dir=self.keep)
         shutil.copytree(self.folder, folder, dirs_exist_ok=True)
-        with open(os.path.join(folder, "said"), "w", encoding="utf-8") as file:
-            file.write(f"case {name}\n{wrong}\n")
+        cases.write(os.path.join(folder, "said"), f"case {name}\n{wrong}\n")
         self.said.append(f"case {name}, kept in {folder}: {wrong}")
 
 
@@ -490,20 +444,16 @@ SHIPPED = sorted(glob(os.path.join(glob_escape(TOP), "examples", "models", "*.us
 
 def work(seed: str, seconds: float, keep: str) -> tuple[Counter[str], list[str]]:
     """The runs of one worker, until the time is over."""
-    until, case = time.monotonic() + seconds, 0
-    with tempfile.TemporaryDirectory(prefix="hostile-") as folder:
-        runs = Runs(folder, keep)
-        while time.monotonic() < until:
-            runs.judged(f"{seed}.{case}")
-            case += 1
-        return runs.counts, runs.said
+    until = time.monotonic() + seconds
+    return run_all((f"{seed}.{case}" for case in takewhile(lambda _: time.monotonic() < until, count())), keep)
 
 
-def again(case: str, keep: str) -> tuple[Counter[str], list[str]]:
-    """One case."""
+def run_all(names: Iterable[str], keep: str) -> tuple[Counter[str], list[str]]:
+    """Runs the cases of these names: how many runs there were and how they ended, and lines on those that were wrong."""
     with tempfile.TemporaryDirectory(prefix="hostile-") as folder:
         runs = Runs(folder, keep)
-        runs.judged(case)
+        for name in names:
+            runs.judged(name)
         return runs.counts, runs.said
 
 
@@ -526,7 +476,7 @@ def main(words: list[str]) -> int:
     os.makedirs(keep, exist_ok=True)
     sys.setrecursionlimit(20_000)
     if words[:1] == ["--again"] and len(words) == 2:
-        return tell(*again(words[1], keep))
+        return tell(*run_all([words[1]], keep))
     if len(words) > 2 or not all(re.fullmatch(r"\d{1,9}", word) for word in words[:1]):
         sys.exit("hostile: --help tells how it is called")
     seconds, seed = int(words[0]) if words else 60, words[1] if len(words) == 2 else secrets.token_hex(4)

@@ -15,7 +15,7 @@ from typing import Callable, Iterable, Iterator
 
 from tests.cases import (
     PATIENCE, TOP, Cases, Done, apart, call, comes, command, environment, pipecheck, program, read, run, signal_unseen, tool,
-    tool_entry, write
+    tool_entry, without_output, write
 )
 
 # what is imported here is there in each process that is forked from this one
@@ -175,21 +175,15 @@ class Ended(AgreeCases):
         """Waits until something comes true, or fails."""
         self.assertTrue(comes(is_so), "it did not come true in time")
 
-    def wait_until_all(self, asked: str) -> None:
-        """Waits until each process that compares waits for the program, which notes that in this folder."""
-        self.wait_until(lambda: len(os.listdir(asked)) >= len(os.sched_getaffinity(0)))
-
     def test_goes_on(self) -> None:
         """What it has got goes when it is done, and is taken up for the same bytes alone. The program is called by a script that
         waits at its 40th call, up to a sign."""
-        waits = write(f"{self.work}/waits", f"""\
-#!/bin/sh
+        waits = command(f"{self.work}/waits", f"""\
 [ ! -e "{self.work}/go" ] || exec "{program()}" "$@"
 echo >>"{self.work}/calls"
 [ $(wc -l <"{self.work}/calls") -lt 40 ] || sleep 600
 exec "{program()}" "$@"
 """)
-        os.chmod(waits, 0o755)
         calls, words = write(f"{self.work}/calls", ""), ("--all", "2+2", EARLY)
         whole = self.agree(*words, PIPECHECK=program())
         process = self.begun([*AGREE, *words], {"PIPECHECK": waits})
@@ -226,7 +220,8 @@ exec "{program()}" "$@"
             waits = command(f"{self.work}/waits", f'[ -s "$3" ] || exec "{program()}" "$@"\n: >"{asked}/$$"\nexec sleep 600\n')
             process = self.begun(["env", f"--default-signal={name}", *AGREE, "--random", "7", "100000", BUFFER],
                                  {"PIPECHECK": waits, "TMPDIR": room})
-            self.wait_until_all(asked)
+            # each process that compares waits for the program
+            self.wait_until(lambda: len(os.listdir(asked)) >= len(os.sched_getaffinity(0)))
             workers = children_of(process.pid)
             number = signal.Signals[f"SIG{name}"]
             process.send_signal(number)
@@ -252,8 +247,8 @@ exec "{program()}" "$@"
         self.same("a signal that Python does not see at once ends agree", call(entry, []).status, signal.SIGTERM)
 
     def test_full_device(self) -> None:
-        with open("/dev/full", "wb") as full:
-            self.gives("a full device is no answer", [*AGREE, BUFFER, MP], 5, stdout=full, env=self.variables({}))
+        with without_output("full") as how:
+            self.gives("a full device is no answer", [*AGREE, BUFFER, MP], 5, env=self.variables({}), **how)
 
 
 def children_of(process: int) -> list[int]:
@@ -321,6 +316,8 @@ tso-buffer-no-write-between.uspec SB+fences+old.test: shown yes, tso allows no
         self.gives("the comments of tests are what the table says", [*tool("comments"), "--check"])
 
 
+# the types of fences
+FENCES = "ab"
 # a core's accesses and fences, each a text
 Core = tuple[str, ...]
 # shapes, addresses, kinds of fences, whether there are exchanges, and how many programs there are, where that is known
@@ -353,7 +350,7 @@ class Small(Cases):
             name = f"{words} over {locations} addresses{more}: {wanted} programs"
             if self.is_wanted(name):
                 shapes = shapes_of(words)
-                family = Family(shapes, locations, tuple(chr(ord("a") + k) for k in range(fences)), has_exchanges)
+                family = Family(shapes, locations, tuple(FENCES[:fences]), has_exchanges)
                 found = [least(texts_of(program), locations) for program in family.programs]
                 every = {*found}
                 if (words, fences) != LONG:
@@ -374,7 +371,7 @@ def all_programs(shapes: Iterable[Shape], locations: int, fences: int, kinds: st
 def cores(length: int, locations: int, fences: int, kinds: str) -> Iterator[Core]:
     """All that a core of so many accesses may do. A number stands for an address."""
     accesses = [f"{kind}{address}" for kind in kinds for address in range(locations)]
-    gaps = ["", *(f"F{chr(ord('a') + k)}" for k in range(fences))]
+    gaps = ["", *(f"F{name}" for name in FENCES[:fences])]
     yield from product(*([accesses, gaps] * (length - 1) + [accesses]))
 
 

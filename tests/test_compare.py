@@ -16,8 +16,11 @@ from contextlib import redirect_stderr
 from dataclasses import dataclass
 from functools import cache
 from glob import glob
+from typing import Any
 
-from tests.cases import PATIENCE, TOP, Cases, call, comes, pipecheck, program, read, run, tool, tool_entry, write
+from tests.cases import (
+    PATIENCE, TOP, Cases, call, comes, command, pipecheck, program, read, run, tool, tool_entry, without_output, write
+)
 
 from tools.agree.machines import tso
 from tools.listings import compare
@@ -494,13 +497,11 @@ class Words(Compared):
 
     def stub(self, name: str, does: str) -> str:
         """A program that answers a call without words as pipecheck does, and a sweep so."""
-        path = write(f"{self.work}/{name}", f"#!/bin/sh\n[ $# -gt 0 ] || exit 2\n{does}\n")
-        os.chmod(path, 0o755)
-        return path
+        return command(f"{self.work}/{name}", f"[ $# -gt 0 ] || exit 2\n{does}\n")
 
-    def by_script(self, name: str, words: list[str], status: int, out: str, err: str) -> None:
+    def by_script(self, name: str, words: list[str], status: int, out: str, err: str, **how: Any) -> None:
         """The word of the script ends so."""
-        self.gives(f"compare: {name}", [pipecheck(), "compare", *words], status, out, err, cwd=self.work)
+        self.gives(f"compare: {name}", [pipecheck(), "compare", *words], status, out, err, cwd=self.work, **how)
 
     def by_python(self, name: str, words: list[str], status: int, out: str, err: str, checker: str | None = None) -> None:
         """What the script calls ends so, by this program."""
@@ -546,15 +547,10 @@ pipecheck: these words are no command; how compare is called stands above
                        "/bin/true")
 
     def test_outputs(self) -> None:
-        reader, writer = os.pipe()
-        os.close(reader)
         unwritten = "pipecheck: standard output could not be written: what it got is not the whole answer\n"
-        for name, opened, said in (
-            ("a full device", os.open("/dev/full", os.O_WRONLY), unwritten), ("a pipe whose reader has enough", writer, ""),
-        ):
-            words = [pipecheck(), "compare", BUFFERS, "SB.litmus", "log"]
-            self.gives(f"compare: {name}", words, 5, "", said, cwd=self.work, stdout=opened)
-            os.close(opened)
+        for name, kind, said in (("a full device", "full", unwritten), ("a pipe whose reader has enough", "unread", "")):
+            with without_output(kind) as how:
+                self.by_script(name, [BUFFERS, "SB.litmus", "log"], 5, "", said, **how)
 
     def test_no_room(self) -> None:
         limited = ["/bin/sh", "-c", 'ulimit -f 0; exec "$@"', "limited", *COMPARE, BUFFERS, "SB.litmus", "log"]

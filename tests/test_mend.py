@@ -34,6 +34,21 @@ Axiom "Reads": forall microops "r", IsAnyRead r =>
     AddEdge ((v, Access), (w, Access), "co") \\/ AddEdge ((r, Access), (v, Access), "fr")).
 """
 UNNAMED = REPLAY.partition("\n")[2]
+# another one: what a read gets of a write is checked behind its access, and what is there from the start is not checked at all
+CHECKED = """% Memory model: sc
+StageName 0 "Access".
+StageName 1 "Check".
+Axiom "Nodes": forall microops "i", IsAnyRead i => NodesExist [(i, Access); (i, Check)].
+Axiom "Writes in order": forall microops "i", forall microops "j",
+  IsAnyWrite i /\\ IsAnyWrite j /\\ ProgramOrder i j => AddEdge ((i, Access), (j, Access), "order").
+Axiom "Checks in order": forall microops "i", forall microops "j",
+  IsAnyRead i /\\ IsAnyRead j /\\ ProgramOrder i j => AddEdge ((i, Check), (j, Check), "order").
+Axiom "Reads": forall microops "r", IsAnyRead r =>
+  (DataFromInitialStateAtPA r /\\ forall microops "v", IsAnyWrite v /\\ SamePhysicalAddress v r =>
+    AddEdge ((r, Access), (v, Access), "fr")) \\/
+  (exists microop "w", IsAnyWrite w /\\ SamePhysicalAddress w r /\\ SameData w r /\\
+    AddEdges [((w, Access), (r, Access), "rf"); ((r, Access), (r, Check), "path")]).
+"""
 # a case, a wrong model of examples or its text, a test whose outcome it shows, and lines of what is said: an order is named that
 # keeps all other outcomes
 ROWS = (
@@ -69,6 +84,10 @@ ROWS = (
      ("add 3.0@1:Execute before 4.0@1:Execute",)),
     ("the pipeline of the tutorial", "tutorial-early", "tests/MP.test",
      ("add 2.0@1:Execute before 3.0@1:Execute", "add 3.0@1:Commit before 0.0@0:Memory, where 3.0 reads [x] = 0")),
+    ("an order of one read, where it reads the start", CHECKED, "tests/MP.test", (
+        "add 3.0@1:Check before 3.0@1:Access, where 3.0 reads [x] = 0",
+        "      IsAnyRead i /\\ DataFromInitialStateAtPA i =>",
+        '      AddEdge ((i, Check), (i, Access), "mend").')),
     ("a model without a memory model", UNNAMED, "tests/CoRR.test", (
         "What else of this program is allowed is not known: the 3 other outcomes that are shown count.",
         "add 1.0@1:Access before 2.0@1:Access")),

@@ -22,8 +22,11 @@ from tools.second.lifted import LiftedJudge
 from tools.second.listings import read_listing
 from tools.second.models import Model
 from tools.second.scopes import read_model
+from tools.texts.contents import contents as bytes_of
 
 COUNT = int(os.environ.get("COUNT", "600"))
+# each file is read once
+contents = cache(bytes_of)
 
 # a small model that asks for values, program order and fences of no kind
 MODEL = f"{TOP}/examples/store-buffer.uspec"
@@ -49,13 +52,6 @@ EACH = (
 VERIFIED = "verified unobservable\n"
 
 sys.setrecursionlimit(20_000)
-
-
-@cache
-def contents(path: str) -> bytes:
-    """The bytes of a file."""
-    with open(path, "rb") as file:
-        return file.read()
 
 
 @cache

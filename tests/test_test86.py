@@ -17,19 +17,20 @@ from random import Random
 from tests.cases import TOP, Cases, Done, call, pipecheck, program, run, tool_entry, without_proofs, write
 
 from tools.listings.beyond import Notes
+from tools.listings.test86 import test_of
 from tools.listings.writing import test_of_herd
 from tools.second.cases import read_case
 from tools.second.listings import read_listing
-from tools.texts.naming import line_and_column
 from tools.second.tokens import Fault
-from tools.texts.writing_tests import test_of_listing, without_names
 from tools.telling.refusals import left_out
 from tools.telling.refusals import refusal_of as read_refusal
-from tools.listings.test86 import test_of
+from tools.texts.contents import contents
+from tools.texts.naming import line_and_column
+from tools.texts.writing_tests import test_of_listing, without_names
 
-# one that asks for values and program order, and one that asks for fences, too
 # what the script calls, in a process that is forked from this one
 TEST86 = tool_entry("listings.test86")
+# one that asks for values and program order, and one that asks for fences, too
 MODELS = [f"{TOP}/examples/store-buffer.uspec", f"{TOP}/examples/models/tso-buffer.uspec"]
 LOCATIONS = ["x", "y", "z", "flag", "MOV", "exists", "x_1"]
 REGISTERS = ["EAX", "EBX", "RAX", "MFENCE", "r9"]
@@ -40,9 +41,7 @@ COMMENTS = ["(* a\n second line *)", "(**)", "(* Lint allows: unwritten *)", '(*
 sys.setrecursionlimit(20_000)
 
 TYPED = [
-    (
-        "every part of a listing",
-        b"""X86 all
+    ("every part of a listing", b"""X86 all
 "PodWR Fre"
 Com=Fr Fr
 { (* Lint allows: unwritten *)
@@ -52,8 +51,7 @@ Com=Fr Fr
                | MOV EAX,[flag] ;
  MFENCE        | MOV EBX,[data] ;
 ~exists (1:EAX=7 /\\ 1:EBX=0 /\\ [data]=1 /\\ y=3)
-""",
-        """Litmus "all".
+""", """Litmus "all".
 % "PodWR Fre"
 % Com=Fr Fr
 % Lint allows: unwritten
@@ -67,16 +65,11 @@ Microop 4 1 1 0 (Read (VA 2 0) (PA 2 0) (Data 0)).  % P1: MOV EBX,[data], and EB
 Final (PA 2 0) 1.                                   % data = 1
 Final (PA 1 0) 3.                                   % y = 3
 Forbidden.
-""",
-    ),
-    (
-        "a name that is no text of a test",
-        b'X86 a"\xc3\xa9\n{ }\n P0 ;\n MFENCE ;\nexists x=0\n',
-        """Litmus "a'??".
+"""),
+    ("a name that is no text of a test", b'X86 a"\xc3\xa9\n{ }\n P0 ;\n MFENCE ;\nexists x=0\n', """Litmus "a'??".
 Microop 0 0 0 0 (Fence MFENCE). % P0: MFENCE
 Final (PA 0 0) 0.               % x = 0
-""",
-    ),
+"""),
 ]
 
 # what is refused, the line of the refusal
@@ -88,9 +81,7 @@ REFUSED = [
 
 # what is read of a listing beyond `check86`: the test, and what is said of it, without the path
 BEYOND = [
-    (
-        "what a listing for X86_64 may have",
-        b"""X86_64 SB+xchg
+    ("what a listing for X86_64 may have", b"""X86_64 SB+xchg
 "PodWR Fre"
 (* a comment
    of two lines *)
@@ -103,8 +94,7 @@ BEYOND = [
                | mov [x],ecx         ;
 locations [x; 0:eax; [y];]
 ~exists (0:eax=0 /\\ (1:rax=0 /\\ 1:rbx=3) /\\ x=0 /\\ 0:rdx=7)
-""",
-        """Litmus "SB+xchg".
+""", """Litmus "SB+xchg".
 % "PodWR Fre"
 % a comment
 % of two lines
@@ -121,8 +111,7 @@ Microop 4 1 1 1 (Write Locked (VA 2 0) (PA 2 0) (Data 5)). % P1: XCHG [z],RBX, w
 Microop 5 1 1 0 (Write (VA 0 0) (PA 0 0) (Data 0)).        % P1: MOV [x],RCX, which holds 0
 Final (PA 0 0) 0.                                          % x = 0
 Forbidden.
-""",
-        """1:1: X86_64 is read as X86
+""", """1:1: X86_64 is read as X86
 3:1: a comment in the header is kept as a comment
 5:3: a type is left out, since all values are numbers, here and in 1 more place
 5:21: a location without a value is 0 at the start
@@ -133,21 +122,16 @@ Forbidden.
 9:25: what is stored of a register is the number that it holds, here and in 2 more places
 12:1: locations are left out, since a test states one outcome
 13:52: a register that no instruction loads is left out of the condition, since it holds this value
-""",
-    ),
-    (
-        "an exchange in a listing for X86",
-        b"X86 l\n{ }\n P0 ;\n MOV EAX,$2 ;\n XCHG EAX,[x] ;\nexists ([x]=2 /\\ 0:EAX=0)\n",
-        """Litmus "l".
+"""),
+    ("an exchange in a listing for X86",
+     b"X86 l\n{ }\n P0 ;\n MOV EAX,$2 ;\n XCHG EAX,[x] ;\nexists ([x]=2 /\\ 0:EAX=0)\n", """Litmus "l".
 Microop 0 0 0 0 (Read Locked (VA 0 0) (PA 0 0) (Data 0)).  % P0: XCHG [x],EAX, and EAX = 0
 Microop 0 0 0 1 (Write Locked (VA 0 0) (PA 0 0) (Data 2)). % P0: XCHG [x],EAX, which held 2
 Final (PA 0 0) 2.                                          % x = 2
-""",
-        """4:2: a number in a register is no micro-op, but for what is stored of it
+""", """4:2: a number in a register is no micro-op, but for what is stored of it
 5:2: XCHG is read as a locked read and a locked write of one instruction
 5:7: what is stored of a register is the number that it holds
-""",
-    ),
+"""),
 ]
 
 # what is refused behind a part that is read beyond `check86`: the cell, what stands below the threads, and the refusal
@@ -205,7 +189,6 @@ class Maker:
     chance: Random
 
     def listing(self) -> bytes:
-        """A listing."""
         chance = self.chance
         columns = chance.randint(1, 4)
         loads: dict[tuple[int, str], str] = {}
@@ -225,10 +208,6 @@ class Maker:
         """What may stand between two tokens."""
         return self.chance.choice((" ", "\t", "\r\n", "  ", self.chance.choice(COMMENTS)))
 
-    def location(self) -> str:
-        """A location."""
-        return self.chance.choice(LOCATIONS)
-
     def cell(self, column: int, loads: dict[tuple[int, str], str]) -> str:
         """An instruction or none; a register is loaded once by its thread."""
         kind = self.chance.choice("WWRRRF ")
@@ -236,18 +215,16 @@ class Maker:
         if kind == "F":
             return self.blank() + "MFENCE"
         if kind == "W":
-            return f"{self.blank()}MOV [{self.location()}],${self.chance.choice(NUMBERS)}"
+            return f"{self.blank()}MOV [{self.chance.choice(LOCATIONS)}],${self.chance.choice(NUMBERS)}"
         if kind == "R" and (column, register) not in loads:
             loads[column, register] = self.chance.choice(NUMBERS)
-            return f" MOV {register}, [{self.location()}]{self.blank()}"
+            return f" MOV {register}, [{self.chance.choice(LOCATIONS)}]{self.blank()}"
         return self.blank()
 
     def equation(self, name: str) -> str:
-        """A value of a location."""
         return f"{self.chance.choice((name, f'[{name}]'))} = {self.chance.choice(NUMBERS)}"
 
     def inits(self) -> str:
-        """The first block."""
         names = self.chance.sample(LOCATIONS, self.chance.randint(0, 4))
         return ";".join(map(self.equation, names)) + (";" if names and self.chance.random() < 0.5 else "")
 
@@ -307,10 +284,7 @@ class Answers(Cases):
     def test_listings(self) -> None:
         maker = Maker(Random(86))
         made = [maker.listing() for _ in range(int(os.environ.get("COUNT", "200")))]
-        shipped = []
-        for it in sorted(glob(f"{TOP}/examples/x86/*.litmus")):
-            with open(it, "rb") as file:
-                shipped.append(file.read())
+        shipped = [*map(contents, sorted(glob(f"{TOP}/examples/x86/*.litmus")))]
         for name, listings in (
             ("shipped listings", shipped), ("random listings", made), ("spoilt listings", [maker.spoilt(it) for it in made]),
         ):
@@ -329,7 +303,6 @@ class Typed(Cases):
     """Texts that are typed from docs/tests.md."""
 
     def put(self, listing: bytes) -> str:
-        """The path of a listing."""
         return write(f"{self.work}/listing.litmus", listing)
 
     def test_texts(self) -> None:

@@ -6,31 +6,27 @@ It writes the name of the memory model, or nothing: where it forbids the outcome
 where the machine does not run the test or takes long.
 """
 import os
-import subprocess
+import signal
 import sys
+from importlib import import_module
 
 from tools import TOP
+from tools.agree.verdicts import lines_of
 from tools.second.standard_output import status_of
+from tools.texts.contents import contents
 from tools.texts.memory_models import memory_model_of
-from tools.texts.writing_tests import LIMIT
 
-MACHINES = os.path.join(TOP, "tools", "agree", "machines")
 SECONDS = 5
 
 
 def main(model_path: str, test_path: str) -> int:
-    """Writes the name."""
-    with open(model_path, "rb") as file:
-        name = memory_model_of(file.read(LIMIT + 1)).name
-    if not os.path.exists(os.path.join(MACHINES, f"{name}.py")):
-        return 0
-    command = [sys.executable, "-B", "-E", "-S", os.path.join(TOP, "tools"), "verdicts", name, test_path]
-    try:
-        done = subprocess.run(command, stdin=subprocess.DEVNULL, capture_output=True, timeout=SECONDS, check=False)
-    except subprocess.TimeoutExpired:
-        return 0
-    if done.returncode == 0 and done.stdout == b"yes\n":
-        print(name)
+    name = memory_model_of(contents(model_path)).name
+    # what takes longer is ended by the clock, and has written nothing
+    signal.signal(signal.SIGALRM, signal.SIG_DFL)
+    signal.alarm(SECONDS)
+    if os.path.exists(os.path.join(TOP, "tools", "agree", "machines", f"{name}.py")):
+        if lines_of(import_module(f"tools.agree.machines.{name}"), test_path) == ["yes"]:
+            print(name)
     return 0
 
 

@@ -7,26 +7,15 @@ Each test whose line is another is printed. The status is 1 where --check finds 
 """
 import os
 import sys
-from glob import glob
 
 from tools import TOP
+from tools.agree.table import rows_of
 
 BEGINNINGS = ("% Allowed by ", "% Forbidden by every ")
 
 
-def allowing_models() -> dict[str, dict[str, bool]]:
-    """Of each test, whether each memory model allows its outcome, in the order of the table."""
-    with open(os.path.join(TOP, "examples/memory-models.tsv"), encoding="ascii") as file:
-        names, *rows = (line.rstrip("\n").split("\t") for line in file)
-    model, test, allowed = map(names.index, ("memory model", "test", "allowed"))
-    found: dict[str, dict[str, bool]] = {}
-    for row in rows:
-        found.setdefault(row[test], {})[row[model]] = row[allowed] == "yes"
-    return found
-
-
 def comment(allowed: dict[str, bool]) -> str:
-    """The line of a test."""
+    """The line of a test, by whether each memory model allows its outcome."""
     yes = ", ".join(name for name, is_allowed in allowed.items() if is_allowed)
     no = ", ".join(name for name, is_allowed in allowed.items() if not is_allowed)
     if not yes or not no:
@@ -46,9 +35,12 @@ def main(words: list[str]) -> int:
     """Writes the lines, or only compares them, and answers the exit status."""
     if words not in ([], ["--check"]):
         raise SystemExit(__doc__)
+    tests: dict[str, dict[str, bool]] = {}
+    for memory_model, test, is_allowed in rows_of(""):
+        tests.setdefault(test, {})[memory_model] = is_allowed
     is_differing = False
-    for name, allowed in allowing_models().items():
-        path = os.path.join(TOP, "examples/tests", name + ".test")
+    for test, allowed in tests.items():
+        path = os.path.join(TOP, "examples/tests", test + ".test")
         if not os.path.exists(path):
             continue
         with open(path, encoding="ascii") as file:
@@ -57,7 +49,7 @@ def main(words: list[str]) -> int:
         if new == old:
             continue
         is_differing = True
-        print(name)
+        print(test)
         if not words:
             with open(path, "w", encoding="ascii") as file:
                 file.write(new)

@@ -2,10 +2,8 @@
 import os
 import re
 import subprocess
-import sys
 from dataclasses import dataclass
 from functools import lru_cache
-from glob import glob
 from importlib import import_module
 from types import ModuleType
 from typing import Callable, Collection, NamedTuple
@@ -13,21 +11,19 @@ from typing import Callable, Collection, NamedTuple
 from tools import TOP
 from tools.agree.listing import read_file
 from tools.agree.litmus import Reads, Test, Value, test_of_text
-from tools.agree.programs import Program
-from tools.agree.verdicts import is_alike, runs
+from tools.agree.verdicts import is_alike, runs, value_of, words_of
 from tools.agree.working import Unusable
+from tools.lint.asked import Asked
 from tools.lint.lines import line_of
-from tools.lint.linting import Asked
-from tools.second.cases import Case, Entry
-from tools.second.evaluating import false_axioms
-from tools.second.grounding import ground
+from tools.second.cases import Case
 from tools.second.listings import read_file_items
 from tools.second.models import Model
-from tools.second.patterns import MOST_ROWS, read_pattern, sweep
+from tools.second.patterns import ENDING as PATTERN
+from tools.second.patterns import is_observable, read_pattern, sweep
 from tools.second.scopes import read_model
-from tools.second.searching import search
 from tools.second.tokens import Fault
 from tools.standing import standing
+from tools.suite.allowing import MACHINE, Machines
 from tools.suite.programs import command_of, held
 from tools.suite.refusing import Refusal
 from tools.telling.files import sentence
@@ -35,14 +31,11 @@ from tools.texts.contents import Read, Unreadable, contents, read_within
 from tools.texts.memory_models import memory_model_of
 from tools.texts.quoting import shown
 
-MACHINES = os.path.join(TOP, "tools", "agree", "machines")
 READ = re.compile(rb"(\(\s*Read\b[^()]*(?:\([^()]*\)\s*){2})\(\s*(?:Data|Maps)[^()]*\)")
 OPEN = rb"\1(Data Any)"
-PATTERN = ".pattern"
 LOCKED = "Locked"
 # a module of the folder of machines, or of one in it
 NAME = re.compile(r"[a-z0-9_-]+(?:\.[a-z0-9_-]+)*")
-MACHINE = re.compile(r"^def outcomes\(", re.MULTILINE)
 
 
 class Refused(Exception):
@@ -50,15 +43,18 @@ class Refused(Exception):
 
 
 class Pair(NamedTuple):
-    """A model, its machine and a test; whether the test is a pattern, by the file or since all its reads are opened;
-    and whether the program sweeps it."""
+    """A model, its machine and a test; whether all reads of the test are opened, and whether the program sweeps it."""
 
     model: str
     machine: str
     test: str
-    is_pattern: bool
     is_opened: bool
     by_program: bool
+
+    @property
+    def is_swept(self) -> bool:
+        """Whether the test is compared as a pattern."""
+        return self.is_opened or self.test.endswith(PATTERN)
 
 
 @dataclass(frozen=True)
@@ -91,7 +87,6 @@ def judged(kind: str, path: str, text: bytes, read: Callable[[bytes], Read]) -> 
 
 
 def named_memory_model(path: str) -> str:
-    """The memory model that a model names."""
     named = memory_model_of(contents(path))
     if not named.name:
         raise Unusable(f"{shown(path)}: {named.fault}")
@@ -101,24 +96,20 @@ def named_memory_model(path: str) -> str:
 @lru_cache(None)
 def machine_of(name: str) -> ModuleType:
     """The machine of a memory model."""
-    if not is_machine(name):
-        known = ", ".join(sorted(path[:-3] for path in glob("*.py", root_dir=MACHINES) if is_machine(path[:-3])))
+    machines = Machines(TOP)
+    if not is_machine(machines.folder, name):
+        known = ", ".join(sorted(machines.names))
         raise Unusable(f"there is no machine of the memory model {shown(name)}; there are {known}")
     return import_module(f"tools.agree.machines.{name}")
 
 
-def is_machine(name: str) -> bool:
-    """Whether a machine has this name."""
-    return NAME.fullmatch(name) is not None and is_machine_file(os.path.join(MACHINES, *name.split(".")) + ".py")
-
-
-def is_machine_file(path: str) -> bool:
-    """Whether a file is a machine."""
-    try:
-        with open(path, encoding="utf-8") as file:
-            return MACHINE.search(file.read()) is not None
-    except OSError:
+def is_machine(folder: str, name: str) -> bool:
+    """Whether a machine in the folder of machines has this name."""
+    path = os.path.join(folder, *name.split(".")) + ".py"
+    if NAME.fullmatch(name) is None or not os.path.isfile(path):
         return False
+    with open(path, encoding="utf-8") as file:
+        return MACHINE.search(file.read()) is not None
 
 
 @lru_cache(None)
@@ -160,65 +151,42 @@ def rows_allowed(name: str, path: str, is_opened: bool) -> frozenset[Reads]:
 
 
 def is_allowed(name: str, path: str) -> bool:
-    """Whether the outcome of a test comes up on a machine."""
     return bool(rows_allowed(name, path, False))
 
 
-def machine_takes(name: str, path: str) -> bool:
-    """Whether a machine runs tests of this kind."""
-    return runs(machine_of(name), test_of(path))
-
-
-def model_takes(model_path: str, path: str) -> bool:
-    """Whether the axioms of a model ask which micro-ops are locked, where some are."""
+def take(model: str, machine: str, path: str) -> bool:
+    """Whether a machine runs tests of this kind, and a model asks which micro-ops are locked where some are."""
     test = test_of(path)
-    if test.has_entries or not test.has_locked:
-        return True
-    return asks_for_locked(model_path)
-
-
-def is_shown(model_path: str, path: str) -> bool:
-    """Whether the second implementation shows the outcome; its graph is judged again by the written axioms."""
-    model, case = model_of(model_path), case_of(path)
-    witness = search(ground(model, case))
-    if witness is not None and false_axioms(model, case, witness.nodes, witness.edges):
-        raise Unusable(f"{shown(model_path)} {shown(path)}: the witness is none")
-    return witness is not None
+    return runs(machine_of(machine), test) and (test.has_entries or not test.has_locked or asks_for_locked(model))
 
 
 def pattern_of(path: str, is_opened: bool) -> bytes:
     """The text of a pattern; of a test whose reads are opened, the pattern that it is then."""
-    text = contents(path)
-    text = READ.sub(OPEN, text) if is_opened else text
+    text = READ.sub(OPEN, contents(path)) if is_opened else contents(path)
     judged("test", path, text, read_pattern)
     return text
 
 
-def rows_shown(model_path: str, pattern: bytes, by_program: bool) -> set[Reads]:
+def rows_shown(model: str, pattern: bytes, by_program: bool) -> set[Reads]:
     """The rows of a pattern that a sweep calls observable."""
     if by_program:
-        return rows_of_program(model_path, pattern)
-    swept = sweep(model_of(model_path), read_pattern(pattern))
-    return {tuple(map(plain_value, row)) for row, is_seen in swept if is_seen}
+        return rows_of_program(model, pattern)
+    swept = sweep(model_of(model), read_pattern(pattern))
+    return {tuple(map(value_of, row)) for row, is_seen in swept if is_seen}
 
 
-def plain_value(value: int | Entry) -> Value:
-    """A value of the second implementation as the machines have it."""
-    return (value.tag, value.accessed, value.dirty) if isinstance(value, Entry) else value
-
-
-def rows_of_program(model_path: str, pattern: bytes) -> set[Reads]:
+def rows_of_program(model: str, pattern: bytes) -> set[Reads]:
     """The rows that the built program calls observable."""
     # in memory alone, so that nothing is left of it, however this process ends
     with open(os.memfd_create("pattern"), "wb") as file:
         file.write(pattern)
         file.flush()
-        command = [*sweeper().words, "sweep", model_path, f"/proc/{os.getpid()}/fd/{file.fileno()}"]
+        command = [*sweeper().words, "sweep", model, f"/proc/{os.getpid()}/fd/{file.fileno()}"]
         done = subprocess.run(command, capture_output=True, text=True, errors="replace", check=False)
     lines = done.stdout.splitlines()
-    if done.returncode != 0 or not lines or lines[-1] != "end":
+    if done.returncode != 0 or lines[-1:] != ["end"]:
         said = f"status {done.returncode} {done.stdout[:100]!r}"
-        raise Unusable(f"{shown(model_path)}: the program swept no pattern: {said}")
+        raise Unusable(f"{shown(model)}: the program swept no pattern: {said}")
     rows = [line.split()[1:] for line in lines if line.startswith("row ")]
     return {tuple(map(value_of_word, row[:-1])) for row in rows if row[-1] == "observable"}
 
@@ -249,58 +217,40 @@ def sweeper() -> Sweeper:
             stands = standing(TOP)
             found = Sweeper([held(stands.path)], stands.said)
         done = subprocess.run([*found.words, "sweep", "", ""], stdout=subprocess.DEVNULL, check=False)
-    except Refusal as refusal_of_words:
-        raise Unusable(str(refusal_of_words)) from refusal_of_words
-    except OSError as error:
+        if done.returncode != 2:
+            return found
+    except Refusal as refusal:
+        raise Unusable(str(refusal)) from refusal
+    except (OSError, SystemExit) as error:
         if value:
             raise Unusable(f"PIPECHECK: {error}") from error
-        return Sweeper([], "")
-    except SystemExit:
-        return Sweeper([], "")
-    return found if done.returncode != 2 else Sweeper([], "")
-
-
-def words_of_rows(rows: set[Reads]) -> str:
-    """Rows as a sweep writes their values."""
-    words = (
-        " ".join("Maps:" + ":".join(map(str, value)) if isinstance(value, tuple) else str(value) for value in row)
-        for row in sorted(rows, key=repr)
-    )
-    return ", ".join(word or "the only row" for word in words)
+    return Sweeper([], "")
 
 
 def difference(pair: Pair) -> str:
     """How the model and its machine differ on the test; nothing where they do not."""
-    machine = pair.machine
-    if pair.is_pattern:
+    if pair.is_swept:
         seen = rows_shown(pair.model, pattern_of(pair.test, pair.is_opened), pair.by_program)
-        wanted = rows_allowed(machine, pair.test, pair.is_opened)
-        return difference_of_rows(Other(machine).words(pair.model), seen, wanted)
-    is_seen, is_wanted = is_shown(pair.model, pair.test), is_allowed(machine, pair.test)
-    said = f"shown {'yes' if is_seen else 'no'}, {machine} allows {'yes' if is_wanted else 'no'}"
+        wanted = rows_allowed(pair.machine, pair.test, pair.is_opened)
+        return difference_of_rows(Other(pair.machine).words(pair.model), seen, wanted)
+    is_seen = is_observable(model_of(pair.model), case_of(pair.test))
+    is_wanted = is_allowed(pair.machine, pair.test)
+    said = f"shown {'yes' if is_seen else 'no'}, {pair.machine} allows {'yes' if is_wanted else 'no'}"
     return "" if is_seen == is_wanted else said
 
 
 def difference_of_rows(words: tuple[str, str], seen: Collection[Reads], wanted: Collection[Reads]) -> str:
     """The rows that only one of two has, each after its words; nothing where there are none."""
-    parts = zip(words, (set(seen) - set(wanted), set(wanted) - set(seen)))
-    return "; ".join(f"{said}: {words_of_rows(rows)}" for said, rows in parts if rows)
+    parts = []
+    for said, rows in zip(words, (set(seen) - set(wanted), set(wanted) - set(seen))):
+        texts = [" ".join(words_of(row)) or "the only row" for row in sorted(rows, key=repr)]
+        parts += [f"{said}: {', '.join(texts)}"] if texts else []
+    return "; ".join(parts)
 
 
-def program_difference(model: str, other: Other, by_program: bool, program: Program) -> str:
-    """How a model differs from a machine, or from another model, on a program; nothing where they do not."""
-    if not any(op.reads for op in program.ops):
-        return ""
-    if program.rows > MOST_ROWS:
-        raise Unusable(f"its reads may get values in {program.rows} ways, and a sweep takes {MOST_ROWS}")
-    pattern = program.pattern.encode("ascii")
-    wanted = other.rows_of(program.pattern, by_program)
-    return difference_of_rows(other.words(model), rows_shown(model, pattern, by_program), wanted)
-
-
-def types_asked(model: str) -> tuple[str, ...]:
+def types_asked(model: str) -> set[str]:
     """The types that a model asks for, but that of locked instructions."""
-    return tuple(sorted(set(Asked(model_of(model)).types) - {LOCKED}))
+    return Asked(model_of(model)).types.keys() - {LOCKED}
 
 
 def asks_for_locked(model: str) -> bool:

@@ -7,34 +7,19 @@ from random import Random
 from typing import Iterable, Iterator
 
 from tools import TOP
-from tools.agree.comparing import Other, asks_for_locked, machine_of, program_difference, sweeper, types_asked
+from tools.agree.comparing import Other, asks_for_locked, difference_of_rows, machine_of, rows_shown, sweeper, types_asked
 from tools.agree.counts import Counts
 from tools.agree.kept import Kept, Progress, digest_of_files
 from tools.agree.programs import Program, named, random_program, smallest
 from tools.agree.small_programs import Family, Shape
 from tools.agree.working import Unusable, Workers
+from tools.second.patterns import MOST_ROWS
 from tools.suite.counting import Progress as Meter
 from tools.texts.quoting import shown
 
 # how often what is done is kept
 SECONDS = 2.0
 FULL = "Full"
-
-
-@dataclass(frozen=True)
-class Small:
-    """Which small programs are asked for: the shapes, how many addresses, with fences and with exchanges or not."""
-
-    shapes: tuple[Shape, ...]
-    locations: int
-    has_fences: bool
-    has_exchanges: bool
-
-    def family(self, types: set[str], takes_locked: bool) -> Family:
-        """The programs, with fences of these types, or of the full one alone, and with exchanges if they are taken."""
-        fences = {FULL} if FULL in types else types
-        names = tuple(sorted(fences)) if self.has_fences else ()
-        return Family(self.shapes, self.locations, names, self.has_exchanges and takes_locked)
 
 
 @dataclass(frozen=True)
@@ -50,6 +35,12 @@ class Comparison:
         """The model in a line."""
         return shown(os.path.basename(self.model))
 
+    def family(self, shapes: tuple[Shape, ...], locations: int, has_fences: bool, has_exchanges: bool) -> Family:
+        """The small programs that are asked for: with fences of the types that the models ask for, or of the full one alone,
+        and with exchanges if they are taken."""
+        fences = {FULL} if FULL in self.types else self.types
+        return Family(shapes, locations, tuple(sorted(fences)) if has_fences else (), has_exchanges and self.takes_locked)
+
     def judge_usable(self) -> None:
         """Programs have no page tables."""
         if not self.other.is_model and getattr(machine_of(self.other.name), "TAKES_ENTRIES", False):
@@ -57,7 +48,13 @@ class Comparison:
 
     def difference(self, program: Program) -> str:
         """How the two differ on a program; nothing where they do not."""
-        return program_difference(self.model, self.other, self.by_program, program)
+        if not any(op.reads for op in program.ops):
+            return ""
+        if program.rows > MOST_ROWS:
+            raise Unusable(f"its reads may get values in {program.rows} ways, and a sweep takes {MOST_ROWS}")
+        wanted = self.other.rows_of(program.pattern, self.by_program)
+        seen = rows_shown(self.model, program.pattern.encode("ascii"), self.by_program)
+        return difference_of_rows(self.other.words(self.model), seen, wanted)
 
     def answers(self, programs: Iterable[Program], counts: Counts) -> Iterator[tuple[Program, bool]]:
         """Of each program in its order whether the two differ, once it is counted."""
@@ -67,16 +64,11 @@ class Comparison:
 
     def show_smallest(self, program: Program) -> None:
         """Takes parts out of a program as long as the two differ, and prints what is left."""
-        least = smallest(program, self.differ)
+        least = smallest(program, lambda less: self.difference(less) != "")
         print(f"{self.name}: {named(least)}: {self.difference(least)}\n{least.pattern}", end="", flush=True)
-
-    def differ(self, program: Program) -> bool:
-        """Whether the two differ on a program."""
-        return self.difference(program) != ""
 
     def random(self, seed: int, count: int) -> Counts:
         """Compares on random programs, and prints the smallest on which the two differ, if there is one."""
-        self.judge_usable()
         random, types, counts = Random(seed), tuple(sorted(self.types)), Counts()
         programs = (random_program(random, types) for _ in range(count))
         least: Program | None = None
@@ -87,11 +79,9 @@ class Comparison:
             self.show_smallest(least)
         return counts
 
-    def all_small(self, small: Small, folder: str) -> Counts:
+    def all_small(self, family: Family, folder: str) -> Counts:
         """Compares on all small programs, and goes on from what an ended comparison has got. Prints the smallest on
         which the two differ, if there is one."""
-        self.judge_usable()
-        family = small.family(self.types, self.takes_locked)
         count, kept = family.count, Kept(folder, repr((self, family)), self.origin)
         progress = kept.read(count)
         before = f", {progress.counts.done} of them compared before" if progress.counts.done else ""

@@ -9,7 +9,6 @@ DIFFER = 1
 
 
 def tell(sentence: str) -> None:
-    """Writes a line to standard error."""
     print(f"agree: {sentence}", file=sys.stderr, flush=True)
 
 
@@ -32,23 +31,19 @@ class Counts:
         return bool(said)
 
     def add(self, other: "Counts") -> None:
-        """Takes in other counts."""
         self.agree += other.agree
         self.differ += other.differ
         self.failed += other.failed
 
     @property
     def done(self) -> int:
-        """How many comparisons there were."""
         return self.agree + self.differ + self.failed
 
     @property
     def status(self) -> int:
-        """The exit status."""
         return FAILED if self.failed else DIFFER if self.differ else 0
 
     @property
     def line(self) -> str:
-        """The last line."""
         failed = f", {self.failed} not compared" if self.failed else ""
         return f"{self.agree} agree, {self.differ} differ{failed}"

@@ -45,7 +45,6 @@ class Kept:
             return Progress()
 
     def write(self, progress: Progress) -> None:
-        """Keeps what is done."""
         try:
             os.makedirs(self.folder, exist_ok=True)
             write_anew(self.place, json.dumps({"origin": self.origin, **asdict(progress)}).encode("ascii"))

@@ -8,9 +8,7 @@ import re
 from tools.agree.litmus import Address, Op, Test, Value, read_test
 
 COMMENT = re.compile(r"\(\*.*?\*\)", re.DOTALL)
-BODY = re.compile(
-    r"^[ \t]*\{(?P<start>[^}]*)\}(?P<rows>.*);\s*~?\s*exists\b(?P<condition>.*)", re.DOTALL | re.MULTILINE
-)
+BODY = re.compile(r"^[ \t]*\{(?P<start>[^}]*)\}(?P<rows>.*);\s*~?\s*exists\b(?P<condition>.*)", re.DOTALL | re.MULTILINE)
 STORE = re.compile(r"MOV\s*\[\s*(\w+)\s*\]\s*,\s*\$\s*(\d+)$")
 LOAD = re.compile(r"MOV\s*(\w+)\s*,\s*\[\s*(\w+)\s*\]$")
 VALUE = re.compile(r"(?:(\d+)\s*:)?\s*\[?\s*([A-Za-z]\w*)\s*\]?\s*=\s*(\d+)")
@@ -22,7 +20,6 @@ def read_file(path: str) -> Test:
 
 
 def read_listing(path: str) -> Test:
-    """The test of a listing."""
     with open(path, encoding="latin-1") as file:
         found = BODY.search(COMMENT.sub(" ", file.read()))
     if found is None:

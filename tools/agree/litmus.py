@@ -31,7 +31,7 @@ Value = int | tuple[int, int, int]
 Reads = tuple[Value, ...]
 # the value of each address
 Memory = tuple[tuple[Address, Value], ...]
-# the reads that were done, by their places, with what they got
+# the reads that were done, in test order, by their places with what they got
 ReadValues = tuple[tuple[int, Value], ...]
 # the values of all reads, and the last value of each address
 Outcome = tuple[Reads, Memory]
@@ -67,7 +67,6 @@ class Op:
 
     @property
     def is_at_entry(self) -> bool:
-        """Whether it reads or writes a page-table entry."""
         return self.kind != "Fence" and len(self.address) == 1
 
 
@@ -100,16 +99,12 @@ class Test:
 
     @property
     def opened(self) -> "Test":
-        """The test with all of its reads open."""
         cores = tuple(tuple(replace(op, is_open=op.kind == "Read") for op in core) for core in self.cores)
         return replace(self, cores=cores)
 
-    def shown_by(self, outcomes: Iterable[Outcome]) -> bool:
-        """Whether one of the outcomes is a stated one: the values of the reads that are not open, and the final values."""
-        return bool(self.rows_shown_by(outcomes))
-
     def rows_shown_by(self, outcomes: Iterable[Outcome]) -> set[Reads]:
-        """What the open reads get in the outcomes that are stated ones."""
+        """What the open reads get in those of the outcomes that are stated ones: by the values of the reads that are not open,
+        and by the final values. Without open reads it is the one empty row, or none."""
         ops = [op for op in self.ops if op.kind == "Read"]
         return {
             tuple(value for op, value in zip(ops, reads) if op.is_open)
@@ -120,14 +115,12 @@ class Test:
 
 
 def read_test(path: str) -> Test:
-    """The test of a file."""
     # a comment may have any bytes, and ends with its line by LF alone
     with open(path, encoding="latin-1", newline="\n") as file:
         return test_of_text(file.read())
 
 
 def test_of_text(whole: str) -> Test:
-    """The test of a text."""
     text = COMMENT.sub(" ", whole)
     found = MICROOP.findall(text)
     threads = sorted({(int(core), int(thread)) for _, core, thread, *_ in found})
@@ -143,9 +136,7 @@ def test_of_text(whole: str) -> Test:
             op = replace(op, address=numbers(address), virtual=virtual, is_open=is_open)
             op = op if is_open else replace(op, value=value_of(value))
         lines[here].append((int(g), int(n), op))
-    dependencies = {
-        (kind, names[int(g), int(n)], names[int(h), int(m)]) for kind, g, n, h, m in DEPENDENCY.findall(text)
-    }
+    dependencies = {(kind, names[int(g), int(n)], names[int(h), int(m)]) for kind, g, n, h, m in DEPENDENCY.findall(text)}
     values = {(word, numbers(address)): value_of(value) for word, address, value in VALUE.findall(text)}
     return Test(
         tuple(tuple(op for _, _, op in sorted(line, key=lambda entry: entry[:2])) for line in lines),
@@ -174,9 +165,17 @@ def default_at(address: Address) -> Value:
 
 def replaced(pairs: tuple[tuple[Key, Item], ...], key: Key, value: Item) -> tuple[tuple[Key, Item], ...]:
     """A tuple of pairs, with this value at the key; a key that is not there comes last."""
-    known = dict(pairs)
-    known[key] = value
-    return tuple(known.items())
+    return tuple({**dict(pairs), key: value}.items())
+
+
+def with_item(items: tuple[Item, ...], place: int, item: Item) -> tuple[Item, ...]:
+    """A tuple with another item at a place."""
+    return (*items[:place], item, *items[place + 1 :])
+
+
+def with_read(reads: ReadValues, op: Op, value: Value) -> ReadValues:
+    """The reads with one more, in test order: in which order they were done makes no other state."""
+    return tuple(sorted((*reads, (op.place, value))))
 
 
 def ends(start: Reached, steps: Callable[[Reached], Iterable[Reached]]) -> Iterator[Reached]:
@@ -194,6 +193,5 @@ def ends(start: Reached, steps: Callable[[Reached], Iterable[Reached]]) -> Itera
                 waiting.append(state)
 
 
-def in_test_order(reads: ReadValues) -> Reads:
-    """The values of the reads, given as pairs of a place and a value."""
-    return tuple(value for _, value in sorted(reads))
+def values_of(reads: ReadValues) -> Reads:
+    return tuple(value for _, value in reads)

@@ -36,7 +36,6 @@ import sys
 from argparse import ArgumentParser, ArgumentTypeError, Namespace, RawDescriptionHelpFormatter
 from glob import escape as glob_escape
 from glob import glob
-from typing import Sequence
 
 # quietly, up to where the workers are ended with this process
 if signal.getsignal(signal.SIGINT) is not signal.SIG_IGN:
@@ -45,17 +44,18 @@ sys.dont_write_bytecode = True
 
 from tools import TOP
 from tools.agree.comparing import (
-    PATTERN, Other, Pair, Refused, difference, is_allowed, machine_of, machine_takes, model_of, model_takes, named_memory_model,
-    pattern_of, sweeper, test_of
+    Other, Pair, Refused, difference, is_allowed, machine_of, model_of, named_memory_model, pattern_of, sweeper, take, test_of
 )
-from tools.agree.comparing_programs import Comparison, Small
+from tools.agree.comparing_programs import Comparison
 from tools.agree.counts import Counts, tell
 from tools.agree.small_programs import MOST_ACCESSES, MOST_LOCATIONS, Shape, shapes_of
+from tools.agree.table import rows_of
 from tools.agree.working import ENDING, Unusable, Workers
 from tools.ending import SIGNALS
+from tools.second.patterns import ENDING as PATTERN
 from tools.second.standard_output import FAILED, UNREAD, status_of
 from tools.suite.words import folder_of
-from tools.texts.contents import Unreadable, contents
+from tools.texts.contents import Unreadable
 from tools.texts.quoting import quoted, shown
 
 KINDS = ("tests/*.test", "x86/*.litmus", "locked/*.test", "translation/*.test", "patterns/*.pattern")
@@ -64,18 +64,6 @@ REFUSED = 3
 LOCATIONS = 2
 # the folder of comparisons that were ended, in that of the suite; no model has such a name
 KEPT = ".agree"
-
-
-def table_rows() -> list[tuple[str, str, bool]]:
-    """Memory model, test and verdict of each row of the tables."""
-    rows = []
-    for folder in ("", "translation"):
-        path = os.path.join(TOP, "examples", folder, "memory-models.tsv")
-        if os.path.exists(path):
-            lines = [line.split("\t") for line in contents(path).decode("ascii").splitlines()]
-            columns = [lines[0].index(name) for name in ("memory model", "test", "allowed")]
-            rows += [(row[columns[0]], row[columns[1]], row[columns[2]] == "yes") for row in lines[1:]]
-    return rows
 
 
 def shipped(kind: str) -> list[str]:
@@ -94,17 +82,14 @@ def shipped_test(name: str) -> str:
 
 def pairs_of(models: list[tuple[str, str]], tests: list[str], options: Namespace, by_program: bool) -> list[Pair]:
     """The pairs that are compared, model by model, each model with its machine."""
-    found = []
     for test in tests:
         # each file is read before anything is compared
         test_of(test)
-    for model, machine in models:
-        for test in tests:
-            is_pattern = test.endswith(PATTERN)
-            is_compared = not options.open or is_pattern or test.endswith(".test")
-            if is_compared and machine_takes(machine, test) and model_takes(model, test):
-                opens = options.open and not is_pattern
-                found.append(Pair(model, machine, test, is_pattern or options.open, opens, by_program))
+    compared = [test for test in tests if not options.open or test.endswith((PATTERN, ".test"))]
+    found = [
+        Pair(model, machine, test, options.open and not test.endswith(PATTERN), by_program)
+        for model, machine in models for test in compared if take(model, machine, test)
+    ]
     for test in {pair.test for pair in found if pair.is_opened}:
         pattern_of(test, True)
     return found
@@ -122,7 +107,7 @@ def compare_files(pairs: list[Pair], counts: Counts) -> None:
 def compare_table() -> int:
     """Prints each row of the tables that its machine does not say, and answers how many there are."""
     differ = 0
-    for name, test, allowed in table_rows():
+    for name, test, allowed in [*rows_of(""), *rows_of("translation")]:
         if is_allowed(name, shipped_test(test)) != allowed:
             differ += 1
             print(f"the table {name} {test}: the machine says {'no' if allowed else 'yes'}")
@@ -142,38 +127,36 @@ def models_of(options: Namespace) -> list[tuple[str, str]]:
     return found
 
 
-def compare_programs(options: Namespace, by_program: bool) -> Counts:
+def compare_programs(options: Namespace, by_program: bool, counts: Counts) -> None:
     """Compares on random programs, or on all small ones."""
     if options.between:
-        for model in options.between:
-            model_of(model)
         first, second = options.between
+        model_of(first)
+        model_of(second)
         comparisons = [Comparison(first, Other(second, True), by_program)]
     else:
         comparisons = [Comparison(model, Other(machine), by_program) for model, machine in models_of(options)]
-    counts = Counts()
     for comparison in comparisons:
+        comparison.judge_usable()
         if options.random:
             counts.add(comparison.random(*options.random))
         else:
-            small = Small(options.all, options.locations or LOCATIONS, options.fences, options.locked)
-            counts.add(comparison.all_small(small, os.path.join(folder_of(os.environ, TOP), KEPT)))
-    return counts
+            family = comparison.family(options.all, options.locations or LOCATIONS, options.fences, options.locked)
+            counts.add(comparison.all_small(family, os.path.join(folder_of(os.environ, TOP), KEPT)))
 
 
 def compare(options: Namespace) -> int:
     """Compares everything and answers the exit status."""
     by_program = not options.reading and bool(sweeper().words)
-    counts = Counts()
+    counts, is_swept = Counts(), True
     if options.random or options.all:
-        counts = compare_programs(options, by_program)
-        is_swept = True
+        compare_programs(options, by_program, counts)
     else:
         given = [word for word in options.files if not word.endswith(".uspec")]
         tests = given or [path for kind in KINDS for path in shipped(kind)]
         pairs = pairs_of(models_of(options), tests, options, by_program)
         compare_files(pairs, counts)
-        is_swept = any(pair.is_pattern for pair in pairs)
+        is_swept = any(pair.is_swept for pair in pairs)
         counts.differ += 0 if given else compare_table()
         if not counts.done:
             raise Unusable("nothing is compared: no machine of these models runs one of these tests")
@@ -186,7 +169,11 @@ def compare(options: Namespace) -> int:
 def main(*words: str) -> int:
     """Compares what the words ask for, or says why not, and answers the exit status."""
     SIGNALS.receive(ENDING)
-    options = options_of(words)
+    reader = parser()
+    options = reader.parse_args(words)
+    fault = fault_of(options)
+    if fault:
+        reader.error(fault)
     try:
         return compare(options)
     except Refused as refused:
@@ -201,7 +188,6 @@ def main(*words: str) -> int:
 
 
 def parser() -> ArgumentParser:
-    """What reads the words of the command line."""
     found = ArgumentParser("pipecheck agree", description=__doc__, formatter_class=RawDescriptionHelpFormatter)
     found.add_argument("--open", action="store_true")
     found.add_argument("--reading", action="store_true")
@@ -214,16 +200,6 @@ def parser() -> ArgumentParser:
     found.add_argument("--between", nargs=2, metavar=("MODEL", "MODEL"))
     found.add_argument("files", nargs="*")
     return found
-
-
-def options_of(words: Sequence[str]) -> Namespace:
-    """The words of the command line."""
-    reader = parser()
-    options = reader.parse_args(words)
-    fault = fault_of(options)
-    if fault:
-        reader.error(fault)
-    return options
 
 
 def named_shapes(words: str) -> tuple[Shape, ...]:

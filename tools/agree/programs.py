@@ -9,6 +9,8 @@ from math import prod
 from random import Random
 from typing import Callable, Iterator, Sequence, TypeVar
 
+from tools.agree.litmus import with_item
+
 MOST_OPS = 8
 KINDS = ("addr", "data", "ctrl")
 NAMES = "xyzabcde"
@@ -31,12 +33,10 @@ class Made:
 
     @property
     def reads(self) -> bool:
-        """Whether it reads."""
         return self.kind in ("Read", "Exchange")
 
     @property
     def writes(self) -> bool:
-        """Whether it writes."""
         return self.kind in ("Write", "Exchange")
 
     @property
@@ -64,7 +64,6 @@ class Program:
 
     @property
     def pattern(self) -> str:
-        """The program as a pattern."""
         lines = [f'Litmus "{self.name}".']
         for g, op in enumerate(self.ops):
             lines += [f"Microop {g} {op.core} {op.core} {n} ({access})." for n, access in enumerate(op.accesses)]
@@ -97,7 +96,7 @@ class Program:
         for place, op in enumerate(self.ops):
             for name in op.types:
                 less = replace(op, types=tuple(other for other in op.types if other != name))
-                yield replace(self, ops=self.ops[:place] + (less,) + self.ops[place + 1 :])
+                yield replace(self, ops=with_item(self.ops, place, less))
 
 
 def choose(random: Random, items: Sequence[Item]) -> Item:
@@ -111,17 +110,11 @@ def random_program(random: Random, types: tuple[str, ...]) -> Program:
     while True:
         ops = choose(random, (ring_ops, loose_ops))(random, types)
         if any(op.kind == "Read" for op in ops):
-            valued = tuple(with_value(random, op, place) for place, op in enumerate(sorted(ops, key=core_of)))
+            valued = tuple(with_value(random, op, place) for place, op in enumerate(sorted(ops, key=lambda op: op.core)))
             return Program(valued, random_dependencies(random, valued), random_final(random, valued))
 
 
-def core_of(op: Made) -> int:
-    """The number of its core."""
-    return op.core
-
-
 def loose_ops(random: Random, types: tuple[str, ...]) -> list[Made]:
-    """Micro-ops of any kind on any core."""
     cores = choose(random, (1, 2, 2, 3, 4))
     addresses = choose(random, (1, 2, 2, 2, 3))
     size = choose(random, range(2, MOST_OPS + 1))
@@ -132,9 +125,7 @@ def ring_ops(random: Random, types: tuple[str, ...]) -> list[Made]:
     """Two or three cores, each with an access of its own address and then one of the next core's, with a fence between
     the two or none; and micro-ops of any kind among them. Few loose programs have these."""
     cores = choose(random, (2, 2, 3))
-    lines = [
-        [random_access(random, core, address % cores, types) for address in (core, core + 1)] for core in range(cores)
-    ]
+    lines = [[random_access(random, core, address % cores, types) for address in (core, core + 1)] for core in range(cores)]
     left = MOST_OPS - 2 * cores
     for core, line in enumerate(lines):
         if left and random.random() < 0.5:
@@ -148,19 +139,16 @@ def ring_ops(random: Random, types: tuple[str, ...]) -> list[Made]:
 
 
 def random_op(random: Random, core: int, addresses: int, types: tuple[str, ...]) -> Made:
-    """A micro-op of any kind."""
     if random.random() < 1 / 6:
         return random_fence(random, core, types)
     return random_access(random, core, choose(random, range(addresses)), types)
 
 
 def random_fence(random: Random, core: int, types: tuple[str, ...]) -> Made:
-    """A fence."""
     return Made(core, "Fence", some_types(random, types, choose(random, (1, 2, 3))))
 
 
 def random_access(random: Random, core: int, address: int, types: tuple[str, ...]) -> Made:
-    """A read or a write."""
     return Made(core, choose(random, ("Read", "Write")), some_types(random, types, choose(random, (0, 0, 1))), address)
 
 
@@ -211,7 +199,6 @@ def named(program: Program) -> str:
 
 
 def word(op: Made) -> str:
-    """A micro-op as a word."""
     types = "".join(f".{name}" for name in op.types)
     if op.kind == "Fence":
         return f"F{types}"

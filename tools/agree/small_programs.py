@@ -8,7 +8,7 @@ from collections import Counter
 from dataclasses import dataclass
 from itertools import combinations_with_replacement, groupby, permutations, product
 from math import factorial, prod
-from typing import Callable, Iterator, Sequence
+from typing import Iterator, Sequence
 
 from tools.agree.programs import Made, Program
 
@@ -62,7 +62,9 @@ class Family:
             yield ()
             return
         length, count = shape[0], shape.count(shape[0])
-        for lines in in_order(lambda: self.lines(length), count):
+        one = self.lines(length)
+        # where one core has this length, its lines are not kept
+        for lines in combinations_with_replacement(one, count) if count > 1 else ((line,) for line in one):
             for rest in self.lines_of(shape[count:]):
                 yield lines + rest
 
@@ -101,11 +103,6 @@ class Family:
         return found
 
 
-def in_order(lines: Callable[[], Iterator[Line]], count: int) -> Iterator[tuple[Line, ...]]:
-    """So many of the lines, in order. Where it is one, they are not kept."""
-    return ((line,) for line in lines()) if count == 1 else combinations_with_replacement(lines(), count)
-
-
 def shapes_of(words: str) -> tuple[Shape, ...]:
     """The shapes that words name, each once, smaller ones first: `3+3`, or `4` for all of up to four accesses; a comma
     stands between two. A ValueError says what is none."""
@@ -114,14 +111,11 @@ def shapes_of(words: str) -> tuple[Shape, ...]:
         parts = [int(part) for part in word.split("+") if part.isascii() and part.isdigit() and len(part) < 4]
         if len(parts) != word.count("+") + 1 or 0 in parts or sum(parts) > MOST_ACCESSES:
             raise ValueError(word)
-        found |= set(shapes_up_to(parts[0])) if len(parts) == 1 else {tuple(sorted(parts, reverse=True))}
+        if len(parts) == 1:
+            found |= {shape for most in range(1, parts[0] + 1) for shape in cycles(most) if len(shape) <= MOST_CORES}
+        else:
+            found.add(tuple(sorted(parts, reverse=True)))
     return tuple(sorted(found, key=lambda shape: (sum(shape), len(shape), shape)))
-
-
-def shapes_up_to(most: int) -> Iterator[Shape]:
-    """All shapes of up to so many accesses on a few cores."""
-    for count in range(1, most + 1):
-        yield from (shape for shape in cycles(count) if len(shape) <= MOST_CORES)
 
 
 def cycles(count: int, longest: int | None = None) -> Iterator[tuple[int, ...]]:

@@ -14,30 +14,29 @@ import sys
 from glob import escape, glob
 from hashlib import sha256
 from importlib import import_module
+from typing import Iterator
 
 sys.dont_write_bytecode = True
 
 from tools import TOP
 from tools.agree.listing import read_file
-from tools.agree.verdicts import rows_allowed, runs
+from tools.agree.verdicts import runs
+from tools.texts.contents import contents
 
 KINDS = ("tests/*.test", "x86/*.litmus", "locked/*.test")
 MACHINES = ("sc", "tso", "pso", "weak", "nmca", "pc", "rvwmo")
 X86_TSO = "Owens, Sarkar, Sewell, x86-TSO, 2009"
 OF_X86_TSO = ("SB", "MP", "LB", "SB+rfi-pos", "SB+fences", "IRIW", "n4b", "n5", "n6", "n7")
-PAPERS = {("tso", test): X86_TSO for test in OF_X86_TSO}
 
 
-def source(machine: str, test: str) -> str:
-    """Where the verdict comes from."""
-    here = f"machine tools/agree/machines/{machine}.py"
-    return f"{here}; {PAPERS[machine, test]}" if (machine, test) in PAPERS else here
-
-
-def digest(path: str) -> str:
-    """The hash of a test's bytes."""
-    with open(path, "rb") as file:
-        return sha256(file.read()).hexdigest()
+def rows_of(folder: str) -> Iterator[tuple[str, str, bool]]:
+    """Memory model, test and verdict of each row of the table in a folder of the examples, if there is one."""
+    path = os.path.join(TOP, "examples", folder, "memory-models.tsv")
+    if os.path.exists(path):
+        head, *rows = (line.split("\t") for line in contents(path).decode("ascii").splitlines())
+        for row in rows:
+            cells = dict(zip(head, row))
+            yield cells["memory model"], cells["test"], cells["allowed"] == "yes"
 
 
 def main(words: list[str]) -> None:
@@ -45,14 +44,15 @@ def main(words: list[str]) -> None:
     kinds, machines = (("translation/*.test",), ("tlb",)) if words == ["translation"] else (KINDS, MACHINES)
     paths = [path for kind in kinds for path in glob(f"{escape(TOP)}/examples/{kind}")]
     named = sorted((os.path.basename(path).removesuffix(".test"), path) for path in paths)
-    tests = [(name, read_file(path), digest(path)) for name, path in named]
+    tests = [(name, read_file(path), sha256(contents(path)).hexdigest()) for name, path in named]
     print("memory model", "test", "allowed", "source", "sha256", sep="\t")
     for machine in machines:
         module = import_module(f"tools.agree.machines.{machine}")
-        for name, test, hash_of_bytes in tests:
+        for name, test, digest in tests:
             if runs(module, test):
-                allowed = "yes" if rows_allowed(module, test) else "no"
-                print(machine, name, allowed, source(machine, name), hash_of_bytes, sep="\t")
+                allowed = "yes" if test.rows_shown_by(module.outcomes(test)) else "no"
+                paper = f"; {X86_TSO}" if machine == "tso" and name in OF_X86_TSO else ""
+                print(machine, name, allowed, f"machine tools/agree/machines/{machine}.py{paper}", digest, sep="\t")
 
 
 if __name__ == "__main__":

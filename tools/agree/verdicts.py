@@ -20,13 +20,12 @@ from typing import Iterator
 
 from tools.agree.listing import read_file
 from tools.agree.litmus import NotRun, Reads, Test, Value
-
-
 from tools.second.cases import Case, Entry
 from tools.second.cases import Value as ReadValue
 from tools.second.listings import read_file_items
+from tools.second.patterns import ENDING as PATTERN
+from tools.texts.contents import contents
 
-PATTERN = ".pattern"
 NOT_RUN = 3
 
 
@@ -38,21 +37,9 @@ def runs(machine: ModuleType, test: Test) -> bool:
     return not test.has_locked or getattr(machine, "TAKES_LOCKED", False)
 
 
-def rows_allowed(machine: ModuleType, test: Test) -> set[Reads]:
-    """What the open reads get in the stated outcomes that come up; without open reads the one empty row, or none."""
-    return test.rows_shown_by(machine.outcomes(test))
-
-
-def line_of(row: Reads) -> str:
+def words_of(row: Reads) -> list[str]:
     """A row as a sweep writes its values."""
-    words = ("Maps:" + ":".join(map(str, value)) if isinstance(value, tuple) else str(value) for value in row)
-    return " ".join(("row", *words))
-
-
-def case_of(path: str) -> Case:
-    """The case of a file, as the second implementation has it."""
-    with open(path, "rb") as file:
-        return read_file_items(path, file.read())[0]
+    return ["Maps:" + ":".join(map(str, value)) if isinstance(value, tuple) else str(value) for value in row]
 
 
 def value_of(value: ReadValue | None) -> Value:
@@ -74,34 +61,24 @@ def lines_of(machine: ModuleType, path: str) -> list[str] | None:
         test = read_file(path)
     except (LookupError, ValueError):
         return None
-    if not runs(machine, test) or not is_alike(test, case_of(path)):
+    if not runs(machine, test) or not is_alike(test, read_file_items(path, contents(path))[0]):
         return None
     try:
-        rows = rows_allowed(machine, test)
+        rows = test.rows_shown_by(machine.outcomes(test))
     except NotRun:
         return None
-    if os.path.splitext(path)[1] == PATTERN:
-        return [*sorted(map(line_of, rows)), "end"]
+    if path.endswith(PATTERN):
+        return [*sorted(" ".join(["row", *words_of(row)]) for row in rows), "end"]
     return ["yes" if rows else "no"]
 
 
-def say_one(machine: ModuleType, path: str) -> int:
-    """Says it of one test, and answers the exit status."""
-    lines = lines_of(machine, path)
-    if lines is None:
-        return NOT_RUN
-    print(*lines, sep="\n")
-    return 0
-
-
-def say_all(machine: ModuleType, seconds: int) -> int:
+def say_all(machine: ModuleType, seconds: int) -> None:
     """Says it of each test that standard input names."""
     standing = resource.getrlimit(resource.RLIMIT_CPU)
     for path in paths_asked():
         limit_time(seconds, standing)
         lines = lines_of(machine, path)
         print(*(["not run"] if lines is None else lines), sep="\n", end="\0", flush=True)
-    return 0
 
 
 def paths_asked() -> Iterator[str]:
@@ -123,10 +100,14 @@ def limit_time(seconds: int, standing: tuple[int, int]) -> None:
 def main(name: str, *words: str) -> int:
     """Says what the machine allows, and answers the exit status."""
     machine = import_module(f"tools.agree.machines.{name}")
-    if len(words) == 2 and words[0] == "--within":
-        return say_all(machine, int(words[1]))
-    (path,) = words
-    return say_one(machine, path)
+    if words[0] == "--within":
+        say_all(machine, int(words[1]))
+        return 0
+    lines = lines_of(machine, words[0])
+    if lines is None:
+        return NOT_RUN
+    print(*lines, sep="\n")
+    return 0
 
 
 if __name__ == "__main__":

@@ -17,9 +17,7 @@ from typing import Callable, Generic, Iterable, Iterator, TypeVar
 from tools.ending import PATIENCE, SIGNALS
 
 # a reader that goes away asks for an end, too
-ENDING = (
-    signal.SIGALRM, signal.SIGHUP, signal.SIGINT, signal.SIGPIPE, signal.SIGQUIT, signal.SIGTERM, signal.SIGUSR1
-)
+ENDING = (signal.SIGALRM, signal.SIGHUP, signal.SIGINT, signal.SIGPIPE, signal.SIGQUIT, signal.SIGTERM, signal.SIGUSR1)
 # how many tasks wait for each processor
 WAITING = 4
 

@@ -4,7 +4,7 @@ import tempfile
 from functools import cache
 from typing import Iterator, Sequence
 
-from tools.mend.copies import Final, Names, Outcome, Program, text_of
+from tools.mend.copies import Final, Outcome, Program, text_of
 from tools.mend.worlds import Edge, World
 from tools.second.models import Model
 from tools.second.positions import NodeNames
@@ -26,41 +26,35 @@ class Unanswered(Exception):
 class Questions:
     """A model and a program that are asked about, in a folder of temporary files."""
 
-    def __init__(self, checker: Checker, folder: str, model: Model, text: bytes, program: Program, names: Names) -> None:
+    def __init__(self, checker: Checker, folder: str, model: Model, text: bytes, program: Program, name: str) -> None:
         self.checker = checker
         self.folder = folder
         self.model = model
         self.text = text
         self.program = program
-        self.names = names
+        # what the type names of the micro-ops begin with
+        self.name = name
         self.nodes = NodeNames(model, program.case)
         # the same few nodes come in each run
         self.read = cache(self.nodes.read)
+        self.model_path = self.file("model", text)
         self.paths: dict[Outcome, str] = {}
         self.count = 0
 
     def file(self, name: str, text: bytes) -> str:
-        """The path of a temporary file with this text."""
         path = os.path.join(self.folder, name)
         with open(path, "wb") as file:
             file.write(text)
         return path
 
-    def called(self, *words: str, statuses: Sequence[int] = (0,)) -> bytes:
-        """What the program writes; its status is one of these."""
+    def called(self, *words: str) -> bytes:
+        """What the program writes; the questions are counted."""
         self.count += 1
-        return answer_of(self.checker, *words, statuses=statuses)
-
-    @property
-    def model_path(self) -> str:
-        """The path of the model."""
-        path = os.path.join(self.folder, "model")
-        return path if os.path.exists(path) else self.file("model", self.text)
+        return answer_of(self.checker, *words)
 
     def path_of(self, outcome: Outcome) -> str:
-        """The path of the test that states an outcome."""
         if outcome not in self.paths:
-            text = text_of(self.program.case_of(outcome), self.names)
+            text = text_of(self.program.case_of(outcome), self.name)
             self.paths[outcome] = self.file(f"{len(self.paths)}.test", text)
         return self.paths[outcome]
 
@@ -91,7 +85,7 @@ class Questions:
     def pattern(self, final: Final) -> bytes:
         """The program with its reads open, and these final values."""
         case = self.program.case_of(Outcome(self.program.stated.reads, final))
-        return text_of(case, self.names, self.program.opens)
+        return text_of(case, self.name, self.program.opens)
 
     def shown(self, model_path: str) -> Iterator[Outcome]:
         """The outcomes of the program that a model shows."""
@@ -106,7 +100,7 @@ class Questions:
     def formula(self, edge: Edge) -> str:
         """That an edge is there."""
         names = {op: f"o{op}" for op in (edge[0][0], edge[1][0])}
-        bound = " ".join(f'exists microop "{name}", AccessType {self.names.of(op)} {name} /\\' for op, name in names.items())
+        bound = " ".join(f'exists microop "{name}", AccessType {self.name}{op} {name} /\\' for op, name in names.items())
         ends = ", ".join(f"({names[op]}, ({core}, {self.nodes.stages[stage]}))" for op, core, stage in edge)
         return f"({bound} EdgeExists ({ends}))"
 

@@ -4,7 +4,7 @@ the address, that it is before the write that the read has its value from, or be
 from dataclasses import dataclass
 from typing import Iterator
 
-from tools.mend.relations import CONJUNCTION, OWN, Place
+from tools.mend.relations import CONJUNCTION, Place
 from tools.second.cases import Case
 from tools.second.meaning import Node
 from tools.second.models import Model
@@ -25,20 +25,14 @@ class Choice:
 
     def formula(self, model: Model, label: str) -> list[str]:
         """The order as a formula, in lines."""
-        read, write, source = self.node("r", self.read, model), self.node("v", self.write, model), self.node("w", self.write, model)
+        read, write, source = self.read.text("r", model), self.write.text("v", model), self.write.text("w", model)
         return [
             'forall microops "r", forall microops "w", forall microops "v",',
             f"  {CONJUNCTION.join(PREMISES)} =>",
             f'  AddEdge ({write}, {source}, "{label}") \\/ AddEdge ({read}, {write}, "{label}")',
         ]
 
-    def node(self, name: str, place: Place, model: Model) -> str:
-        """A node as a model writes it."""
-        stage = next(it.name.name for it in model.stages if it.number.value == place.stage)
-        return f"({name}, {stage})" if place.core == OWN else f"({name}, ({place.core}, {stage}))"
-
     def axiom(self, model: Model, title: str) -> list[str]:
-        """The order as an axiom."""
         *first, last = self.formula(model, title)
         return [f'Axiom "{title}":', *(f"  {line}" for line in first), f"  {last}."]
 

@@ -14,7 +14,7 @@ from tools import TOP
 from tools.ending import SIGNALS
 from tools.mend.allowed import outcomes_allowed
 from tools.mend.asking import Questions, Unanswered, answer_of
-from tools.mend.copies import Names, Outcome, program_of
+from tools.mend.copies import Outcome, free_name, program_of
 from tools.mend.orders import Found, Search
 from tools.mend.suite_tests import SuiteTests
 from tools.mend.telling import MOST_CHOICES, MOST_SHOWN, MOST_STRONGER, TITLE, Telling
@@ -27,11 +27,11 @@ from tools.suite.pairs import Checker
 from tools.suite.programs import checker_of
 from tools.suite.refusing import Refusal
 from tools.texts.address_names import case_with_names
+from tools.texts.contents import Unreadable, contents
 from tools.texts.memory_models import memory_model_of
-from tools.texts.naming import Names as ModelNames
+from tools.texts.naming import Names
 from tools.texts.wrapping import width_of_output, within
 
-LIMIT = 1_048_576
 # how long one call of the program may take, in seconds
 SECONDS = 60.0
 # of `check`, and those of a call without an answer that stand for themselves
@@ -47,17 +47,11 @@ class Said(Exception):
         self.text = text
 
 
-def contents(path: str) -> bytes:
-    """The bytes of a file, with one more than the limit where there are more."""
-    with open(path, "rb") as file:
-        return file.read(LIMIT + 1)
-
-
-def checked(questions_of: Checker, model_path: str, test_path: str) -> None:
+def checked(checker: Checker, model_path: str, test_path: str) -> None:
     """Has the program check the files; what is no verdict, and that nothing is to mend, is all that is said."""
     word = "check86" if test_path.endswith(ENDING) else "check"
     try:
-        said = answer_of(questions_of, word, model_path, test_path, statuses=(SHOWN, NOT_SHOWN))
+        said = answer_of(checker, word, model_path, test_path, statuses=(SHOWN, NOT_SHOWN))
     except Unanswered as unanswered:
         if unanswered.status in (REFUSED, NO_MEMORY):
             raise Said(unanswered.status, unanswered.said.decode("ascii", "replace")) from unanswered
@@ -74,10 +68,10 @@ class Mending:
         case = case_with_names(test_path, test_text)
         self.checker = checker
         self.program = program_of(case)
-        self.questions = Questions(checker, folder, model, model_text, self.program, Names(model_text, test_text))
+        self.questions = Questions(checker, folder, model, model_text, self.program, free_name(model_text, test_text))
         self.machines = Machines(TOP)
         self.memory_model = memory_model_of(model_text).name
-        self.telling = Telling(ModelNames(model, case, model_text), self.program, self.memory_model)
+        self.telling = Telling(Names(model, case, model_text), self.program, self.memory_model)
 
     def lines(self) -> tuple[list[str], int]:
         """What is said, and the status."""
@@ -167,17 +161,14 @@ def main(model_path: str, test_path: str) -> int:
     except (Refusal, Unanswered) as problem:
         print(f"pipecheck: {str(problem).removeprefix('suite: ')}", file=sys.stderr)
         return FAILED
+    except Unreadable:
+        return UNREAD
     except OSError as error:
-        return UNREAD if error.filename in (model_path, test_path) else unkept(error)
+        print(f"pipecheck: mend: {error.strerror}; TMPDIR names another folder for temporary files", file=sys.stderr)
+        return FAILED
     for line in within(lines, width_of_output()):
         print(line)
     return status
-
-
-def unkept(error: OSError) -> int:
-    """That a temporary file could not be made."""
-    print(f"pipecheck: mend: {error.strerror}; TMPDIR names another folder for temporary files", file=sys.stderr)
-    return FAILED
 
 
 if __name__ == "__main__":

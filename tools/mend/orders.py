@@ -14,7 +14,7 @@ from tools.mend.choices import Choice
 from tools.mend.copies import Outcome
 from tools.mend.relations import OWN, Place, Relation, Relations
 from tools.mend.worlds import Edge, World
-from tools.second.cases import Value
+from tools.second.cases import Case, Value
 from tools.second.meaning import Node
 
 # how many edges one question is about, and how many are asked about at all: the nearest
@@ -83,7 +83,8 @@ class Search:
             of_relations = self.judged(list(self.of_relations(edges)))
             best = [order for order in of_relations if not order.lost]
         if not best and not narrow:
-            narrow = self.narrowed([order for order in self.judged(list(self.of_values(edges))) if order.lost])
+            of_values = self.judged(list(self.of_relations(edges, self.case)))
+            narrow = self.narrowed([order for order in of_values if order.lost])
         choices = [] if best or narrow else [choice for choice in self.choices() if self.keeps_all(choice)]
         if not best and not narrow and not choices:
             best = self.nearest(self.counted([*single, *of_relations][:MOST_COUNTED]))
@@ -97,22 +98,15 @@ class Search:
 
     def edges(self) -> list[Edge]:
         """The pairs of nodes of runs that the program has shown, the nearest where there are many."""
-        nodes = list(dict.fromkeys(node for worlds in self.worlds.values() for node in worlds[0].nodes))
+        nodes = list(dict.fromkeys(node for worlds in self.worlds.values() for node in worlds[0].later))
         pairs = [(start, end) for start in nodes for end in nodes if start != end]
         return sorted(pairs, key=self.distance_of)[:MOST_EDGES]
 
-    def of_relations(self, edges: Sequence[Edge]) -> Iterator[Order]:
-        """All edges of a relation together, for each relation that has several."""
-        for relation in dict.fromkeys(map(self.relations.of, edges)):
-            together = [] if relation is None else list(relation.edges(self.case))
-            if len(together) > 1:
-                yield Order(tuple(map(Part, together)), relation)
-
-    def of_values(self, edges: Sequence[Edge]) -> Iterator[Order]:
-        """The same, for relations in which the reads get what the outcome says."""
-        case = self.program.case
+    def of_relations(self, edges: Sequence[Edge], case: Case | None = None) -> Iterator[Order]:
+        """All edges of a relation together, for each relation that has several; of a case, for relations in which the reads
+        get what it says."""
         for relation in dict.fromkeys(self.relations.of(edge, case) for edge in edges):
-            together = [] if relation is None else list(relation.edges(case))
+            together = [] if relation is None else list(relation.edges(self.case))
             if len(together) > 1:
                 yield Order(tuple(map(Part, together)), relation)
 
@@ -146,9 +140,8 @@ class Search:
     def choices(self) -> list[Choice]:
         """The orders of reads before newer writes, by the places of nodes: first at what all cores share, late places of
         writes before early ones, and early places of reads, which order less, before late ones."""
-        nodes = self.worlds[self.stated][0].nodes
         places: dict[str, list[Place]] = {"Read": [], "Write": [], "Fence": []}
-        for node in nodes:
+        for node in self.worlds[self.stated][0].later:
             place = self.relations.place(node, node[0])
             if place is not None:
                 places[self.case.ops[node[0]].access].append(place)
@@ -169,11 +162,7 @@ class Search:
     def active(self, order: Order, outcome: Outcome) -> list[Edge]:
         """The edges of an order that an outcome has to have."""
         stated = self.program.stated
-        return [
-            part.edge
-            for part in order.parts
-            if all(self.gets(op, outcome) == self.gets(op, stated) for op in part.where)
-        ]
+        return [part.edge for part in order.parts if all(self.gets(op, outcome) == self.gets(op, stated) for op in part.where)]
 
     # what the program says
 
@@ -193,11 +182,8 @@ class Search:
 
     def counted(self, orders: Sequence[Order]) -> list[Order]:
         """The orders with all outcomes that they lose."""
-        lost: dict[Order, list[Outcome]] = {order: [] for order in orders}
-        for outcome in self.others:
-            for order in self.never(outcome, orders):
-                lost[order].append(outcome)
-        return [replace(order, lost=tuple(outcomes)) for order, outcomes in lost.items()]
+        losing = {outcome: set(self.never(outcome, orders)) for outcome in self.others}
+        return [replace(it, lost=tuple(outcome for outcome, lose in losing.items() if it in lose)) for it in orders]
 
     def never(self, outcome: Outcome, orders: Sequence[Order]) -> list[Order]:
         """Those of the orders that no run with an outcome has."""
@@ -226,7 +212,7 @@ class Search:
 
     def unseen(self, worlds: Sequence[World], edges: dict[Order, list[Edge]]) -> list[Order]:
         """Those of the orders that none of these runs has."""
-        return [order for order, wanted in edges.items() if not any(has_all(world, wanted) for world in worlds)]
+        return [order for order, wanted in edges.items() if not any(all(map(world.has, wanted)) for world in worlds)]
 
     def stretched(self, outcome: Outcome, wanted: Sequence[Edge], most: int) -> list[World]:
         """A run as the last one that was seen that has many of the wanted edges as well, at most so many. There may be none,
@@ -288,11 +274,6 @@ class Search:
         (start, _, first), (end, _, last) = edge
         near = 0 if start == end else 1 if self.case.ops[start].core == self.case.ops[end].core else 2
         return near, self.kinship(edge), abs(first - last), int(start > end), abs(start - end), start, first
-
-
-def has_all(world: World, edges: Sequence[Edge]) -> bool:
-    """Whether a run has all of these edges."""
-    return all(map(world.has, edges))
 
 
 def fitting(sizes: Sequence[int]) -> int:

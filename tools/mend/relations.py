@@ -33,7 +33,6 @@ class Premise:
         return ("" if self.is_wanted else "~") + " ".join([self.predicate, *self.args])
 
     def holds(self, case: Case, first: int, second: int) -> bool:
-        """Whether it holds of two micro-ops."""
         takes, test = PREDICATES[self.predicate]
         ops = {FIRST: first, SECOND: second}
         args = (ops[arg] if kind == MICROOP else arg for kind, arg in zip(takes, self.args))
@@ -52,6 +51,13 @@ class Place:
         cores = {OWN: case.ops[op].core, OTHERS: case.ops[other].core}
         return op, cores.get(self.core, self.core), self.stage
 
+    def text(self, name: str, model: Model) -> str:
+        """The node of the micro-op of this name there, as a model writes it."""
+        stage = next(it.name.name for it in model.stages if it.number.value == self.stage)
+        if self.core == OWN:
+            return f"({name}, {stage})"
+        return f"({name}, ({CORE if self.core == OTHERS else self.core}, {stage}))"
+
 
 @dataclass(frozen=True)
 class Relation:
@@ -63,7 +69,6 @@ class Relation:
     is_of_one: bool
 
     def edges(self, case: Case) -> Iterator[Edge]:
-        """These pairs in a test."""
         count = range(len(case.ops))
         for first in count:
             for second in [first] if self.is_of_one else count:
@@ -72,7 +77,6 @@ class Relation:
 
     def axiom(self, model: Model, title: str) -> list[str]:
         """The axiom that has the first node of each pair before the second, in lines."""
-        stages = {stage.number.value: stage.name.name for stage in model.stages}
         second = FIRST if self.is_of_one else SECOND
         variables = [f'forall microops "{name}",' for name in dict.fromkeys((FIRST, second))]
         given = [premise.text for premise in self.premises]
@@ -80,15 +84,10 @@ class Relation:
             if place.core == OTHERS:
                 variables += [f'forall cores "{CORE}",']
                 given.append(f"OnCore {CORE} {other}")
-        ends = ", ".join(
-            f"({op}, {stages[place.stage]})" if place.core == OWN
-            else f"({op}, ({CORE if place.core == OTHERS else place.core}, {stages[place.stage]}))"
-            for op, place in ((FIRST, self.start), (second, self.end))
-        )
         return [
             f'Axiom "{title}": {" ".join(variables)}',
             f"  {CONJUNCTION.join(given)} =>",
-            f'  AddEdge ({ends}, "{title}").',
+            f'  AddEdge ({self.start.text(FIRST, model)}, {self.end.text(second, model)}, "{title}").',
         ]
 
 
@@ -131,7 +130,6 @@ class Relations:
         return Place(stage, OTHERS) if OTHERS in named and core == self.case.ops[other].core else None
 
     def kinds(self, op: int, name: str) -> Iterator[Premise]:
-        """What a micro-op is."""
         yield Premise(f"IsAny{self.case.ops[op].access}", (name,))
         yield from (Premise("AccessType", (word, name)) for word in sorted(self.case.ops[op].types & self.asked.types.keys()))
 
@@ -147,8 +145,8 @@ class Relations:
 
     def values(self, case: Case, first: int, second: int) -> Iterator[Premise]:
         """What the reads among them get."""
-        for op, name in dict(((first, FIRST), (second, SECOND))).items():
-            initial = Premise("DataFromInitialStateAtPA", (name if op == first else SECOND,))
+        for op, name in [(first, FIRST)] if first == second else [(first, FIRST), (second, SECOND)]:
+            initial = Premise("DataFromInitialStateAtPA", (name,))
             if case.ops[op].access == "Read" and initial.holds(case, first, second):
                 yield initial
         if first != second and Premise("SamePhysicalAddress", (FIRST, SECOND)).holds(case, first, second):

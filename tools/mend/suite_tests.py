@@ -44,7 +44,6 @@ class SuiteTests:
         return any(self.shown.values())
 
     def is_shown(self, model_path: str, test: File) -> bool:
-        """Whether a model shows a test."""
         said = answer_of(self.checker, "check", model_path, test.path, statuses=STATUSES)
         return said.split(b"\n", 1)[0] == SHOWN
 

@@ -41,7 +41,6 @@ class Telling:
             yield f"Of this program {shown} other outcomes are shown, {kept} of them allowed by {self.memory_model}."
 
     def order(self, order: Order) -> str:
-        """An order in one line."""
         return "add " + " and ".join(self.names.fact((*part.edge, True)) for part in order.parts) + self.where(order)
 
     def choice(self, choice: Choice) -> Iterator[str]:
@@ -56,13 +55,11 @@ class Telling:
         return f", where {' and '.join(map(self.read, reads))}" if reads else ""
 
     def read(self, op: int) -> str:
-        """What a read gets."""
         one = self.case.ops[op]
         assert one.pa is not None and one.value is not None
         return f"{self.names.microop(op)} reads {self.names.page(one.pa)} = {value_text(one.value)}"
 
     def outcome(self, outcome: Outcome) -> str:
-        """An outcome in words: what the open reads get, and final values."""
         reads = [f"{self.names.microop(op)} = {value_text(value)}" for op, value in zip(self.program.opens, outcome.reads)]
         final = [f"at the end {self.names.page(page)} = {value_text(value)}" for page, value in outcome.final]
         return ", ".join([*reads, *final])

@@ -1,5 +1,6 @@
 """The runs that the program answers with: graphs, and which of their nodes are before which."""
 from collections import Counter
+from graphlib import TopologicalSorter
 from typing import Callable, Iterable
 
 from tools.second.meaning import Node
@@ -19,31 +20,11 @@ class World:
                 self.later.setdefault(known[0], set())
             elif word == "edge":
                 self.later[known[0]].add(known[1])
-        for node in self.backwards():
+        # each node behind all that are later
+        for node in TopologicalSorter(self.later).static_order():
             self.later[node] = self.later[node].union(*(self.later[end] for end in self.later[node]))
 
-    @property
-    def nodes(self) -> list[Node]:
-        """Its nodes."""
-        return list(self.later)
-
-    def backwards(self) -> list[Node]:
-        """The nodes, each behind all that are later."""
-        earlier: dict[Node, list[Node]] = {node: [] for node in self.later}
-        for node, ends in self.later.items():
-            for end in ends:
-                earlier[end].append(node)
-        left = {node: len(ends) for node, ends in self.later.items()}
-        found = [node for node, count in left.items() if count == 0]
-        for node in found:
-            for start in earlier[node]:
-                left[start] -= 1
-                if left[start] == 0:
-                    found.append(start)
-        return found
-
     def has(self, edge: Edge) -> bool:
-        """Whether the first node is there, and before the second."""
         return edge[1] in self.later.get(edge[0], ())
 
     def row(self, wanted: Iterable[Edge]) -> list[Node]:

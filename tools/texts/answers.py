@@ -6,8 +6,6 @@ them with the text of its model.
 import re
 from bisect import bisect
 from dataclasses import dataclass, replace
-from typing import Union
-
 from tools.second.cores import with_axioms, without
 from tools.second.models import Axiom, Model, ModelReader, Not
 from tools.second.positions import is_decimal
@@ -58,7 +56,7 @@ class Asked:
     parts: list[Part]
 
 
-Answer = Union[Core, Asked]
+Answer = Core | Asked
 
 
 def is_answer(data: bytes) -> bool:
@@ -84,7 +82,6 @@ class AnswerReader:
         self.next = 0
 
     def refused(self) -> AnswerRefused:
-        """The refusal of the next line."""
         return AnswerRefused(self.next + 1)
 
     def expect(self, *wanted: str) -> str:

@@ -28,28 +28,21 @@ class Names:
         # those of a listing have names of their own
         has_letters = len(pages) <= len(LETTERS) and not any(isinstance(page, Location) for page in pages)
         letters = (letter for letter in LETTERS if letter not in case.names.values())
-        self.pages = {
-            page: case.names.get(page) or (next(letters) if has_letters else str(page)) for page in pages
-        }
+        self.pages = {page: case.names.get(page) or (next(letters) if has_letters else str(page)) for page in pages}
 
     def microop(self, op: int) -> str:
-        """The name of a micro-op."""
         return f"{self.case.ops[op].g}.{self.case.ops[op].n}"
 
     def page(self, page: Address) -> str:
-        """An address."""
         return f"[{self.pages[page]}]"
 
     def node(self, node: Node) -> str:
-        """A node as certificates write it."""
         return self.nodes.write(node)
 
     def place(self, at: int) -> str:
-        """A place in the model as line and column."""
         return line_and_column(self.text, at)
 
     def axiom(self, axiom: Axiom) -> str:
-        """An axiom by its title."""
         return f'axiom "{axiom.title}"'
 
     def is_query(self, _axiom: Axiom) -> bool:
@@ -64,14 +57,11 @@ class Names:
         return f"{'' if wanted else 'not '}{self.node(start)} before {self.node(end)}"
 
     def chain(self, nodes: list[Node]) -> str:
-        """Nodes each of which is before the next."""
         return " before ".join(map(self.node, nodes))
 
     def origin(self, origin: Origin | None) -> str:
         """Where a part of the tree comes from."""
-        if origin is None:
-            return "several axioms"
-        label = f'"{origin.label}" by ' if origin.label else ""
+        label = f'"{origin.label}" by ' if origin is not None and origin.label else ""
         return label + self.formula(origin) + self.inside(origin)
 
     def formula(self, origin: Origin | None) -> str:

@@ -6,12 +6,13 @@ them.
 from dataclasses import replace
 from typing import Iterable, Iterator
 
-from tools.second.cases import OPEN, Case, ExpectationItem, Item, Location, Op, OpItem, Page, ValueItem, read_items
-from tools.second.listings import PIECE, Instruction, Judge, Listing, ListingReader, behind_header
+from tools.second.cases import (
+    OPEN, Address, Case, Entry, ExpectationItem, Item, Location, Op, OpItem, Page, ValueItem, read_case
+)
+from tools.second.listings import PIECE, Instruction, Judge, Listing, ListingReader, behind_header, read_listing
 from tools.second.tokens import Fault, tokens
+from tools.texts.contents import LIMIT
 
-# a test has at most so many bytes
-LIMIT = 1_048_576
 # how much of a line is shown in a comment
 MOST_CHARACTERS = 100
 
@@ -23,7 +24,7 @@ def test_of_listing(data: bytes) -> str:
     listing = ListingReader(tokens(data, PIECE, start)).listing()
     items = Judge(listing).items()
     text = within_limit(title, notes(data, start), list(item_lines(listing, items)))
-    judge_text(text, items)
+    assert without_names(read_case(text.encode("ascii"))) == without_names(read_listing(data))
     return text
 
 
@@ -61,7 +62,8 @@ def notes(data: bytes, start: int) -> Iterator[str]:
 
 def item_lines(listing: Listing, items: list[Item]) -> Iterator[tuple[str, str]]:
     """Each item with a comment that has its names."""
-    cells = instructions(listing)
+    # the instructions in the order of their micro-ops
+    cells = (cell for column in zip(*(row.cells for row in listing.rows)) for cell in column if cell is not None)
     for item in items:
         if isinstance(item, OpItem):
             yield op_text(item.op), op_comment(item.op, next(cells))
@@ -75,21 +77,21 @@ def item_lines(listing: Listing, items: list[Item]) -> Iterator[tuple[str, str]]
 
 def value_line(word: str, location: Location, value: object) -> tuple[str, str]:
     """An `Init` or a `Final` with a comment that names its location."""
-    return f"{word} (PA {location.tag} {location.index}) {value}.", f"{printable(location.name)} = {value}"
-
-
-def instructions(listing: Listing) -> Iterator[Instruction]:
-    """The instructions in the order of their micro-ops."""
-    for column in range(len(listing.head)):
-        yield from (one for row in listing.rows if (one := row.cells[column]) is not None)
+    return f"{word} {address_text(location)} {value}.", f"{printable(location.name)} = {value}"
 
 
 def op_text(op: Op) -> str:
     """A micro-op as a test writes it, or as a pattern does where it has no value."""
-    types = "".join(f" {name}" for name in sorted(op.types))
-    value = OPEN if op.value is None else op.value
-    place = "" if op.va is None else f" (VA {op.va.tag} {op.va.index}) (PA {op.va.tag} {op.va.index}) (Data {value})"
-    return f"Microop {op.g} {op.core} {op.thread} {op.n} ({op.access}{types}{place})."
+    words = " ".join([op.access, *sorted(op.types)])
+    if op.va is not None and op.pa is not None:
+        value = op.value if isinstance(op.value, Entry) else f"Data {OPEN if op.value is None else op.value}"
+        words += f" (VA {op.va.tag} {op.va.index}) {address_text(op.pa)} ({value})"
+    return f"Microop {op.g} {op.core} {op.thread} {op.n} ({words})."
+
+
+def address_text(address: Address) -> str:
+    """A physical address, in brackets."""
+    return f"(PA {address.tag} {address.index})" if isinstance(address, Page) else f"({address})"
 
 
 def op_comment(op: Op, one: Instruction) -> str:
@@ -101,14 +103,6 @@ def op_comment(op: Op, one: Instruction) -> str:
         return f"P{op.core}: MOV {location},${op.value}"
     register = printable(one.register.piece)
     return f"P{op.core}: MOV {register},{location}, and {register} = {op.value}"
-
-
-def judge_text(text: str, items: list[Item]) -> None:
-    """The text says what these items say."""
-    wanted = Case("")
-    for item in items:
-        item.add_to(wanted)
-    assert without_names(read_items(text.encode("ascii"))[0]) == without_names(wanted)
 
 
 def without_names(case: Case) -> Case:

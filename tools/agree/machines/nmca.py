@@ -6,42 +6,19 @@ order in which they were performed, so that a core performs a write when it has 
 read that forwards nothing takes the last write of its address that its core has seen. A full fence also waits until each
 write that its core has seen, of whichever core, is seen by all cores.
 """
-from typing import Iterator, NamedTuple
+from typing import Iterator
 
-from tools.agree.litmus import Memory, Op, Outcome, ReadValues, Test, Value, ends, in_test_order
+from tools.agree.litmus import Op, Outcome, Test, Value, with_item
 from tools.agree.machines import weak
-
-
-class State(NamedTuple):
-    """The places of what has executed; the performed writes, those of one address in their order; what each core has
-    seen; and the reads."""
-
-    executed: frozenset[int]
-    order: tuple[Op, ...]
-    seen: tuple[frozenset[int], ...]
-    reads: ReadValues
-
-    @property
-    def performed(self) -> frozenset[int]:
-        """The places of the performed writes."""
-        return frozenset(op.place for op in self.order)
+from tools.agree.machines.weak import State
 
 
 def outcomes(test: Test) -> set[Outcome]:
-    """All outcomes of a test."""
-    rules = Rules(test)
-    start = State(frozenset(), (), (frozenset(),) * len(test.cores), ())
-    return {(in_test_order(end.reads), rules.memory(end)) for end in ends(start, rules.steps)}
+    return Rules(test).outcomes()
 
 
-class Rules(weak.Rules[State]):
+class Rules(weak.Rules):
     """The steps of the machine on one test."""
-
-    def memory(self, state: State) -> Memory:
-        """The last value of each address."""
-        last = dict(self.test.memory)
-        last.update((op.address, op.value) for op in state.order)
-        return tuple(last.items())
 
     def steps(self, state: State) -> Iterator[State]:
         """One micro-op executes, one write is performed, or one write reaches one more core."""
@@ -49,7 +26,7 @@ class Rules(weak.Rules[State]):
         for write in state.order:
             for core, seen in enumerate(state.seen):
                 if write.place not in seen and self.has_seen_earlier(state, write, core):
-                    yield state._replace(seen=with_seen(state.seen, core, write))
+                    yield with_seen(state, core, write)
 
     def has_seen_earlier(self, state: State, write: Op, core: int) -> bool:
         """Whether the core has seen the writes of the address that were performed before this one."""
@@ -70,18 +47,14 @@ class Rules(weak.Rules[State]):
         """The own core sees the write."""
         # addresses apart: only the order within one address makes another state
         order = tuple(sorted(state.order + (op,), key=lambda write: write.address))
-        return state._replace(order=order, seen=with_seen(state.seen, op.core, op))
+        return with_seen(super().perform(state, op)._replace(order=order), op.core, op)
 
     def value_seen(self, state: State, op: Op) -> Value:
         """The last write of the address that the core has seen."""
-        values = [
-            write.value
-            for write in state.order
-            if write.address == op.address and write.place in state.seen[op.core]
-        ]
-        return values[-1] if values else dict(self.test.memory)[op.address]
+        seen = [(write.address, write.value) for write in state.order if write.place in state.seen[op.core]]
+        return dict((*self.test.memory, *seen))[op.address]
 
 
-def with_seen(seen: tuple[frozenset[int], ...], core: int, write: Op) -> tuple[frozenset[int], ...]:
-    """What the cores have seen, with one write more at one core."""
-    return seen[:core] + (seen[core] | {write.place},) + seen[core + 1 :]
+def with_seen(state: State, core: int, write: Op) -> State:
+    """The state in which one core has seen one write more."""
+    return state._replace(seen=with_item(state.seen, core, state.seen[core] | {write.place}))

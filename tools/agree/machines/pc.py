@@ -12,11 +12,9 @@ A fence of type `Own` waits until its buffer is empty and every write of its own
 After Goodman, Cache Consistency and Sequential Consistency (1989), and the machine nWR of Trippel, Manerkar, Lustig,
 Pellauer, Martonosi, TriCheck (ASPLOS 2017).
 """
-from typing import Iterator, NamedTuple, TypeVar
+from typing import Iterator, NamedTuple
 
-from tools.agree.litmus import Address, Memory, Op, Outcome, Test, Value, ends, in_test_order
-
-Part = TypeVar("Part")
+from tools.agree.litmus import Address, Memory, Op, Outcome, ReadValues, Test, Value, ends, values_of, with_item, with_read
 
 
 class Core(NamedTuple):
@@ -30,19 +28,22 @@ class Core(NamedTuple):
 
 
 class State(NamedTuple):
-    """The cores, the drained writes of each address in their order, and the values that reads got."""
+    """The cores, the drained writes, address by address in their order, and the values that reads got."""
 
     cores: tuple[Core, ...]
-    order: tuple[tuple[Op, ...], ...]
-    reads: tuple[tuple[int, Value], ...]
+    drained: tuple[Op, ...]
+    reads: ReadValues
+
+    def order(self, address: Address) -> tuple[Op, ...]:
+        """The drained writes of an address."""
+        return tuple(write for write in self.drained if write.address == address)
 
 
 def outcomes(test: Test) -> set[Outcome]:
-    """All outcomes of a test."""
     machine = Machine(test)
     count = len(test.cores)
-    start = State((Core(0, (), (), (0,) * count),) * count, ((),) * len(machine.addresses), ())
-    return {(in_test_order(end.reads), machine.memory(end)) for end in ends(start, machine.steps)}
+    start = State((Core(0, (), (), (0,) * count),) * count, (), ())
+    return {(values_of(end.reads), machine.memory(end)) for end in ends(start, machine.steps)}
 
 
 class Machine:
@@ -50,23 +51,18 @@ class Machine:
 
     def __init__(self, test: Test) -> None:
         self.test = test
-        self.addresses = [address for address, _ in test.memory]
 
     def memory(self, state: State) -> Memory:
         """The last value of each address."""
-        values = [writes[-1].value if writes else first for (_, first), writes in zip(self.test.memory, state.order)]
-        return tuple(zip(self.addresses, values))
-
-    def order(self, state: State, address: Address) -> tuple[Op, ...]:
-        """The drained writes of an address."""
-        return state.order[self.addresses.index(address)]
+        written = ((write.address, write.value) for write in state.drained)
+        return tuple(dict((*self.test.memory, *written)).items())
 
     def steps(self, state: State) -> Iterator[State]:
         """A core runs its next micro-op, drains a write or sees one."""
         for k, (core, ops) in enumerate(zip(state.cores, self.test.cores)):
             if core.done < len(ops):
                 yield from self.runs(state, k, ops[core.done])
-            if core.buffer and self.has_seen(state, k, self.order(state, core.buffer[0].address)):
+            if core.buffer and self.has_seen(state, k, state.order(core.buffer[0].address)):
                 yield self.drained(state, k)
             for other, sender in enumerate(state.cores):
                 if core.seen[other] < len(sender.sent):
@@ -77,7 +73,6 @@ class Machine:
         return all(write in state.cores[write.core].sent[: state.cores[k].seen[write.core]] for write in writes)
 
     def seen_by_all(self, state: State, source: int, count: int) -> bool:
-        """Whether all cores have seen this many writes of a core."""
         return all(core.seen[source] >= count for core in state.cores)
 
     def runs(self, state: State, k: int, op: Op) -> Iterator[State]:
@@ -87,7 +82,7 @@ class Machine:
         if op.kind == "Write":
             yield with_core(after, k, after.cores[k]._replace(buffer=core.buffer + (op,)))
         elif op.kind == "Read":
-            yield after._replace(reads=tuple(sorted(state.reads + ((op.place, self.value(state, k, op)),))))
+            yield after._replace(reads=with_read(state.reads, op, self.value(state, k, op)))
         elif not self.waits(state, k, op):
             yield after
 
@@ -100,32 +95,26 @@ class Machine:
 
     def value(self, state: State, k: int, op: Op) -> Value:
         """What a read of core k gets."""
-        own = [write.value for write in state.cores[k].buffer if write.address == op.address]
-        seen = [write.value for write in self.order(state, op.address) if self.has_seen(state, k, (write,))]
-        return (own or seen or [dict(self.test.memory)[op.address]])[-1]
+        seen = [write for write in state.order(op.address) if self.has_seen(state, k, (write,))]
+        written = ((write.address, write.value) for write in (*seen, *state.cores[k].buffer))
+        return dict((*self.test.memory, *written))[op.address]
 
     def drained(self, state: State, k: int) -> State:
         """The oldest write of a buffer is seen by its own core and sent to the others."""
         core = state.cores[k]
         write = core.buffer[0]
-        seen = at(core.seen, k, core.seen[k] + 1)
-        place = self.addresses.index(write.address)
+        seen = with_item(core.seen, k, core.seen[k] + 1)
         after = with_core(state, k, core._replace(buffer=core.buffer[1:], sent=core.sent + (write,), seen=seen))
-        return after._replace(order=at(state.order, place, state.order[place] + (write,)))
+        # addresses apart: only the order within one address makes another state
+        return after._replace(drained=tuple(sorted((*state.drained, write), key=lambda one: one.address)))
 
     def sees(self, state: State, k: int, other: int, write: Op) -> Iterator[State]:
         """The next write of another core reaches core k, when it has seen the writes of the address before that."""
-        order = self.order(state, write.address)
+        order = state.order(write.address)
         if self.has_seen(state, k, order[: order.index(write)]):
             core = state.cores[k]
-            yield with_core(state, k, core._replace(seen=at(core.seen, other, core.seen[other] + 1)))
+            yield with_core(state, k, core._replace(seen=with_item(core.seen, other, core.seen[other] + 1)))
 
 
 def with_core(state: State, k: int, core: Core) -> State:
-    """The state with another core k."""
-    return state._replace(cores=at(state.cores, k, core))
-
-
-def at(values: tuple[Part, ...], place: int, value: Part) -> tuple[Part, ...]:
-    """The tuple with another value at a place."""
-    return values[:place] + (value,) + values[place + 1 :]
+    return state._replace(cores=with_item(state.cores, k, core))

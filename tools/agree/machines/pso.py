@@ -4,5 +4,4 @@ from tools.agree.machines import tso
 
 
 def outcomes(test: Test) -> set[Outcome]:
-    """All outcomes of a test."""
     return tso.outcomes(test, by_address=True)

@@ -23,9 +23,7 @@ have none. There is no pipeline here, and no queue.
 """
 from typing import Iterator, NamedTuple
 
-from tools.agree.litmus import Address, Op, Outcome, Test, Value, ends
-
-FENCE_TYPES = {"Read": ("PR", "SR"), "Write": ("PW", "SW")}
+from tools.agree.litmus import Address, Op, Outcome, Test, Value, ends, replaced
 
 
 class State(NamedTuple):
@@ -33,15 +31,14 @@ class State(NamedTuple):
     write, or nothing where the value is the initial one."""
 
     come: frozenset[int]
-    last: tuple[int | None, ...]
+    last: tuple[tuple[Address, int | None], ...]
     sources: tuple[tuple[int, int | None], ...]
 
 
 def outcomes(test: Test) -> set[Outcome]:
-    """All outcomes of a test."""
     rules = Rules(test)
     whole = len(rules.accesses)
-    start = State(frozenset(), (None,) * len(test.memory), ())
+    start = State(frozenset(), tuple((address, None) for address, _ in test.memory), ())
     return {rules.outcome(end) for end in ends(start, rules.steps) if len(end.come) == whole}
 
 
@@ -51,19 +48,17 @@ class Rules:
     def __init__(self, test: Test) -> None:
         self.test = test
         self.ops = {op.place: op for op in test.ops}
-        self.addresses = [address for address, _ in test.memory]
         self.accesses = [op for op in test.ops if op.kind != "Fence"]
         self.earlier = {op.place: ops[:k] for ops in test.cores for k, op in enumerate(ops)}
-        self.before = {op.place: self.fixed(op) for op in self.accesses}
+        # the places that have to come before an access by the rules that look at no values
+        self.before = {
+            j.place: {i.place for i in self.earlier[j.place] if i.kind != "Fence" and self.is_kept(i, j)}
+            for j in self.accesses
+        }
 
     def depends(self, i: Op, j: Op, *kinds: str) -> bool:
         """Whether j has a dependency of one of these kinds on i."""
         return any((kind, i.place, j.place) in self.test.dependencies for kind in kinds)
-
-    def fixed(self, j: Op) -> set[int]:
-        """The places that have to come before an access by the rules that look at no values."""
-        earlier = [op for op in self.earlier[j.place] if op.kind != "Fence"]
-        return {i.place for i in earlier if self.is_kept(i, j)}
 
     def is_kept(self, i: Op, j: Op) -> bool:
         """Whether i has to come before j by a rule other than 2 and 12."""
@@ -86,18 +81,17 @@ class Rules:
             if op.place in state.come or not self.before[op.place] <= state.come:
                 continue
             come = state.come | {op.place}
-            place = self.addresses.index(op.address)
             if op.kind == "Write":
-                yield state._replace(come=come, last=state.last[:place] + (op.place,) + state.last[place + 1 :])
+                yield state._replace(come=come, last=replaced(state.last, op.address, op.place))
                 continue
-            source = self.source(state, op, place)
+            source = self.source(state, op)
             if self.keeps_reads(state, op, source) and self.keeps_forwarded(state, op, source):
                 yield state._replace(come=come, sources=tuple(sorted(state.sources + ((op.place, source),))))
 
-    def source(self, state: State, read: Op, place: int) -> int | None:
+    def source(self, state: State, read: Op) -> int | None:
         """The write that a read has its value from: the youngest of its core where that comes later, else the last."""
         own = [op.place for op in self.earlier[read.place] if op.kind == "Write" and op.address == read.address]
-        return own[-1] if own and own[-1] not in state.come else state.last[place]
+        return own[-1] if own and own[-1] not in state.come else dict(state.last)[read.address]
 
     def keeps_reads(self, state: State, read: Op, source: int | None) -> bool:
         """Rule 2: a read that comes before an earlier one has the same source; that one is looked at when it comes."""
@@ -123,7 +117,7 @@ class Rules:
     def outcome(self, state: State) -> Outcome:
         """The values of the reads in test order, and the last value of each address."""
         reads = tuple(self.value(self.ops[read].address, source) for read, source in state.sources)
-        return reads, tuple((a, self.value(a, last)) for a, last in zip(self.addresses, state.last))
+        return reads, tuple((address, self.value(address, last)) for address, last in state.last)
 
     def value(self, address: Address, source: int | None) -> Value:
         """The value that an address has from a write, or the initial one."""
@@ -132,19 +126,17 @@ class Rules:
 
 def is_predecessor(i: Op, fence: Op) -> bool:
     """Whether a fence keeps i before its successors."""
-    return fence.is_full_fence or FENCE_TYPES[i.kind][0] in fence.types
+    return fence.is_full_fence or f"P{i.kind[0]}" in fence.types
 
 
 def is_successor(j: Op, fence: Op) -> bool:
     """Whether a fence keeps j behind its predecessors."""
-    return fence.is_full_fence or FENCE_TYPES[j.kind][1] in fence.types
+    return fence.is_full_fence or f"S{j.kind[0]}" in fence.types
 
 
 def is_acquire(op: Op) -> bool:
-    """Whether it is a read of type Acquire."""
     return op.kind == "Read" and "Acquire" in op.types
 
 
 def is_release(op: Op) -> bool:
-    """Whether it is a write of type Release."""
     return op.kind == "Write" and "Release" in op.types

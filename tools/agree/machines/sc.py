@@ -1,7 +1,7 @@
 """Sequential consistency: all interleavings of the cores over one memory (Lamport 1979)."""
 from typing import Iterator, NamedTuple
 
-from tools.agree.litmus import Memory, Outcome, ReadValues, Test, ends, in_test_order, replaced
+from tools.agree.litmus import Memory, Outcome, ReadValues, Test, ends, replaced, values_of, with_item, with_read
 
 
 class State(NamedTuple):
@@ -13,20 +13,19 @@ class State(NamedTuple):
 
 
 def outcomes(test: Test) -> set[Outcome]:
-    """All outcomes of a test."""
 
     def steps(state: State) -> Iterator[State]:
         for core, ops in enumerate(test.cores):
             if state.done[core] == len(ops):
                 continue
             op = ops[state.done[core]]
-            done = state.done[:core] + (state.done[core] + 1,) + state.done[core + 1 :]
+            after = state._replace(done=with_item(state.done, core, state.done[core] + 1))
             if op.kind == "Read":
-                yield State(done, state.memory, state.reads + ((op.place, dict(state.memory)[op.address]),))
+                yield after._replace(reads=with_read(state.reads, op, dict(state.memory)[op.address]))
             elif op.kind == "Write":
-                yield State(done, replaced(state.memory, op.address, op.value), state.reads)
+                yield after._replace(memory=replaced(state.memory, op.address, op.value))
             else:
-                yield State(done, state.memory, state.reads)
+                yield after
 
     start = State((0,) * len(test.cores), test.memory, ())
-    return {(in_test_order(end.reads), end.memory) for end in ends(start, steps)}
+    return {(values_of(end.reads), end.memory) for end in ends(start, steps)}

@@ -23,26 +23,20 @@ where it sets a mark. A run that translates otherwise, or goes to another page, 
 """
 from typing import Iterator, NamedTuple
 
-from tools.agree.litmus import Address, Memory, NotRun, Op, Outcome, ReadValues, Test, Value, ends, in_test_order, replaced
+from tools.agree.litmus import Memory, NotRun, Op, Outcome, ReadValues, Test, ends, replaced, values_of, with_item, with_read
 
 # the machine runs tests of format 2, and no others
 TAKES_ENTRIES = True
 
 
-class Translation(NamedTuple):
-    """What the TLB has of a virtual tag."""
-
-    frame: int
-    is_dirty: bool
-
-
 class Core(NamedTuple):
-    """How many instructions are translated and how many are done, the TLB, and the buffer with the oldest entry first."""
+    """How many instructions are translated and how many are done; the TLB, which has entries by their virtual tags; and the
+    buffer with the oldest entry first."""
 
     translated: int = 0
     done: int = 0
-    tlb: tuple[tuple[int, Translation], ...] = ()
-    buffer: tuple[tuple[Address, Value], ...] = ()
+    tlb: tuple[tuple[int, tuple[int, int, int]], ...] = ()
+    buffer: Memory = ()
 
 
 class State(NamedTuple):
@@ -62,7 +56,6 @@ class Instruction(NamedTuple):
 
     @property
     def is_invalidation(self) -> bool:
-        """Whether it empties the TLB."""
         return self.access.kind == "Fence" and "Invalidate" in self.access.types
 
     @property
@@ -90,7 +83,7 @@ def outcomes(test: Test) -> set[Outcome]:
         return all(core.done == len(line) and not core.buffer for core, line in zip(state.cores, lines))
 
     start = State((Core(),) * len(lines), test.memory, ())
-    return {(in_test_order(end.reads), end.memory) for end in ends(start, steps) if is_whole(end)}
+    return {(values_of(end.reads), end.memory) for end in ends(start, steps) if is_whole(end)}
 
 
 def instructions(ops: tuple[Op, ...]) -> Iterator[Instruction]:
@@ -110,8 +103,7 @@ def instructions(ops: tuple[Op, ...]) -> Iterator[Instruction]:
 
 
 def with_core(state: State, k: int, core: Core) -> State:
-    """The state with another core k."""
-    return state._replace(cores=state.cores[:k] + (core,) + state.cores[k + 1 :])
+    return state._replace(cores=with_item(state.cores, k, core))
 
 
 def drains(state: State, k: int, core: Core) -> Iterator[State]:
@@ -133,10 +125,9 @@ def translates(state: State, k: int, core: Core, line: tuple[Instruction, ...]) 
     elif instruction.walk is not None:
         yield from walks(state, k, following, instruction, instruction.walk)
     else:
-        found = dict(core.tlb).get(instruction.access.virtual[0])
-        if found is None or not (found.is_dirty or instruction.access.kind == "Read"):
-            return
-        if instruction.access.address == (found.frame, instruction.access.virtual[1]):
+        tag, index = instruction.access.virtual
+        frame, _, dirty = dict(core.tlb).get(tag, (None, 0, 0))
+        if instruction.access.address == (frame, index) and (dirty or instruction.access.kind == "Read"):
             yield with_core(state, k, following)
 
 
@@ -150,11 +141,10 @@ def walks(state: State, k: int, core: Core, instruction: Instruction, walk: Op) 
     mark = instruction.mark
     is_as_stated = mark is None if marked == entry else mark is not None and mark.value == marked
     if is_as_stated and instruction.access.address == (frame, instruction.access.virtual[1]):
-        tlb = replaced(core.tlb, walk.address[0], Translation(frame, marked[2] == 1))
+        tlb = replaced(core.tlb, walk.address[0], marked)
         after = with_core(state, k, core._replace(tlb=tuple(sorted(tlb))))
-        yield after._replace(
-            memory=replaced(state.memory, walk.address, marked), reads=state.reads + ((walk.place, entry),)
-        )
+        memory = replaced(state.memory, walk.address, marked)
+        yield after._replace(memory=memory, reads=with_read(state.reads, walk, entry))
 
 
 def does(state: State, k: int, core: Core, line: tuple[Instruction, ...]) -> Iterator[State]:
@@ -167,8 +157,7 @@ def does(state: State, k: int, core: Core, line: tuple[Instruction, ...]) -> Ite
     if op.kind == "Write":
         yield with_core(state, k, after._replace(buffer=core.buffer + ((op.address, op.value),)))
     elif op.kind == "Read":
-        own = [value for address, value in core.buffer if address == op.address]
-        value = own[-1] if own else dict(state.memory)[op.address]
-        yield with_core(state, k, after)._replace(reads=state.reads + ((op.place, value),))
+        value = dict(state.memory + core.buffer)[op.address]
+        yield with_core(state, k, after)._replace(reads=with_read(state.reads, op, value))
     elif not (instruction.waits_for_buffer and core.buffer):
         yield with_core(state, k, after._replace(tlb=() if instruction.is_invalidation else core.tlb))

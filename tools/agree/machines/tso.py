@@ -12,8 +12,7 @@ drain. That is partial store order (The SPARC Architecture Manual, version 8); s
 """
 from typing import Iterator, NamedTuple
 
-from tools.agree.litmus import Item, Memory, NotRun, Op, Outcome, ReadValues, Test, ends, in_test_order, replaced
-
+from tools.agree.litmus import Memory, NotRun, Op, Outcome, ReadValues, Test, ends, replaced, values_of, with_item, with_read
 
 # whether a test may have instructions of two micro-ops
 TAKES_LOCKED = True
@@ -29,7 +28,6 @@ class State(NamedTuple):
 
 
 def outcomes(test: Test, by_address: bool = False) -> set[Outcome]:
-    """All outcomes of a test."""
 
     def steps(state: State) -> Iterator[State]:
         for core, ops in enumerate(test.cores):
@@ -38,7 +36,7 @@ def outcomes(test: Test, by_address: bool = False) -> set[Outcome]:
                 yield from runs(state, core, ops[state.done[core] :])
 
     start = State((0,) * len(test.cores), ((),) * len(test.cores), test.memory, ())
-    return {(in_test_order(end.reads), end.memory) for end in ends(start, steps)}
+    return {(values_of(end.reads), end.memory) for end in ends(start, steps)}
 
 
 def runs(state: State, core: int, ops: tuple[Op, ...]) -> Iterator[State]:
@@ -48,15 +46,14 @@ def runs(state: State, core: int, ops: tuple[Op, ...]) -> Iterator[State]:
         yield from runs_locked(state, core, op, ops[1])
         return
     buffer = state.buffers[core]
-    done = at(state.done, core, state.done[core] + 1)
+    after = state._replace(done=with_item(state.done, core, state.done[core] + 1))
     if op.kind == "Write":
-        yield state._replace(done=done, buffers=at(state.buffers, core, buffer + ((op.address, op.value),)))
+        yield after._replace(buffers=with_item(state.buffers, core, buffer + ((op.address, op.value),)))
     elif op.kind == "Read":
-        own = [value for address, value in buffer if address == op.address]
-        value = own[-1] if own else dict(state.memory)[op.address]
-        yield state._replace(done=done, reads=state.reads + ((op.place, value),))
+        # what comes later in such pairs stands
+        yield after._replace(reads=with_read(state.reads, op, dict(state.memory + buffer)[op.address]))
     elif not (op.is_full_fence and buffer):
-        yield state._replace(done=done)
+        yield after
 
 
 def runs_locked(state: State, core: int, read: Op, write: Op) -> Iterator[State]:
@@ -66,9 +63,9 @@ def runs_locked(state: State, core: int, read: Op, write: Op) -> Iterator[State]
         raise NotRun(f"instruction {read.instruction} is no locked read-modify-write of one address")
     if not state.buffers[core]:
         yield state._replace(
-            done=at(state.done, core, state.done[core] + 2),
+            done=with_item(state.done, core, state.done[core] + 2),
             memory=replaced(state.memory, write.address, write.value),
-            reads=state.reads + ((read.place, dict(state.memory)[read.address]),),
+            reads=with_read(state.reads, read, dict(state.memory)[read.address]),
         )
 
 
@@ -76,15 +73,7 @@ def drains(state: State, core: int, by_address: bool) -> Iterator[State]:
     """An entry of a core's buffer goes to memory."""
     buffer = state.buffers[core]
     for k, (address, value) in enumerate(buffer):
-        older = buffer[:k]
-        if older and not (by_address and all(other != address for other, _ in older)):
-            continue
-        rest = buffer[:k] + buffer[k + 1 :]
-        yield state._replace(
-            buffers=at(state.buffers, core, rest), memory=replaced(state.memory, address, value)
-        )
-
-
-def at(values: tuple[Item, ...], place: int, value: Item) -> tuple[Item, ...]:
-    """The tuple with another value at a place."""
-    return values[:place] + (value,) + values[place + 1 :]
+        if k == 0 or by_address and address not in dict(buffer[:k]):
+            rest = buffer[:k] + buffer[k + 1 :]
+            memory = replaced(state.memory, address, value)
+            yield state._replace(buffers=with_item(state.buffers, core, rest), memory=memory)

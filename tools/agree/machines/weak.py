@@ -13,56 +13,40 @@ memory, where all cores see it at the same moment.
   5. A read whose youngest earlier write of its address on its own core is not performed takes the value of that write,
      which has to have executed. Otherwise it takes the value in memory.
 """
-from typing import Any, Generic, Iterator, NamedTuple, Protocol, TypeVar
+from typing import Iterator, NamedTuple
 
-from tools.agree.litmus import Memory, Op, Outcome, ReadValues, Test, Value, ends, in_test_order, replaced
-
-Reached = TypeVar("Reached", bound="Executing")
-
-
-class Executing(Protocol):
-    """What the rules ask of a state: the places of what has executed and of the writes that are performed; the reads."""
-
-    @property
-    def executed(self) -> frozenset[int]:
-        """The places of what has executed."""
-
-    @property
-    def performed(self) -> frozenset[int]:
-        """The places of the performed writes."""
-
-    @property
-    def reads(self) -> ReadValues:
-        """The values that reads got."""
-
-    def _replace(self: Reached, *parts: Any, **named: Any) -> Reached:
-        """The state with other parts."""
+from tools.agree.litmus import Memory, Op, Outcome, ReadValues, Test, Value, ends, replaced, values_of, with_read
 
 
 class State(NamedTuple):
-    """The places of what has executed and of the writes that are performed, the memory, and the reads."""
+    """The places of what has executed and of the writes that are performed, the memory, and the reads. nmca.py alone has the
+    performed writes, those of one address in their order, and the places of those that each core has seen."""
 
     executed: frozenset[int]
     performed: frozenset[int]
     memory: Memory
     reads: ReadValues
+    order: tuple[Op, ...]
+    seen: tuple[frozenset[int], ...]
 
 
 def outcomes(test: Test) -> set[Outcome]:
-    """All outcomes of a test."""
-    rules = OneMemory(test)
-    start = State(frozenset(), frozenset(), test.memory, ())
-    return {(in_test_order(end.reads), end.memory) for end in ends(start, rules.steps)}
+    return Rules(test).outcomes()
 
 
-class Rules(Generic[Reached]):
-    """The steps of the machine on one test, over any memory; that of nmca.py is another one."""
+class Rules:
+    """The steps of the machine on one test."""
 
     def __init__(self, test: Test) -> None:
         self.test = test
         self.earlier = {op.place: ops[:k] for ops in test.cores for k, op in enumerate(ops)}
 
-    def steps(self, state: Reached) -> Iterator[Reached]:
+    def outcomes(self) -> set[Outcome]:
+        nothing: frozenset[int] = frozenset()
+        start = State(nothing, nothing, self.test.memory, (), (), (nothing,) * len(self.test.cores))
+        return {(values_of(end.reads), end.memory) for end in ends(start, self.steps)}
+
+    def steps(self, state: State) -> Iterator[State]:
         """One micro-op executes, or one write is performed."""
         for op in self.test.ops:
             if op.place not in state.executed:
@@ -71,19 +55,19 @@ class Rules(Generic[Reached]):
             elif op.kind == "Write" and op.place not in state.performed and self.may_perform(state, op):
                 yield self.perform(state, op)
 
-    def perform(self, state: Reached, op: Op) -> Reached:
+    def perform(self, state: State, op: Op) -> State:
         """A write goes to memory."""
-        raise NotImplementedError
+        return state._replace(performed=state.performed | {op.place}, memory=replaced(state.memory, op.address, op.value))
 
-    def value_seen(self, state: Reached, op: Op) -> Value:
+    def value_seen(self, state: State, op: Op) -> Value:
         """What a read gets that forwards nothing."""
-        raise NotImplementedError
+        return dict(state.memory)[op.address]
 
-    def is_done(self, state: Reached, op: Op) -> bool:
+    def is_done(self, state: State, op: Op) -> bool:
         """Whether nothing of it is left to do."""
         return op.place in (state.performed if op.kind == "Write" else state.executed)
 
-    def follows(self, state: Reached, op: Op, *kinds: str) -> bool:
+    def follows(self, state: State, op: Op, *kinds: str) -> bool:
         """Whether all that it depends on, in these ways, has executed."""
         return all(
             source in state.executed
@@ -91,18 +75,16 @@ class Rules(Generic[Reached]):
             if target == op.place and kind in kinds
         )
 
-    def may_execute(self, state: Reached, op: Op) -> bool:
+    def may_execute(self, state: State, op: Op) -> bool:
         """Rules 1 and 3, and of rule 4 the order of reads."""
         earlier = self.earlier[op.place]
         if op.kind == "Fence":
             return not op.is_full_fence or all(self.is_done(state, other) for other in earlier)
         fences_done = all(other.place in state.executed for other in earlier if other.is_full_fence)
-        reads_done = op.kind == "Write" or all(
-            other.place in state.executed for other in same_address(earlier, op, "Read")
-        )
+        reads_done = op.kind == "Write" or all(other.place in state.executed for other in same_address(earlier, op, "Read"))
         return fences_done and reads_done and self.follows(state, op, "addr", "data")
 
-    def execute(self, state: Reached, op: Op) -> Iterator[Reached]:
+    def execute(self, state: State, op: Op) -> Iterator[State]:
         """Rule 5, where it is a read."""
         after = state._replace(executed=state.executed | {op.place})
         if op.kind != "Read":
@@ -114,27 +96,10 @@ class Rules(Generic[Reached]):
         elif own[-1].place in state.executed:
             yield after._replace(reads=with_read(state.reads, op, own[-1].value))
 
-    def may_perform(self, state: Reached, op: Op) -> bool:
+    def may_perform(self, state: State, op: Op) -> bool:
         """Rule 2, and of rule 4 what speaks of writes."""
         same = same_address(self.earlier[op.place], op, "Read", "Write")
         return self.follows(state, op, "ctrl") and all(self.is_done(state, other) for other in same)
-
-
-class OneMemory(Rules[State]):
-    """The rules over a memory that all cores see."""
-
-    def perform(self, state: State, op: Op) -> State:
-        return state._replace(
-            performed=state.performed | {op.place}, memory=replaced(state.memory, op.address, op.value)
-        )
-
-    def value_seen(self, state: State, op: Op) -> Value:
-        return dict(state.memory)[op.address]
-
-
-def with_read(reads: ReadValues, op: Op, value: Value) -> ReadValues:
-    """The reads with one more, in test order: in which order they executed makes no other state."""
-    return tuple(sorted(reads + ((op.place, value),)))
 
 
 def same_address(ops: tuple[Op, ...], op: Op, *kinds: str) -> list[Op]:

@@ -15,7 +15,9 @@ a fence may have been (oldest_read.py).
 """
 from typing import Callable, Iterator, NamedTuple
 
-from tools.agree.litmus import Address, Memory, Op, Outcome, Test, Value, ends, in_test_order, replaced
+from tools.agree.litmus import (
+    Address, Memory, Op, Outcome, ReadValues, Test, Value, ends, replaced, values_of, with_item, with_read
+)
 
 
 class Line(NamedTuple):
@@ -31,7 +33,7 @@ class Core(NamedTuple):
     """How many micro-ops are executed, the buffer with the oldest entry first, the lines of the cache."""
 
     done: int = 0
-    buffer: tuple[tuple[Address, Value], ...] = ()
+    buffer: Memory = ()
     lines: frozenset[tuple[Address, Line]] = frozenset()
 
 
@@ -40,7 +42,7 @@ class State(NamedTuple):
 
     cores: tuple[Core, ...]
     memory: Memory
-    reads: tuple[tuple[int, Value], ...]
+    reads: ReadValues
 
 
 # whether a read is the oldest: by the micro-ops before it that are not executed
@@ -53,38 +55,28 @@ def is_first(waiting: tuple[Op, ...]) -> bool:
 
 
 def outcomes(test: Test, is_oldest: IsOldest = is_first) -> set[Outcome]:
-    """All outcomes of a test."""
-    rules = Rules(test, is_oldest)
-    start = State((Core(),) * len(test.cores), test.memory, ())
-    return {(in_test_order(end.reads), end.memory) for end in ends(start, rules.steps)}
 
-
-class Rules:
-    """The steps of the machine on one test."""
-
-    def __init__(self, test: Test, is_oldest: IsOldest) -> None:
-        self.test = test
-        self.is_oldest = is_oldest
-
-    def steps(self, state: State) -> Iterator[State]:
-        """A cache asks, has its answer or gives up a line; a buffer drains; or a micro-op executes."""
-        for k, (core, ops) in enumerate(zip(state.cores, self.test.cores)):
-            yield from self.asks(state, k, core, ops)
+    def steps(state: State) -> Iterator[State]:
+        for k, (core, ops) in enumerate(zip(state.cores, test.cores)):
+            for asking in asks(test, core, ops, is_oldest):
+                yield with_core(state, k, asking)
             yield from comes_or_goes(state, k, core)
             yield from drains(state, k, core)
             if core.done < len(ops):
                 yield from executes(state, k, core, ops[core.done])
 
-    def asks(self, state: State, k: int, core: Core, ops: tuple[Op, ...]) -> Iterator[State]:
-        """A read that is not executed asks for its line."""
-        there = dict(core.lines)
-        executed = {op.place for op in ops[: core.done]}
-        for number in range(core.done, len(ops)):
-            op = ops[number]
-            sources = {i for kind, i, j in self.test.dependencies if kind == "addr" and j == op.place}
-            if op.kind == "Read" and op.address not in there and sources <= executed:
-                line = Line(op.place, self.is_oldest(ops[core.done : number]))
-                yield with_core(state, k, with_line(core, op.address, line))
+    start = State((Core(),) * len(test.cores), test.memory, ())
+    return {(values_of(end.reads), end.memory) for end in ends(start, steps)}
+
+
+def asks(test: Test, core: Core, ops: tuple[Op, ...], is_oldest: IsOldest) -> Iterator[Core]:
+    """A read that is not executed asks for its line."""
+    there = dict(core.lines)
+    executed = {op.place for op in ops[: core.done]}
+    for number, op in enumerate(ops[core.done :], core.done):
+        sources = {i for kind, i, j in test.dependencies if kind == "addr" and j == op.place}
+        if op.kind == "Read" and op.address not in there and sources <= executed:
+            yield with_line(core, op.address, Line(op.place, is_oldest(ops[core.done : number])))
 
 
 def comes_or_goes(state: State, k: int, core: Core) -> Iterator[State]:
@@ -127,24 +119,17 @@ def executes(state: State, k: int, core: Core, op: Op) -> Iterator[State]:
         if not (op.is_full_fence and core.buffer):
             yield with_core(state, k, after)
     else:
-        own = [value for address, value in core.buffer if address == op.address]
         line = dict(core.lines).get(op.address)
-        if own:
-            yield with_core(with_read(state, op, own[-1]), k, after)
-        elif line is not None and line.asker is None:
-            yield with_core(with_read(state, op, dict(state.memory)[op.address]), k, after)
+        if op.address in dict(core.buffer) or line is not None and line.asker is None:
+            value = dict(state.memory + core.buffer)[op.address]
+            yield with_core(state, k, after)._replace(reads=with_read(state.reads, op, value))
         elif line is not None and line.late is not None and line.asker == op.place and line.is_oldest:
-            yield with_core(with_read(state, op, line.late), k, with_line(after, op.address, None))
-
-
-def with_read(state: State, op: Op, value: Value) -> State:
-    """The state with one read more, in test order."""
-    return state._replace(reads=tuple(sorted(state.reads + ((op.place, value),))))
+            without = with_core(state, k, with_line(after, op.address, None))
+            yield without._replace(reads=with_read(state.reads, op, line.late))
 
 
 def with_core(state: State, k: int, core: Core) -> State:
-    """The state with another core k."""
-    return state._replace(cores=state.cores[:k] + (core,) + state.cores[k + 1 :])
+    return state._replace(cores=with_item(state.cores, k, core))
 
 
 def with_line(core: Core, address: Address, line: Line | None) -> Core:

@@ -4,5 +4,4 @@ from tools.agree.machines.caches import lines
 
 
 def outcomes(test: Test) -> set[Outcome]:
-    """All outcomes of a test."""
     return lines.outcomes(test, lambda waiting: all(op.kind != "Read" for op in waiting))
