@@ -31,9 +31,6 @@ from collections.abc import Callable
 from concurrent.futures import ThreadPoolExecutor
 from itertools import product
 
-sys.dont_write_bytecode = True
-
-# pylint: disable=wrong-import-position
 from counting import (
     MIB, TOP, counted, heap_peak, instructions, names_of, peak_bytes, program, saved, saved_all, shipped, show, show_all
 )

@@ -31,9 +31,6 @@ import sys
 import tempfile
 import time
 
-sys.dont_write_bytecode = True
-
-# pylint: disable=wrong-import-position
 from costing import PROGRAM, Cost, Tree, kit, measure_all, simulate, total
 
 TOP = os.path.dirname(os.path.dirname(os.path.realpath(__file__)))

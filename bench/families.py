@@ -20,9 +20,6 @@ from concurrent.futures import ThreadPoolExecutor
 from dataclasses import dataclass
 from itertools import product
 
-sys.dont_write_bytecode = True
-
-# pylint: disable=wrong-import-position
 from counting import names_of, program, saved, shipped
 from makers import FAMILIES, drawn, is_fenced_ring
 

@@ -14,9 +14,6 @@ import subprocess
 import sys
 import tempfile
 
-sys.dont_write_bytecode = True
-
-# pylint: disable=wrong-import-position
 from counting import counted, instructions, peak_bytes, program, saved, saved_all, show, timed
 from questions import ONE_WRITE, SEARCHED, STAGES, fences, ring, writes
 

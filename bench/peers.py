@@ -18,9 +18,6 @@ import sys
 import tempfile
 from itertools import product
 
-sys.dont_write_bytecode = True
-
-# pylint: disable=wrong-import-position
 import solvers
 from counting import names_of, program, saved_all, shipped, timed
 from questions import RING, ring

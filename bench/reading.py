@@ -29,9 +29,6 @@ import tempfile
 from collections.abc import Callable, Iterable
 from functools import cache
 
-sys.dont_write_bytecode = True
-
-# pylint: disable=wrong-import-position
 from counting import MIB, TOP, Timed, instructions, program, saved, saved_all, shipped, show, timed
 from questions import ONE_WRITE, access, test_of
 

@@ -24,9 +24,6 @@ from collections.abc import Callable
 from concurrent.futures import ThreadPoolExecutor
 from dataclasses import dataclass, field
 
-sys.dont_write_bytecode = True
-
-# pylint: disable=wrong-import-position
 import solvers
 from counting import MIB, counted, program, saved, shipped, timed
 from makers import lock, run
@@ -77,9 +74,9 @@ QUESTIONS = {
 def splits_of_second(folder: str, command: str, paths: list[str], limit: float, verdicts: set[bool | None]) -> int | None:
     """How many splits the second implementation makes for a command, None where it takes longer. Its verdict is put to the others."""
     profile, answer = (os.path.join(folder, name) for name in ("profile", "answer"))
-    python, tools, word = solvers.SECOND
+    *python, tools, word = solvers.SECOND
     entry = [os.path.join(tools, "__main__.py"), word]
-    if not limit or not timed(limit, answer, python, "-m", "cProfile", "-o", profile, *entry, command, *paths).has_ended:
+    if not limit or not timed(limit, answer, *python, "-m", "cProfile", "-o", profile, *entry, command, *paths).has_ended:
         return None
     with open(answer, encoding="ascii") as text, open(profile, "rb") as file:
         verdicts.add(solvers.verdict_of(text.read()))

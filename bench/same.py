@@ -24,9 +24,6 @@ from collections.abc import Iterator
 from concurrent.futures import ThreadPoolExecutor
 from random import Random
 
-sys.dont_write_bytecode = True
-
-# pylint: disable=wrong-import-position
 from counting import TOP, saved, under_callgrind
 from questions import FIRST_PAIRS, ONE_WRITE, SEARCHED, choices, fences, ring, writes
 

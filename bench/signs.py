@@ -17,9 +17,6 @@ import tempfile
 from concurrent.futures import ThreadPoolExecutor
 from dataclasses import dataclass
 
-sys.dont_write_bytecode = True
-
-# pylint: disable=wrong-import-position
 import solvers
 from counting import Counted, counted, instructions, program, saved, show, timed
 from questions import FIRST_PAIRS, ONE_WRITE, choices

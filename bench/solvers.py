@@ -13,7 +13,7 @@ from dataclasses import dataclass
 
 from counting import TOP, Timed, timed
 
-SECOND = [sys.executable, os.path.join(TOP, "tools"), "second"]
+SECOND = [sys.executable, "-E", "-S", os.path.join(TOP, "tools"), "second"]
 # the line that is a verdict, of the program and of solvers
 VERDICT = re.compile(r"^(?:s )?(un)?(?:observable|sat(?:isfiable)?)$", re.MULTILINE | re.IGNORECASE)
 # each with the kind of its question, and its words, of which some stand for paths

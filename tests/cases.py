@@ -6,6 +6,7 @@ runs them too. A case is what `gives`, `judge` or `holds` judges by a name that 
 from __future__ import annotations
 
 import atexit
+import compileall
 import contextlib
 import functools
 import io
@@ -69,7 +70,8 @@ def program() -> str:
 
 def lay_apart(folder: str) -> None:
     """Has the scripts stand in this folder as where they are installed, with the program that stands here: which one does is not
-    asked there at each call, and what is in Python is compiled once."""
+    asked there at each call, and what is in Python is compiled."""
+    compileall.compile_dir(f"{TOP}/tools", quiet=1)
     for it in ("commands.txt", "pipecheck", "script", "tools"):
         if os.path.isdir(f"{TOP}/{it}"):
             shutil.copytree(f"{TOP}/{it}", f"{folder}/{it}")
@@ -84,7 +86,6 @@ def lay_apart(folder: str) -> None:
             shutil.copy2(f"{TOP}/examples/suite", f"{folder}/examples/suite")
         else:
             os.symlink(f"{TOP}/examples/{it}", f"{folder}/examples/{it}")
-    subprocess.run([sys.executable, "-S", "-m", "compileall", "-q", f"{folder}/tools"], check=True)
 
 
 @functools.cache
@@ -349,7 +350,7 @@ def copy_checkout(folder: str, copied: Sequence[str] = (), crates: Sequence[str]
 def _take(path: str, at: str, is_copied: bool) -> None:
     """Copies what stands at this path, or links it."""
     if is_copied and os.path.isdir(path):
-        shutil.copytree(path, at, symlinks=True, ignore=shutil.ignore_patterns("__pycache__", "out"))
+        shutil.copytree(path, at, symlinks=True, ignore=shutil.ignore_patterns("out"))
     else:
         os.symlink(path, at)
 
