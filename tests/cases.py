@@ -23,7 +23,9 @@ import threading
 import time
 import traceback
 import unittest
+from concurrent.futures import ThreadPoolExecutor
 from dataclasses import dataclass
+from hashlib import sha256
 from typing import Any, Callable, Iterator, Mapping, Sequence
 
 TOP = os.path.dirname(os.path.dirname(os.path.realpath(__file__)))
@@ -136,6 +138,12 @@ def run(
     return Done(status_of(done.returncode), text_of(done.stdout or b""), text_of(done.stderr or b""))
 
 
+def at_once(count: int, ask: Callable[[], Done]) -> list[Done]:
+    """What so many calls give that are made side by side."""
+    with ThreadPoolExecutor(count) as pool:
+        return [it.result() for it in [pool.submit(ask) for _ in range(count)]]
+
+
 def status_of(code: int) -> int:
     """The status that a shell makes of that of a process."""
     return code if code >= 0 else 128 - code
@@ -246,6 +254,12 @@ def write(path: str, text: str | bytes) -> str:
     return path
 
 
+def hash_of(path: str) -> str:
+    """The SHA-256 of a file."""
+    with open(path, "rb") as file:
+        return sha256(file.read()).hexdigest()
+
+
 def read(path: str) -> str:
     """The text of a file, which may be named from the top of the repository."""
     with open(os.path.join(TOP, path), "rb") as file:
@@ -298,6 +312,10 @@ class Cases(unittest.TestCase):
     def says(self, name: str, status: int, out: str, err: str, *words: str) -> None:
         """By the script standard output and the status are the program's, and this is said on standard error."""
         self.gives(name, [pipecheck(), *words], status, out, err)
+
+    def holds(self, name: str, condition: object) -> None:
+        """This holds."""
+        self.same(name, bool(condition))
 
     def skips(self, name: str, why: str) -> None:
         """A case that cannot run here, which is said and is no passed one."""

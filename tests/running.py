@@ -18,7 +18,6 @@ import sys
 import tempfile
 import traceback
 import unittest
-from hashlib import sha256
 from typing import IO, Any
 
 from tests import cases
@@ -131,7 +130,8 @@ def run_all(waiting: list[Class]) -> int:
     counts = dict.fromkeys(HEADS, 0)
     running: dict[int, tuple[Class, IO[bytes]]] = {}
     while waiting or running:
-        while waiting and len(running) < len(os.sched_getaffinity(0)):
+        # one more than there are processors, since some wait
+        while waiting and len(running) <= len(os.sched_getaffinity(0)):
             its = waiting.pop(0)
             process, file = begin(its)
             running[process] = its, file
@@ -163,9 +163,8 @@ def start(room: str, names: list[str]) -> int:
     os.mkdir(f"{room}/apart")
     cases.lay_apart(f"{room}/apart")
     os.environ["APART"] = f"{room}/apart"
-    with open(program, "rb") as file:
-        hashed = sha256(file.read()).hexdigest()
-    print(f"on the {'proved program' if cases.is_proved() else 'program without its proofs'}, sha256 {hashed}", flush=True)
+    which = "proved program" if cases.is_proved() else "program without its proofs"
+    print(f"on the {which}, sha256 {cases.hash_of(program)}", flush=True)
     with open(os.devnull, "rb") as nothing:
         os.dup2(nothing.fileno(), 0)
     classes = [it for name in names for it in classes_of(name)]
