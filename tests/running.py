@@ -89,10 +89,8 @@ def families() -> list[str]:
 def classes_of(family: str) -> list[Class]:
     """The classes of cases of a family: those of its module with a test method of their own."""
     module = importlib.import_module(f"tests.test_{family}")
-    return [
-        it for it in vars(module).values()
-        if isinstance(it, type) and it.__module__ == module.__name__ and any(name.startswith("test") for name in vars(it))
-    ]
+    own = [it for it in vars(module).values() if isinstance(it, type) and it.__module__ == module.__name__]
+    return [it for it in own if issubclass(it, unittest.TestCase) and any(name.startswith("test") for name in vars(it))]
 
 
 def begin(its: Class) -> tuple[int, IO[bytes]]:
