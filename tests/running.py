@@ -24,8 +24,8 @@ from tests import cases
 
 # those that take longest begin first
 LONGEST = (
-    "suite_shipped", "suite_calls", "pages", "install", "agree", "suite_tables", "answers", "benches", "checks", "script", "build",
-    "explain", "lint", "mend", "test86", "compare",
+    "lint", "pages", "script", "install_ended", "suite_shipped", "checks", "build", "install", "benches", "mend", "suite_calls",
+    "explain", "agree", "suite_tables", "test86",
 )
 HEADS = {"ok": "ok      ", "failed": "FAILED  ", "skipped": "skipped "}
 Class = type[unittest.TestCase]

@@ -26,7 +26,8 @@ OUT = "crates/pipecheck_cli/out"
 
 
 class InACopy(Cases):
-    """Cases in a copy of the checkout without what was built, where the proved program alone answers."""
+    """Cases in a copy of the checkout without what was built, where the proved program alone answers, as if it were of fewer crates,
+    which are read at each call."""
 
     # those that cases change
     crates: tuple[str, ...] = ()
@@ -39,6 +40,7 @@ class InACopy(Cases):
         cls.room = tempfile.mkdtemp(prefix="pipecheck-tests-")
         cls.addClassCleanup(shutil.rmtree, cls.room, ignore_errors=True)
         cls.copy = copy_checkout(f"{cls.room}/copy", ("tests", "tools"), cls.crates)
+        write(f"{cls.copy}/crates.txt", "pc_common:\nsolver: pc_common\nmodel_bench: pc_common\npipecheck_cli: pc_common solver\n")
         cls.plain = commands_without(f"{cls.room}/plain", "rt")
 
     def call_it(self, *words: str, env: Mapping[str, str | None] | None = None, **how: Any) -> Done:
@@ -157,15 +159,9 @@ esac
 
 
 class Built(InACopy):
-    """A copy where the program that is tested stands as the proved one, as if it were of fewer crates, which are read at each
-    call."""
+    """A copy where the program that is tested stands as the proved one."""
 
     crates = ("pc_common", "model_bench")
-
-    @classmethod
-    def setUpClass(cls) -> None:
-        super().setUpClass()
-        write(f"{cls.copy}/crates.txt", "pc_common:\nsolver: pc_common\nmodel_bench: pc_common\npipecheck_cli: pc_common solver\n")
 
     def setUp(self) -> None:
         super().setUp()
