@@ -25,17 +25,12 @@ are others, and else 0.
 """
 import os
 import re
-import sys
-import tempfile
 from collections.abc import Callable
 from concurrent.futures import ThreadPoolExecutor
 from itertools import product
 
-sys.dont_write_bytecode = True
-
-# pylint: disable=wrong-import-position
 from counting import (
-    MIB, TOP, counted, heap_peak, instructions, names_of, peak_bytes, program, saved, saved_all, shipped, show, show_all
+    MIB, TOP, Misused, call, counted, heap_peak, instructions, names_of, peak_bytes, program, saved, shipped, show, show_all
 )
 from questions import ONE_WRITE, RING, access, choices, fences_apart, ring, test_of
 
@@ -44,14 +39,14 @@ Words = tuple[str, ...]
 
 def of_examples(*names: str) -> list[str]:
     """The paths of files of examples."""
-    return [os.path.join(TOP, "examples", name) for name in names]
+    return [f"{TOP}/examples/{name}" for name in names]
 
 
 def chosen(names: Words, there: list[str]) -> list[str]:
     """These names, each of which has to be there, or all."""
     for name in names:
         if name not in there:
-            raise ValueError(f"there is no model {name}; there are {', '.join(there)}")
+            raise Misused(f"commands: there is no model {name}; there are {', '.join(there)}")
     return list(names) or there
 
 
@@ -74,7 +69,7 @@ def ask(*models: str) -> bool:
 def core(*models: str) -> bool:
     """A line for each pair, and the greatest ratio."""
     ratios = []
-    for model, test in product(chosen(models, names_of("models", ".uspec")), ("MP", "SB", "IRIW")):
+    for model, test in product(chosen(models, names_of("models")), ("MP", "SB", "IRIW")):
         paths = shipped("models", model) + shipped("tests", test)
         found, single = counted("core", *paths), instructions("check", *paths)
         with open(paths[0], encoding="ascii") as file:
@@ -110,27 +105,26 @@ def alike(count: int) -> str:
 def sweep(model: str = "") -> bool:
     """What a sweep takes beside the checks of its rows. Whether the verdicts are the same."""
     model = model or shipped("models", "sc-inorder")[0]
-    with tempfile.TemporaryDirectory() as folder:
-        pattern = saved(folder, "p.pattern", row_of(("Any",) * 2 * CORES))
-        whole = counted("sweep", model, pattern)
-        rows = [line.split() for line in whole.text.splitlines() if line.startswith("row ")]
-        found = {tuple(map(int, row[1:-1])): row[-1] for row in rows}
-        if list(found) != ROWS:
-            raise SystemExit(f"not counted: no pattern of {len(ROWS)} rows is swept: {whole.text[:80]!r}")
-        part, single, heap, same = len(ROWS) // DRAWN, 0, 0, True
-        for row in (ROWS[k * part + 37 * k % part] for k in range(DRAWN)):
-            test = saved(folder, "r.test", row_of(row))
-            check = counted("check", model, test)
-            single, heap = single + check.instructions, max(heap, heap_peak("check", model, test))
-            same = same and check.first == found[row]
-        print(f"{len(ROWS)} rows, {list(found.values()).count('observable')} observable")
-        alone = single * part
-        show("instructions of a sweep over those of checks of its rows", whole.instructions / alone, 0.9,
-             f"   {whole.instructions:,} over {alone:,}")
-        peak = heap_peak("sweep", model, pattern)
-        print(f"heap: {peak:,} bytes of the sweep, {heap:,} of a check of {DRAWN} at most", flush=True)
-        few, many = (heap_peak("sweep", *of_examples("po.uspec"), saved(folder, "a.pattern", alike(k))) for k in (6, 12))
-        show("bytes of the heap for a row, from 64 to 4,096 rows", (many - few) / (2**12 - 2**6), 1.0, f"   {few:,} to {many:,}")
+    [pattern] = saved(row_of(("Any",) * 2 * CORES))
+    whole = counted("sweep", model, pattern)
+    rows = [line.split() for line in whole.text.splitlines() if line.startswith("row ")]
+    found = {tuple(map(int, row[1:-1])): row[-1] for row in rows}
+    if list(found) != ROWS:
+        raise SystemExit(f"not counted: no pattern of {len(ROWS)} rows is swept: {whole.text[:80]!r}")
+    part, single, heap, same = len(ROWS) // DRAWN, 0, 0, True
+    for row in (ROWS[k * part + 37 * k % part] for k in range(DRAWN)):
+        [test] = saved(row_of(row))
+        check = counted("check", model, test)
+        single, heap = single + check.instructions, max(heap, heap_peak("check", model, test))
+        same = same and check.first == found[row]
+    print(f"{len(ROWS)} rows, {list(found.values()).count('observable')} observable")
+    alone = single * part
+    show("instructions of a sweep over those of checks of its rows", whole.instructions / alone, 0.9,
+         f"   {whole.instructions:,} over {alone:,}")
+    peak = heap_peak("sweep", model, pattern)
+    print(f"heap: {peak:,} bytes of the sweep, {heap:,} of a check of {DRAWN} at most", flush=True)
+    few, many = (heap_peak("sweep", *of_examples("po.uspec"), *saved(alike(k))) for k in (6, 12))
+    show("bytes of the heap for a row, from 64 to 4,096 rows", (many - few) / (2**12 - 2**6), 1.0, f"   {few:,} to {many:,}")
     if not same:
         print("VERDICTS DIFFER")
     return same
@@ -142,10 +136,9 @@ def lift_of(pair: Words) -> tuple[float, int, int] | None:
     refutation = counted("check", *pair).text
     if not refutation.startswith("unobservable\n"):
         return None
-    with tempfile.TemporaryDirectory() as folder:
-        files = [*pair, saved(folder, "certificate", refutation)]
-        judging = instructions("verify", *files, says="verified unobservable\n")
-        lifting = counted("lift", *files, says="unobservable\n")
+    files = [*pair, *saved(refutation)]
+    judging = instructions("verify", *files, says="verified unobservable\n")
+    lifting = counted("lift", *files, says="unobservable\n")
     may = 3 * judging + 3_000 * lifting.text.count("\n")
     return lifting.instructions / may, len(lifting.text), len(refutation)
 
@@ -153,9 +146,9 @@ def lift_of(pair: Words) -> tuple[float, int, int] | None:
 def lift(which: str = "") -> bool:
     """What lifting takes, on all shipped models with all tests, or with every tenth one."""
     if which not in ("", "all"):
-        raise ValueError(f"lift takes all tests by `all`, and no {which}")
-    tests = names_of("tests", ".test")[:: 1 if which else 10]
-    pairs = product(shipped("models", *names_of("models", ".uspec")), shipped("tests", *tests))
+        raise Misused(f"commands: lift takes all tests by `all`, and no {which}")
+    tests = names_of("tests")[:: 1 if which else 10]
+    pairs = product(shipped("models", *names_of("models")), shipped("tests", *tests))
     # it is made before any call, where it has to be
     program()
     with ThreadPoolExecutor(os.cpu_count()) as pool:
@@ -181,11 +174,11 @@ ONE_EDGE = ALL_STAGES + 'Axiom "one": exists microop "i", EdgeExists ((i, (0, S0
 HEAD, AGAIN, LAST = "unobservable\ntest forbidden: ok\n", "split 1\npath 0.0@0:S 1.0@0:S\n", "path 1.0@0:S 0.0@0:S 0.0@0:T\nend\n"
 
 
-def show_over_check(folder: str, what: str, bar: float, files: list[str]) -> None:
+def show_over_check(what: str, bar: float, files: list[str]) -> None:
     """One line: the instructions of `verify` over those of the `check` that wrote the text."""
     found = counted("check", *files)
     splits = len(re.findall("^split", found.text, re.M))
-    ratio = instructions("verify", *files, saved(folder, "certificate", found.text)) / found.instructions
+    ratio = instructions("verify", *files, *saved(found.text)) / found.instructions
     show(f"verify over check, {what}, {splits} splits", ratio, bar)
 
 
@@ -198,31 +191,29 @@ def graph(count: int, has_edges: bool) -> str:
 
 def verify() -> bool:
     """What judging takes over finding, how it grows with the text, and its memory."""
-    with tempfile.TemporaryDirectory() as folder:
-        def judged(files: list[str], text: str) -> int:
-            return instructions("verify", *files, saved(folder, "certificate", text), says="verified ")
+    def judged(files: list[str], text: str) -> int:
+        return instructions("verify", *files, *saved(text), says="verified ")
 
-        def peak(files: list[str], text: str) -> int:
-            return peak_bytes("verify", *files, saved(folder, "certificate", text))
+    def peak(files: list[str], text: str) -> int:
+        return peak_bytes("verify", *files, *saved(text))
 
-        show_over_check(folder, "the ring of 16 cores", 1.0, saved_all(folder, model=RING, test=ring(16)))
-        for pair in (("in-order.uspec", "mp.test"), ("in-order.uspec", "sb.test"), ("store-buffer.uspec", "sb.test"),
-                     ("models/tso-buffer.uspec", "tests/IRIW.test"), ("models/sc-ooo.uspec", "tests/3.SB.test")):
-            show_over_check(folder, " and ".join(pair), 1.0, of_examples(*pair))
-        long = saved_all(folder, model=choices(120, 2), test=ONE_WRITE)
-        show_over_check(folder, "a random question of 120 choices", 0.1, long)
-        files = saved_all(folder, model=EITHER, test=TWO_WRITES)
-        half, whole = (judged(files, HEAD + AGAIN * (lines // 2) + LAST) for lines in (500_000, 1_000_000))
-        show("a certificate of a million lines over half of it", whole / half, 2.2)
-        full = HEAD + AGAIN * ((64 * MIB - len(HEAD) - len(LAST)) // len(AGAIN)) + LAST
-        show("MiB of memory for a text of 64 MiB of short lines, above those for an empty one",
-             (peak(files, full) - peak(files, "")) / MIB, 32)
-        # graphs of more nodes than `check` writes
-        files = saved_all(folder, model=ONE_EDGE, test=fences_apart(64))
-        half, whole = (judged(files, graph(edges + 1, True)) for edges in (8_192, 16_384))
-        show("a chain of 16,384 edges, of which the model asks for one, over one of 8,192", whole / half, 2.2)
-        files = saved_all(folder, model=ALL_STAGES, test=fences_apart(64))
-        show("MB of memory for 262,144 nodes", peak(files, graph(1 << 18, False)) / 1e6, 100)
+    show_over_check("the ring of 16 cores", 1.0, saved(RING, ring(16)))
+    for pair in (("in-order.uspec", "mp.test"), ("in-order.uspec", "sb.test"), ("store-buffer.uspec", "sb.test"),
+                 ("models/tso-buffer.uspec", "tests/IRIW.test"), ("models/sc-ooo.uspec", "tests/3.SB.test")):
+        show_over_check(" and ".join(pair), 1.0, of_examples(*pair))
+    show_over_check("a random question of 120 choices", 0.1, saved(choices(120, 2), ONE_WRITE))
+    files = saved(EITHER, TWO_WRITES)
+    half, whole = (judged(files, HEAD + AGAIN * (lines // 2) + LAST) for lines in (500_000, 1_000_000))
+    show("a certificate of a million lines over half of it", whole / half, 2.2)
+    full = HEAD + AGAIN * ((64 * MIB - len(HEAD) - len(LAST)) // len(AGAIN)) + LAST
+    show("MiB of memory for a text of 64 MiB of short lines, above those for an empty one",
+         (peak(files, full) - peak(files, "")) / MIB, 32)
+    # graphs of more nodes than `check` writes
+    files = saved(ONE_EDGE, fences_apart(64))
+    half, whole = (judged(files, graph(edges + 1, True)) for edges in (8_192, 16_384))
+    show("a chain of 16,384 edges, of which the model asks for one, over one of 8,192", whole / half, 2.2)
+    files = saved(ALL_STAGES, fences_apart(64))
+    show("MB of memory for 262,144 nodes", peak(files, graph(1 << 18, False)) / 1e6, 100)
     return True
 
 
@@ -310,20 +301,18 @@ def verify_lifted() -> bool:
     """What judging a lifted refutation takes."""
     says, four = "verified unobservable\n", four_text()
     assert four.count("\n") == LINES
-    with tempfile.TemporaryDirectory() as folder:
-        full = heap_peak("verify-lifted", *saved_all(folder, model=FOUR, test=fences_apart(64), text=four), says=says)
-        # without micro-ops the axiom is true, and the first line that asks for one is refused
-        files = saved_all(folder, model=FOUR, test=fences_apart(0), text=four)
-        empty = heap_peak("verify-lifted", *files, says="certificate refused at line 4\n")
-        show(f"MiB of heap for 64 micro-ops, four quantifiers, {LINES} lines, above those of no micro-op", (full - empty) / MIB, 8)
-        texts = [long_text(MANY // 2), long_text(MANY)]
-        pair = of_examples("po-and-reverse.uspec", "two-forbidden.test")
-        words = [["verify-lifted", *pair, saved(folder, f"text{k}", text)] for k, text in enumerate(texts)]
-        half, whole = (instructions(*it, says=says) for it in words)
-        show("a text of a million lines over half of it", whole / half, 2.2, f"   {whole / MANY:.0f} instructions for each line")
-        half, whole = (heap_peak(*it, says=says) for it in words)
-        facts = (texts[1].count("\n") - texts[0].count("\n")) / 7
-        print(f"bytes of heap for each fact of the open branches: {(whole - half) / facts:.0f}")
+    full = heap_peak("verify-lifted", *saved(FOUR, fences_apart(64), four), says=says)
+    # without micro-ops the axiom is true, and the first line that asks for one is refused
+    empty = heap_peak("verify-lifted", *saved(FOUR, fences_apart(0), four), says="certificate refused at line 4\n")
+    show(f"MiB of heap for 64 micro-ops, four quantifiers, {LINES} lines, above those of no micro-op", (full - empty) / MIB, 8)
+    texts = [long_text(MANY // 2), long_text(MANY)]
+    pair = of_examples("po-and-reverse.uspec", "two-forbidden.test")
+    words = [["verify-lifted", *pair, path] for path in saved(*texts)]
+    half, whole = (instructions(*it, says=says) for it in words)
+    show("a text of a million lines over half of it", whole / half, 2.2, f"   {whole / MANY:.0f} instructions for each line")
+    half, whole = (heap_peak(*it, says=says) for it in words)
+    facts = (texts[1].count("\n") - texts[0].count("\n")) / 7
+    print(f"bytes of heap for each fact of the open branches: {(whole - half) / facts:.0f}")
     return True
 
 
@@ -337,14 +326,9 @@ MOST = {"sweep": 1, "lift": 1, "verify": 0, "verify-lifted": 0}
 def main(words: list[str]) -> int:
     """The tables."""
     if words and (words[0] not in COMMANDS or len(words) - 1 > MOST.get(words[0], len(words))):
-        print(__doc__, file=sys.stderr)
-        return 2
-    try:
-        return 0 if all([COMMANDS[name](*words[1:]) for name in words[:1] or COMMANDS]) else 1
-    except ValueError as reason:
-        print(f"commands: {reason}", file=sys.stderr)
-        return 2
+        raise Misused(__doc__)
+    return 0 if all([COMMANDS[name](*words[1:]) for name in words[:1] or COMMANDS]) else 1
 
 
 if __name__ == "__main__":
-    sys.exit(main(sys.argv[1:]))
+    call(main)

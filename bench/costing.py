@@ -19,9 +19,11 @@ import threading
 import time
 from concurrent.futures import FIRST_COMPLETED, Future, ThreadPoolExecutor, wait
 from dataclasses import dataclass, field
+from pathlib import Path
+from typing import NamedTuple
 
 PROGRAM = "pipecheck_cli"
-# What a crate is proved of, and what is tried on it.
+# what a crate is proved of, and what is tried on it
 PROVED, TRIED = ("src", "specs", "proofs"), "must-fail"
 # What the prover calls the parts of a function.
 PART = re.compile(
@@ -38,8 +40,7 @@ class Ended(Exception):
     """The time that was given is over."""
 
 
-@dataclass(frozen=True)
-class Cost:
+class Cost(NamedTuple):
     """Processor seconds of one crate: the proof, the proof of its tests with their build, the proof once more that two or more
     edits begin with, and the edits; how many edits there are, and the slowest."""
 
@@ -47,14 +48,14 @@ class Cost:
     tests: float
     again: float
     edits: float
-    count: int = 0
+    number: int = 0
     slowest: str = "-"
 
     def whole(self) -> float:
         return self.proof + self.tests + self.again + self.edits
 
     def row(self) -> list[str]:
-        return [*(f"{it:.2f}" for it in (self.proof, self.tests, self.again, self.edits)), str(self.count), self.slowest]
+        return [*(f"{it:.2f}" for it in self[:4]), str(self.number), self.slowest]
 
 
 @dataclass
@@ -107,11 +108,9 @@ def hash_files(folder: str, parts: tuple[str, ...], onto: str = "") -> str:
     """A hash of the names and bytes of the files in these folders of a folder."""
     made = hashlib.sha256(onto.encode())
     for part in parts:
-        for at, folders, files in os.walk(f"{folder}/{part}"):
-            folders.sort()
-            for it in sorted(files):
-                with open(f"{at}/{it}", "rb") as file:
-                    made.update(f"{os.path.relpath(at, folder)}/{it}\0".encode() + hashlib.sha256(file.read()).digest())
+        for it in sorted(Path(folder, part).rglob("*")):
+            if it.is_file():
+                made.update(f"{it.relative_to(folder)}\0".encode() + hashlib.sha256(it.read_bytes()).digest())
     return made.hexdigest()
 
 
@@ -128,8 +127,7 @@ class Tree:
     functions: dict[str, float] = field(default_factory=dict)
 
     def __post_init__(self) -> None:
-        with open(f"{self.folder}/crates.txt", encoding="utf-8") as file:
-            self.below = list_crates(file.read())
+        self.below = list_crates(Path(self.folder, "crates.txt").read_text("utf-8"))
         for name, stands_on in self.below.items():
             onto = " ".join(self.sums.get(it, it) for it in stands_on)
             self.sums[name] = hash_files(f"{self.folder}/crates/{name}", PROVED, onto)
@@ -151,16 +149,10 @@ class Tree:
         return os.path.isfile(f"{self.folder}/crates/{name}/src/main.rt")
 
     def has_tests(self, name: str) -> bool:
-        for at, _, files in os.walk(f"{self.folder}/crates/{name}/src"):
-            for it in files:
-                with open(f"{at}/{it}", encoding="utf-8") as file:
-                    if "#[test]" in file.read():
-                        return True
-        return False
+        return any("#[test]" in it.read_text("utf-8") for it in Path(self.folder, "crates", name, "src").rglob("*.rt"))
 
     def edits(self, name: str) -> list[str]:
-        place = f"{self.folder}/crates/{name}/{TRIED}"
-        return sorted(f"{place}/{it}" for it in os.listdir(place)) if os.path.isdir(place) else []
+        return sorted(map(str, Path(self.folder, "crates", name, TRIED).glob("*")))
 
     def rlib(self, name: str) -> str:
         """Where the library of a crate stands, by the hash of what it was proved of."""
@@ -172,15 +164,13 @@ class Tree:
 
     def take_rows(self) -> None:
         """Takes the rows that an earlier call left, of these sources, where the library stands too."""
-        if not os.path.isfile(f"{self.kept}/rows"):
-            return
-        with open(f"{self.kept}/rows", encoding="utf-8") as file:
-            for line in file:
-                words = line.split()
-                if len(words) == 8 and words[0] in self.below and words[1] == self.key(words[0]):
-                    if self.is_program(words[0]) or os.path.exists(self.rlib(words[0])):
-                        proof, tests, again, edits = map(float, words[2:6])
-                        self.costs[words[0]] = Cost(proof, tests, again, edits, int(words[6]), words[7])
+        rows = Path(self.kept, "rows")
+        for line in rows.read_text("utf-8").splitlines() if rows.is_file() else ():
+            words = line.split()
+            if len(words) == 8 and words[0] in self.below and words[1] == self.key(words[0]):
+                if self.is_program(words[0]) or os.path.exists(self.rlib(words[0])):
+                    proof, tests, again, edits = map(float, words[2:6])
+                    self.costs[words[0]] = Cost(proof, tests, again, edits, int(words[6]), words[7])
 
     def keep(self, name: str, cost: Cost) -> None:
         self.costs[name] = cost
@@ -208,18 +198,16 @@ def copy_crate(tree: Tree, name: str, to: str) -> str:
 
 def apply_edit(edit: str, folder: str) -> None:
     """Makes an edit's changes in a copy of its crate."""
-    path = old = ""
-    with open(edit, encoding="utf-8") as lines:
-        for line in lines.read().split("\n"):
-            if line.startswith("file: "):
-                path = f"{folder}/{line[6:].strip()}"
-            elif line.startswith("old: "):
-                old = line[5:]
-            elif line.startswith("new:"):
-                with open(path, encoding="utf-8") as file:
-                    text = file.read()
-                with open(path, "w", encoding="utf-8") as file:
-                    file.write(text.replace(old, line[4:].removeprefix(" ")))
+    path, old = Path(), ""
+    for line in Path(edit).read_text("utf-8").split("\n"):
+        word, _, said = line.partition(":")
+        said = said.removeprefix(" ")
+        if word == "file":
+            path = Path(folder, said.strip())
+        elif word == "old":
+            old = said
+        elif word == "new":
+            path.write_text(path.read_text("utf-8").replace(old, said), "utf-8")
 
 
 def link_or_copy(one: str, other: str) -> None:
@@ -232,11 +220,8 @@ def link_or_copy(one: str, other: str) -> None:
 
 def time_functions(name: str, work: str, begun: float) -> dict[str, float]:
     """The seconds by the clock of each function, by what the proof left: the time of a part is that since the part before it."""
-    ends = []
-    for at, _, files in os.walk(work):
-        ends += [(os.stat(f"{at}/{it}").st_mtime, it) for it in files if it.endswith(".oantt")]
     spent: dict[str, float] = {}
-    for end, file in sorted(ends):
+    for end, file in sorted((it.stat().st_mtime, it.name) for it in Path(work).rglob("*.oantt")):
         part = re.sub(rf"^Rattle-{name}[-.](proofs|specs)\.(contracts\.)?", "", re.sub(r"(\.decls)?\.oantt$", "", file))
         while PART.search(part):
             part = PART.sub("", part)
@@ -251,10 +236,8 @@ def prove(tree: Tree, name: str, processes: Processes, where: str, work: str) ->
     os.mkdir(work)
     begun = time.time()
     made = f"{where}/{name}.rlib"
-    how = ["check"] if tree.is_program(name) else ["build"]
-    status, seconds = processes.timed(
-        tree.words(how[0], name, "--incremental", work, *([] if tree.is_program(name) else ["-o", made])), where
-    )
+    call, *more = ["check"] if tree.is_program(name) else ["build", "-o", made]
+    status, seconds = processes.timed(tree.words(call, name, "--incremental", work, *more), where)
     if status:
         raise NotMeasured(f"{name} is not proved")
     scale = seconds / max(time.time() - begun, 0.01)
@@ -363,8 +346,8 @@ def simulate(tree: Tree, lanes: int) -> float:
         if cost.again:
             tasks[name, "again", 0] = cost.again, proofs
             own.append((name, "again", 0))
-        for at in range(cost.count):
-            tasks[name, "edit", at] = cost.edits / cost.count, own
+        for at in range(cost.number):
+            tasks[name, "edit", at] = cost.edits / cost.number, own
     behind = {it: 0.0 for it in tasks}
     for key in reversed(list(tasks)):
         behind[key] += tasks[key][0]
@@ -387,5 +370,5 @@ def total(costs: list[Cost]) -> Cost:
     """The sum of all."""
     return Cost(
         sum(it.proof for it in costs), sum(it.tests for it in costs), sum(it.again for it in costs),
-        sum(it.edits for it in costs), sum(it.count for it in costs),
+        sum(it.edits for it in costs), sum(it.number for it in costs),
     )

@@ -31,9 +31,6 @@ import sys
 import tempfile
 import time
 
-sys.dont_write_bytecode = True
-
-# pylint: disable=wrong-import-position
 from costing import PROGRAM, Cost, Tree, kit, measure_all, simulate, total
 
 TOP = os.path.dirname(os.path.dirname(os.path.realpath(__file__)))
@@ -70,7 +67,7 @@ def lay_out(commit: str, kept: str) -> Tree:
 
 def numbers(cost: Cost) -> str:
     """The cells of a crate."""
-    return "".join(f"{it:8.0f}" for it in (cost.proof, cost.tests, cost.again, cost.edits, cost.whole()))
+    return "".join(f"{it:8.0f}" for it in (*cost[:4], cost.whole()))
 
 
 def show(trees: list[Tree], titles: list[str], names: list[str], is_gate: bool) -> None:
@@ -84,7 +81,7 @@ def show(trees: list[Tree], titles: list[str], names: list[str], is_gate: bool) 
     ordered = sorted(rows.items(), key=lambda it: (-max(cost.whole() for cost in it[1]), it[0]))
     sums = [total([costs[k] for costs in rows.values()]) for k in range(len(trees))]
     for name, costs in [*ordered, ("all", sums)]:
-        more = f"  {costs[0].count:3}  {costs[0].slowest}" if alone else ""
+        more = f"  {costs[0].number:3}  {costs[0].slowest}" if alone else ""
         print(f"{name:<18}{''.join(map(numbers, costs))}{more}", flush=True)
     if not alone and sums[0].whole():
         print(f"the second takes {sums[1].whole() / sums[0].whole():.3f} of the seconds of the first")

@@ -12,12 +12,14 @@ import re
 import subprocess
 import sys
 import tempfile
-from collections.abc import Iterable
+from collections.abc import Callable, Iterable
 from dataclasses import dataclass
 from functools import cache
 
 TOP = os.path.dirname(os.path.dirname(os.path.realpath(__file__)))
 MIB = 1 << 20
+# of the shipped files of a kind
+ENDINGS = {"models": ".uspec", "tests": ".test", "queries": ".query"}
 # a call that takes so many seconds by the clock is made once
 LONG = 10.0
 # a function's name stands whole where it comes first, and after that its number alone
@@ -77,41 +79,49 @@ class Timed:
 @cache
 def program() -> str:
     """The program that PIPECHECK names, or the proved one, which is made first, unless PIPECHECK_PROVED says the other one."""
-    environment = {"PIPECHECK_PROVED": "yes", **os.environ}
-    named = environment.get("PIPECHECK")
+    named = os.environ.get("PIPECHECK")
     if named:
         return named
-    done = subprocess.run(
-        [os.path.join(TOP, "script", "standing")], env=environment, stdin=subprocess.DEVNULL, stdout=subprocess.PIPE, check=False
-    )
+    its = {"PIPECHECK_PROVED": "yes", **os.environ}
+    done = subprocess.run([f"{TOP}/script/standing"], env=its, stdin=subprocess.DEVNULL, stdout=subprocess.PIPE, check=False)
     if done.returncode != 0:
         raise SystemExit(f"there is no program to call in {TOP}")
     return os.fsdecode(done.stdout).rstrip("\n").partition(" ")[2]
 
 
-def saved(folder: str, name: str, text: str) -> str:
-    """The path of a file with this text."""
-    path = os.path.join(folder, name)
-    with open(path, "w", encoding="ascii") as file:
-        file.write(text)
-    return path
+class Misused(Exception):
+    """Words that mean nothing to a script: what is wrong."""
 
 
-def saved_all(folder: str, **texts: str) -> list[str]:
-    """A file for each text, by its name."""
-    return [saved(folder, name, text) for name, text in texts.items()]
+def call(main: Callable[[list[str]], int]) -> None:
+    """Ends a script with the status that its words have, or with 2 where they mean nothing. All files that it makes meanwhile go."""
+    with tempfile.TemporaryDirectory() as tempfile.tempdir:
+        try:
+            status = main(sys.argv[1:])
+        except Misused as reason:
+            print(reason, file=sys.stderr)
+            status = 2
+    sys.exit(status)
+
+
+def saved(*texts: str) -> list[str]:
+    """The paths of files with these texts."""
+    paths = []
+    for text in texts:
+        with tempfile.NamedTemporaryFile("w", encoding="ascii", delete=False) as file:
+            file.write(text)
+        paths.append(file.name)
+    return paths
 
 
 def shipped(kind: str, *names: str) -> list[str]:
     """The paths of the shipped `models`, `tests` or `queries` of these names."""
-    ending = {"models": "uspec", "tests": "test", "queries": "query"}[kind]
-    return [os.path.join(TOP, "examples", kind, f"{name}.{ending}") for name in names]
+    return [f"{TOP}/examples/{kind}/{name}{ENDINGS[kind]}" for name in names]
 
 
-def names_of(kind: str, ending: str) -> list[str]:
+def names_of(kind: str) -> list[str]:
     """The names of all shipped files of a kind, in order."""
-    names = os.listdir(os.path.join(TOP, "examples", kind))
-    return sorted(name.removesuffix(ending) for name in names if name.endswith(ending))
+    return sorted(it.removesuffix(ENDINGS[kind]) for it in os.listdir(f"{TOP}/examples/{kind}") if it.endswith(ENDINGS[kind]))
 
 
 def calls_of(profile: str, functions: tuple[str, ...]) -> list[int]:
@@ -150,12 +160,11 @@ def under_callgrind(profile: str, *command: str) -> tuple[int, str]:
 
 def counted(*words: str, says: str = "") -> Counted:
     """A call of the program, which has to begin so."""
-    with tempfile.TemporaryDirectory() as folder:
-        profile = os.path.join(folder, "profile")
-        taken, text = under_callgrind(profile, program(), *words)
+    with tempfile.NamedTemporaryFile() as profile:
+        taken, text = under_callgrind(profile.name, program(), *words)
         if not text.startswith(says):
             raise SystemExit(f"not counted: {words[0]} says {text[:80]!r}")
-        return Counted(taken, turns_in(profile), text)
+        return Counted(taken, turns_in(profile.name), text)
 
 
 def instructions(*words: str, says: str = "") -> int:
@@ -165,14 +174,12 @@ def instructions(*words: str, says: str = "") -> int:
 
 def heap_peak(*words: str, says: str = "") -> int:
     """The most bytes of the heap that the program has at one time, by massif. What it writes has to begin so."""
-    with tempfile.TemporaryDirectory() as folder:
-        out = os.path.join(folder, "heap")
-        command = ["valgrind", "--tool=massif", "--peak-inaccuracy=0.0", f"--massif-out-file={out}", program(), *words]
+    with tempfile.NamedTemporaryFile("r", encoding="ascii") as out:
+        command = ["valgrind", "--tool=massif", "--peak-inaccuracy=0.0", f"--massif-out-file={out.name}", program(), *words]
         done = subprocess.run(command, stdout=subprocess.PIPE, stderr=subprocess.DEVNULL, check=False)
         if not done.stdout.startswith(says.encode("ascii")):
             raise SystemExit(f"not counted: {words[0]} says {done.stdout[:80]!r}")
-        with open(out, encoding="ascii") as file:
-            return max(map(int, re.findall(r"^mem_heap_B=(\d+)$", file.read(), re.MULTILINE)))
+        return max(map(int, re.findall(r"^mem_heap_B=(\d+)$", out.read(), re.MULTILINE)))
 
 
 def timed(limit: float, out: str, *words: str, calls: int = 1, room: int = 0) -> Timed:

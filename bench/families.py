@@ -14,16 +14,11 @@ where verdicts differ or a call fails, 2 where the words are others, and else 0.
 import os
 import signal
 import subprocess
-import sys
-import tempfile
 from concurrent.futures import ThreadPoolExecutor
 from dataclasses import dataclass
 from itertools import product
 
-sys.dont_write_bytecode = True
-
-# pylint: disable=wrong-import-position
-from counting import names_of, program, saved, shipped
+from counting import Misused, call, names_of, program, saved, shipped
 from makers import FAMILIES, drawn, is_fenced_ring
 
 COMMANDS = ("check", "check2")
@@ -74,27 +69,27 @@ class Asked:
 def asked_of(family: str, seed: int, model: str, command: str, test: str) -> Asked:
     """What a call takes, which ends soon after the limit."""
     words = ["prlimit", f"--cpu={LIMIT + 1}", program(), command, *shipped("models", model), test]
-    with subprocess.Popen(words, stdin=subprocess.DEVNULL, stdout=subprocess.DEVNULL, stderr=subprocess.DEVNULL) as call:
-        _, status, used = os.wait4(call.pid, 0)
-        call.returncode = os.waitstatus_to_exitcode(status)
+    with subprocess.Popen(words, stdin=subprocess.DEVNULL, stdout=subprocess.DEVNULL, stderr=subprocess.DEVNULL) as child:
+        _, status, used = os.wait4(child.pid, 0)
+        child.returncode = os.waitstatus_to_exitcode(status)
     # what ends a call past its limit counts in another way than what says how long it took
-    least = LIMIT + 1 if call.returncode == -signal.SIGKILL else 0
-    return Asked(family, seed, model, command, max(least, used.ru_utime + used.ru_stime), call.returncode)
+    least = LIMIT + 1 if child.returncode == -signal.SIGKILL else 0
+    return Asked(family, seed, model, command, max(least, used.ru_utime + used.ru_stime), child.returncode)
 
 
 def ask_all(seeds: range, models: list[str]) -> list[Asked]:
     """All questions of these seeds and models, on all processors."""
     # it is made before any of them, where it has to be
     program()
-    with tempfile.TemporaryDirectory() as folder, ThreadPoolExecutor(os.cpu_count()) as pool:
+    with ThreadPoolExecutor(os.cpu_count()) as pool:
         calls = []
         for seed, family in product(seeds, FAMILIES):
             text = drawn(family, seed)
-            test = saved(folder, f"{family}-{seed}.test", text)
+            [test] = saved(text)
             for model, command in product(models, COMMANDS):
                 if model != LONG_MODEL or not is_fenced_ring(family, text):
                     calls.append(pool.submit(asked_of, family, seed, model, command, test))
-        return [call.result() for call in calls]
+        return [it.result() for it in calls]
 
 
 def tell(what: str, found: list[Asked], is_barred: bool = False) -> None:
@@ -134,15 +129,14 @@ def main(words: list[str]) -> int:
     if len(words) == 2 and words[0] in FAMILIES and words[1].isdecimal():
         print(drawn(words[0], int(words[1])), end="")
         return 0
-    shipped_models = names_of("models", ".uspec")
+    shipped_models = names_of("models")
     models = words[2:] or shipped_models
     are_seeds = len(words) != 1 and all(word.isdecimal() for word in words[:2])
     seeds = range(int(words[0]), int(words[1]) + 1) if words and are_seeds else SEEDS
     if not are_seeds or not seeds or not set(models) <= set(shipped_models):
-        print(f"{__doc__}\nThe families are {', '.join(FAMILIES)}; the models {', '.join(shipped_models)}.", file=sys.stderr)
-        return 2
+        raise Misused(f"{__doc__}\nThe families are {', '.join(FAMILIES)}; the models {', '.join(shipped_models)}.")
     return 0 if tell_all(ask_all(seeds, models)) else 1
 
 
 if __name__ == "__main__":
-    sys.exit(main(sys.argv[1:]))
+    call(main)

@@ -11,13 +11,8 @@ count stands beside its bar; the exit status is 0 where all was counted. It take
 import math
 import os
 import subprocess
-import sys
-import tempfile
 
-sys.dont_write_bytecode = True
-
-# pylint: disable=wrong-import-position
-from counting import counted, instructions, peak_bytes, program, saved, saved_all, show, timed
+from counting import Misused, call, counted, instructions, peak_bytes, program, saved, show, timed
 from questions import ONE_WRITE, SEARCHED, STAGES, fences, ring, writes
 
 EDGE = "AddEdge ((a, S), (b, S))"
@@ -52,35 +47,34 @@ def axioms(size: int) -> str:
     return STAGES + line * ((size - len(STAGES)) // len(line))
 
 
-def peak_over_nothing(folder: str, model: str, test: str) -> int:
+def peak_over_nothing(model: str, test: str) -> int:
     """The peak memory of a check, beside that of one that has nothing to ground."""
-    nothing = peak_bytes("check", *saved_all(folder, model=STAGES, test=test))
-    return peak_bytes("check", *saved_all(folder, model=model, test=test)) - nothing
+    return peak_bytes("check", *saved(model, test)) - peak_bytes("check", *saved(STAGES, test))
 
 
-def writes_of_a_graph(folder: str) -> float:
+def writes_of_a_graph() -> float:
     """The calls that write a graph to standard output, by strace, over one for 4,096 bytes and three more."""
-    command = [program(), "check", *saved_all(folder, model=MANY, test=writes(64))]
+    command = [program(), "check", *saved(MANY, writes(64))]
     text = subprocess.run(command, capture_output=True, check=False).stdout
     traced = subprocess.run(["strace", "-f", "-e", "trace=write", *command], stdout=subprocess.DEVNULL,
                             stderr=subprocess.PIPE, check=False).stderr
     return traced.count(b"write(1, ") / (-(-len(text) // 4096) + 3)
 
 
-def show_finding(folder: str, name: str) -> None:
+def show_finding(name: str) -> None:
     """One line of what finding costs."""
     what, test, bar = QUESTIONS[name]
-    files = saved_all(folder, model=SEARCHED[name], test=test)
+    files = saved(SEARCHED[name], test)
     found = counted("check", *files)
-    judged = instructions("verify", *files, saved(folder, "certificate", found.text))
+    judged = instructions("verify", *files, *saved(found.text))
     print(f"{what:56} check {found.instructions / 1e6:9.1f} million, bar {bar:5}; verify {judged / 1e6:7.1f}, "
           f"ratio {found.instructions / judged:6.1f}", flush=True)
 
 
-def show_growth(folder: str) -> None:
+def show_growth() -> None:
     """How counts grow."""
     def count(model: str, test: str) -> int:
-        return instructions("check", *saved_all(folder, model=model, test=test))
+        return instructions("check", *saved(model, test))
 
     show("three quantifiers, 64 micro-ops over 32", count(NESTED, writes(64)) / count(NESTED, writes(32)), 9.6)
     show("a false guard under the first quantifier, over that quantifier alone",
@@ -89,15 +83,14 @@ def show_growth(folder: str) -> None:
     show("2,000 pending disjunctions over 1,000, one split in both",
          count(disjunctions(2000), ONE_WRITE) / count(disjunctions(1000), ONE_WRITE), 2.3)
     show("bytes of memory for each row of three quantifiers over 64 micro-ops",
-         peak_over_nothing(folder, NESTED, writes(64)) / (2 * 64**3), 128)
-    show("writes of a graph of some 160 KB, over one for 4,096 bytes and three more", writes_of_a_graph(folder), 1.0)
+         peak_over_nothing(NESTED, writes(64)) / (2 * 64**3), 128)
+    show("writes of a graph of some 160 KB, over one for 4,096 bytes and three more", writes_of_a_graph(), 1.0)
 
 
-def show_clock(folder: str) -> None:
+def show_clock() -> None:
     """What grows by the clock."""
     def seconds(count: int) -> float:
-        files = saved_all(folder, model=SEARCHED["exists"], test=fences(count))
-        return timed(math.inf, os.devnull, program(), "check", *files, calls=3).clock
+        return timed(math.inf, os.devnull, program(), "check", *saved(SEARCHED["exists"], fences(count)), calls=3).clock
 
     show("free choices of EdgeExists, 64 micro-ops over 32, by the clock", seconds(64) / seconds(32), 9)
 
@@ -106,17 +99,15 @@ def main(names: list[str]) -> int:
     """The tables."""
     unknown = [name for name in names if name not in QUESTIONS]
     if unknown:
-        print(f"growth: there is no question {unknown[0]}; there are {', '.join(QUESTIONS)}", file=sys.stderr)
-        return 2
-    with tempfile.TemporaryDirectory() as folder:
-        if not names:
-            show_growth(folder)
-        for name in names or QUESTIONS:
-            show_finding(folder, name)
-        if not names:
-            show_clock(folder)
+        raise Misused(f"growth: there is no question {unknown[0]}; there are {', '.join(QUESTIONS)}")
+    if not names:
+        show_growth()
+    for name in names or QUESTIONS:
+        show_finding(name)
+    if not names:
+        show_clock()
     return 0
 
 
 if __name__ == "__main__":
-    sys.exit(main(sys.argv[1:]))
+    call(main)

@@ -12,39 +12,33 @@ in total, and no pair over 2 times. The exit status is 1 where verdicts differ o
 such model or test, and else 0.
 """
 import math
-import os
 import shutil
-import sys
-import tempfile
 from itertools import product
 
-sys.dont_write_bytecode = True
-
-# pylint: disable=wrong-import-position
 import solvers
-from counting import names_of, program, saved_all, shipped, timed
+from counting import Misused, call, names_of, program, saved, shipped, timed
 from questions import RING, ring
 
 CALLS, SLOWEST = 5, 10
 
 
-def beside(folder: str, paths: list[str], calls: int, *names: str) -> tuple[float, bool | None, dict[str, float], bool]:
+def beside(paths: list[str], calls: int, *names: str) -> tuple[float, bool | None, dict[str, float], bool]:
     """The seconds of `check` by the clock, its verdict, the seconds of these solvers, and whether all verdicts are one."""
-    answer = os.path.join(folder, "text")
+    [answer] = saved("")
     ours = timed(math.inf, answer, program(), "check", *paths, calls=calls).clock
     with open(answer, encoding="ascii") as file:
         verdict = solvers.verdict_of(file.read())
     verdicts, theirs = {verdict}, {}
-    for name, found in solvers.asked(folder, paths, *names, calls=calls):
+    for name, found in solvers.asked(paths, *names, calls=calls):
         assert found is not None
         verdicts.add(found.verdict)
         theirs[name] = found.call.clock
     return ours, verdict, theirs, len(verdicts) == 1 and verdict is not None
 
 
-def compare(name: str, folder: str, paths: list[str]) -> bool:
+def compare(name: str, paths: list[str]) -> bool:
     """One line of the table. Whether all verdicts are one."""
-    ours, verdict, theirs, same = beside(folder, paths, CALLS, *solvers.SOLVERS)
+    ours, verdict, theirs, same = beside(paths, CALLS, *solvers.SOLVERS)
     said = {None: "no verdict", False: "unobservable", True: "observable"}[verdict]
     cells = [f"{name:24} {1000 * ours:8.1f} ms {said:12}"]
     cells += [f"{solver} {1000 * seconds:8.1f} ms, {ours / seconds:5.2f} x" for solver, seconds in theirs.items()]
@@ -54,33 +48,29 @@ def compare(name: str, folder: str, paths: list[str]) -> bool:
 
 def some(rings: list[int]) -> int:
     """The rings and some litmus tests. The exit status."""
-    with tempfile.TemporaryDirectory() as folder:
-        same = [compare(f"ring of {cores}", folder, saved_all(folder, model=RING, test=ring(cores))) for cores in rings]
-        for model, test in product(("sc-inorder", "tso-buffer"), ("MP", "SB", "IRIW")):
-            same.append(compare(f"{test} on {model}", folder, shipped("models", model) + shipped("tests", test)))
+    same = [compare(f"ring of {cores}", saved(RING, ring(cores))) for cores in rings]
+    for model, test in product(("sc-inorder", "tso-buffer"), ("MP", "SB", "IRIW")):
+        same.append(compare(f"{test} on {model}", shipped("models", model) + shipped("tests", test)))
     return 0 if all(same) else 1
 
 
 def all_shipped(words: list[str]) -> int:
     """The shipped pairs that the words name. The exit status."""
-    models, tests = names_of("models", ".uspec"), names_of("tests", ".test")
+    models, tests = names_of("models"), names_of("tests")
     of_test = words[1:2] if words[:1] == ["--test"] else []
     of_model = words[2:] if of_test else words
     unknown = [name for name in of_model if name not in models] + [name for name in of_test if name not in tests]
-    lacking = [f"there is no {unknown[0]} in examples/models or examples/tests"] if unknown else []
+    if unknown:
+        raise Misused(f"peers: there is no {unknown[0]} in examples/models or examples/tests")
     if not shutil.which("z3"):
-        lacking.append("there is no z3 here, which the program is timed beside")
-    if lacking:
-        print(f"peers: {lacking[0]}", file=sys.stderr)
-        return 2
+        raise Misused("peers: there is no z3 here, which the program is timed beside")
     pairs, differ = [], 0
-    with tempfile.TemporaryDirectory() as folder:
-        for model, test in product(of_model or models, of_test or tests):
-            ours, _, theirs, same = beside(folder, shipped("models", model) + shipped("tests", test), 1, "z3")
-            pairs.append((ours, theirs["z3"], f"{model} {test}"))
-            if not same:
-                differ += 1
-                print(f"VERDICTS DIFFER: {model} {test}", flush=True)
+    for model, test in product(of_model or models, of_test or tests):
+        ours, _, theirs, same = beside(shipped("models", model) + shipped("tests", test), 1, "z3")
+        pairs.append((ours, theirs["z3"], f"{model} {test}"))
+        if not same:
+            differ += 1
+            print(f"VERDICTS DIFFER: {model} {test}", flush=True)
     for one, other, name in sorted(pairs, reverse=True)[:SLOWEST]:
         print(f"{name:40} {1000 * one:8.1f} ms   z3 {1000 * other:8.1f} ms, {one / other:5.2f} x")
     one, other = sum(pair[0] for pair in pairs), sum(pair[1] for pair in pairs)
@@ -95,10 +85,9 @@ def main(words: list[str]) -> int:
     if words[:1] == ["--shipped"]:
         return all_shipped(words[1:])
     if not all(word.isdecimal() for word in words):
-        print(__doc__, file=sys.stderr)
-        return 2
+        raise Misused(__doc__)
     return some([int(word) for word in words] or [4, 8, 12, 16])
 
 
 if __name__ == "__main__":
-    sys.exit(main(sys.argv[1:]))
+    call(main)

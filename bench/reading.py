@@ -29,10 +29,7 @@ import tempfile
 from collections.abc import Callable, Iterable
 from functools import cache
 
-sys.dont_write_bytecode = True
-
-# pylint: disable=wrong-import-position
-from counting import MIB, TOP, Timed, instructions, program, saved, saved_all, shipped, show, timed
+from counting import MIB, TOP, Misused, Timed, call, instructions, program, saved, shipped, show, timed
 from questions import ONE_WRITE, access, test_of
 
 CALLS = 7
@@ -41,17 +38,17 @@ OPS = 64
 NOTHING = 'Litmus "e".\n'
 
 
-def checked(model: str, test: str) -> list[str]:
-    """The words of a check."""
-    return [program(), "check", model, test]
-
-
 def measured(words: list[str], status: int = 0) -> Timed:
     """Some calls, all of which end with this status."""
-    call = timed(math.inf, os.devnull, *words, calls=CALLS)
-    if call.status != status:
-        raise SystemExit(f"not measured: status {call.status} of {' '.join(words)}")
-    return call
+    found = timed(math.inf, os.devnull, *words, calls=CALLS)
+    if found.status != status:
+        raise SystemExit(f"not measured: status {found.status} of {' '.join(words)}")
+    return found
+
+
+def checked(model: str, test: str) -> Timed:
+    """Some checks."""
+    return measured([program(), "check", *saved(model, test)])
 
 
 def show_growth(what: str, whole: Timed, half: Timed) -> None:
@@ -81,21 +78,18 @@ def axioms(count: int) -> str:
     )
 
 
-def linear(folder: str) -> None:
+def linear() -> None:
     """`check` of comments and of axioms."""
     two_writes = test_of([(0, [access("Write", 0, 1)]), (0, [access("Write", 0, 2)])], "Permitted.\n")
-
-    def on(model: str, test: str) -> Timed:
-        return measured(checked(*saved_all(folder, model=model, test=test)))
 
     def comments(size: int) -> str:
         return filled(size, "", itertools.repeat("% " + 61 * "c" + "\n"))
 
-    whole = on(comments(MIB), NOTHING)
-    show_growth("1 MiB of comments", whole, on(comments(MIB // 2), NOTHING))
-    digest = measured(["sha256sum", saved(folder, "model", comments(MIB))])
+    whole = checked(comments(MIB), NOTHING)
+    show_growth("1 MiB of comments", whole, checked(comments(MIB // 2), NOTHING))
+    digest = measured(["sha256sum", *saved(comments(MIB))])
     show("1 MiB of comments, time over that of sha256sum", whole.clock / digest.clock, 25)
-    show_growth("8,000 axioms", on(axioms(8000), two_writes), on(axioms(4000), two_writes))
+    show_growth("8,000 axioms", checked(axioms(8000), two_writes), checked(axioms(4000), two_writes))
 
 
 def fences(count: int, first: str = "Fence") -> str:
@@ -113,19 +107,18 @@ def stated(kind: str, k: int) -> str:
     return f"{kind} (PA {k} {k % 16}) {k}.\n"
 
 
-def tests(folder: str) -> None:
+def tests() -> None:
     """`check` of long tests."""
-    empty, count = saved(folder, "empty", ""), itertools.count
+    count = itertools.count
     kinds: dict[str, Callable[[int], str]] = {
         "1 MiB of relationships": lambda size: filled(size, fences(OPS), map(dependency, count())),
         "1 MiB of initial values": lambda size: filled(size, NOTHING, (stated("Init", k) for k in count())),
     }
     for what, text in kinds.items():
-        whole, half = (measured(checked(empty, saved(folder, "test", text(size)))) for size in (MIB, MIB // 2))
-        show_growth(what, whole, half)
+        show_growth(what, *(checked("", text(size)) for size in (MIB, MIB // 2)))
 
     def taken(text: str) -> int:
-        return instructions("check", empty, saved(folder, "test", text))
+        return instructions("check", *saved("", text))
 
     nothing = taken(NOTHING)
     items = filled(MIB // 8, test_of((0, [access("Read" if k % 2 else "Write", k, k)]) for k in range(OPS)), (
@@ -186,18 +179,18 @@ def doubling(depth: int) -> str:
 @cache
 def model_bench() -> str:
     """What parses and reads models alone. Without words its status is 2."""
-    crate, silent = os.path.join(TOP, "crates/model_bench"), subprocess.DEVNULL
-    path = os.path.join(crate, "out/model_bench")
+    crate, silent = f"{TOP}/crates/model_bench", subprocess.DEVNULL
+    path = f"{crate}/out/model_bench"
     ran = subprocess.run(["rt", "run"], cwd=crate, stdin=silent, stdout=silent, stderr=silent, check=False)
     if ran.returncode != 2 or not os.access(path, os.X_OK):
         raise SystemExit("not measured: crates/model_bench is not built")
     return path
 
 
-def empty_memory(folder: str, work: str) -> int:
+def empty_memory(work: str) -> int:
     """The peak memory in bytes of a call on an empty model: of one that waits for its text, which then ends at once. So what the
     system counts of its parent is no part of it."""
-    path = os.path.join(folder, "waiting")
+    path = f"{tempfile.mkdtemp()}/waiting"
     os.mkfifo(path)
     with subprocess.Popen([model_bench(), work, path]) as child:
         # goes on when the program has opened it too
@@ -208,31 +201,31 @@ def empty_memory(folder: str, work: str) -> int:
     return int(kibibytes) * 1024
 
 
-def on_bench(folder: str, work: str, text: str, status: int = 0) -> Timed:
+def on_bench(work: str, text: str, status: int = 0) -> Timed:
     """What parsing a model, or reading it whole, takes."""
-    return measured([model_bench(), work, saved(folder, "model", text)], status)
+    return measured([model_bench(), work, *saved(text)], status)
 
 
-def parser(folder: str) -> None:
+def parser() -> None:
     """Parsing a shipped model, again and again."""
     with open(shipped("models", "tso-buffer")[0], encoding="ascii") as file:
         text = file.read()
     # without the comments at its head
     parts = itertools.repeat(text[text.index("StageName"):])
-    whole, half = (on_bench(folder, "parse", filled(size, "", parts)) for size in (MIB, MIB // 2))
+    whole, half = (on_bench("parse", filled(size, "", parts)) for size in (MIB, MIB // 2))
     show("1 MiB of a model, time over that of half of it", whole.clock / half.clock, TIME_BAR)
-    show("1 MiB of a model, peak memory over its bytes", (whole.peak - empty_memory(folder, "parse")) / MIB, 40)
+    show("1 MiB of a model, peak memory over its bytes", (whole.peak - empty_memory("parse")) / MIB, 40)
 
 
-def models(folder: str) -> None:
+def models() -> None:
     """Reading whole models."""
-    whole, half = (on_bench(folder, "read", expanding(1000 // part, MIB // part)) for part in (1, 2))
+    whole, half = (on_bench("read", expanding(1000 // part, MIB // part)) for part in (1, 2))
     show_growth("1,000 macros in 1 MiB", whole, half)
-    show("1,000 macros in 1 MiB, peak memory over its bytes", (whole.peak - empty_memory(folder, "read")) / MIB, 200)
-    show_growth("1,000 long names in 1 MiB", *(on_bench(folder, "read", long_names(1000 // part, MIB // part)) for part in (1, 2)))
+    show("1,000 macros in 1 MiB, peak memory over its bytes", (whole.peak - empty_memory("read")) / MIB, 200)
+    show_growth("1,000 long names in 1 MiB", *(on_bench("read", long_names(1000 // part, MIB // part)) for part in (1, 2)))
     # a short chain has no fault, so the long one is refused for its size alone
-    on_bench(folder, "read", doubling(10))
-    chain, empty = on_bench(folder, "read", doubling(60), 1), on_bench(folder, "read", "")
+    on_bench("read", doubling(10))
+    chain, empty = on_bench("read", doubling(60), 1), on_bench("read", "")
     show("60 macros that double, time over that of an empty model", chain.clock / empty.clock, 3)
 
 
@@ -254,10 +247,10 @@ def listing(count: int, comments: int = 0, columns: int = 4) -> str:
     return "\n".join([*lines, "exists", " /\\ ".join(values or ["x=0"])]) + "\n"
 
 
-def listings(folder: str) -> None:
+def listings() -> None:
     """`check86` of listings."""
     def taken(text: str) -> int:
-        return instructions("check86", *saved_all(folder, model="", listing=text), says="observable\ntest unstated\nend\n")
+        return instructions("check86", *saved("", text), says="observable\ntest unstated\nend\n")
 
     nothing = taken(listing(0))
     for what, whole, half in (("a listing of 64 instructions over one of 32", listing(64), listing(32)),
@@ -317,10 +310,10 @@ NAMES = {
 }
 
 
-def names(folder: str, *words: str) -> None:
+def names(*words: str) -> None:
     """Questions with long or many names."""
     def taken(model: str, test: str) -> Timed:
-        return timed(60, os.devnull, *checked(*saved_all(folder, model=model, test=test)), calls=3)
+        return timed(60, os.devnull, program(), "check", *saved(model, test), calls=3)
 
     empty = taken("", fences(0)).seconds
     for what, (model, test, many, few, bar) in NAMES.items():
@@ -376,20 +369,20 @@ MODELS: dict[str, Callable[[], str]] = {
 }
 
 
-def memory(folder: str, *words: str) -> None:
+def memory(*words: str) -> None:
     """Models that ask for the most memory before grounding."""
     for what, make in MODELS.items():
         if not all(word in what for word in words):
             continue
-        model, test = saved_all(folder, model=make() + 'Axiom "last": Unknown.\n', test=ONE_WRITE)
+        model, test, out = saved(make() + 'Axiom "last": Unknown.\n', ONE_WRITE, "")
         if os.path.getsize(model) > MIB:
             raise SystemExit(f"not measured: {os.path.getsize(model)} bytes of {what}")
-        out = os.path.join(folder, "answer")
-        call = timed(math.inf, out, *checked(model, test))
+        words_of_check = program(), "check", model, test
+        whole = timed(math.inf, out, *words_of_check)
         with open(out, encoding="ascii") as file:
-            why = file.read().split()[2] if call.status == 3 else f"STATUS {call.status}"
-        half = timed(math.inf, os.devnull, *checked(model, test), room=call.peak // 2).status
-        show(what, call.peak / MIB, 1024, f" MiB; {why}; with half of it {'want of memory' if half == 7 else f'STATUS {half}'}")
+            why = file.read().split()[2] if whole.status == 3 else f"STATUS {whole.status}"
+        half = timed(math.inf, os.devnull, *words_of_check, room=whole.peak // 2).status
+        show(what, whole.peak / MIB, 1024, f" MiB; {why}; with half of it {'want of memory' if half == 7 else f'STATUS {half}'}")
 
 
 PARTS: dict[str, Callable[..., None]] = {
@@ -400,18 +393,16 @@ PARTS: dict[str, Callable[..., None]] = {
 def main(words: list[str]) -> int:
     """The parts."""
     if words and (words[0] not in PARTS or words[1:] and words[0] not in ("names", "memory")):
-        print(f"reading: there is no part {' '.join(words)}; there are {', '.join(PARTS)}", file=sys.stderr)
-        return 2
+        raise Misused(f"reading: there is no part {' '.join(words)}; there are {', '.join(PARTS)}")
     status = 0
     for name in words[:1] or PARTS:
-        with tempfile.TemporaryDirectory() as folder:
-            try:
-                PARTS[name](folder, *words[1:])
-            except SystemExit as reason:
-                print(f"reading: {name}: {reason}", file=sys.stderr)
-                status = 1
+        try:
+            PARTS[name](*words[1:])
+        except SystemExit as reason:
+            print(f"reading: {name}: {reason}", file=sys.stderr)
+            status = 1
     return status
 
 
 if __name__ == "__main__":
-    sys.exit(main(sys.argv[1:]))
+    call(main)

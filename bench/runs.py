@@ -18,17 +18,12 @@ something could not be counted, 2 where there is no such question, and else 0. I
 """
 import marshal
 import os
-import sys
-import tempfile
 from collections.abc import Callable
 from concurrent.futures import ThreadPoolExecutor
 from dataclasses import dataclass, field
 
-sys.dont_write_bytecode = True
-
-# pylint: disable=wrong-import-position
 import solvers
-from counting import MIB, counted, program, saved, shipped, timed
+from counting import MIB, call, counted, program, saved, shipped, timed
 from makers import lock, run
 from questions import FIRST_MODELS, RING, ring
 
@@ -74,12 +69,12 @@ QUESTIONS = {
 }
 
 
-def splits_of_second(folder: str, command: str, paths: list[str], limit: float, verdicts: set[bool | None]) -> int | None:
+def splits_of_second(command: str, paths: list[str], limit: float, verdicts: set[bool | None]) -> int | None:
     """How many splits the second implementation makes for a command, None where it takes longer. Its verdict is put to the others."""
-    profile, answer = (os.path.join(folder, name) for name in ("profile", "answer"))
-    python, tools, word = solvers.SECOND
-    entry = [os.path.join(tools, "__main__.py"), word]
-    if not limit or not timed(limit, answer, python, "-m", "cProfile", "-o", profile, *entry, command, *paths).has_ended:
+    profile, answer = saved("", "")
+    *python, tools, word = solvers.SECOND
+    entry = [f"{tools}/__main__.py", word]
+    if not limit or not timed(limit, answer, *python, "-m", "cProfile", "-o", profile, *entry, command, *paths).has_ended:
         return None
     with open(answer, encoding="ascii") as text, open(profile, "rb") as file:
         verdicts.add(solvers.verdict_of(text.read()))
@@ -90,21 +85,21 @@ def splits_of_second(folder: str, command: str, paths: list[str], limit: float, 
     return int(found[0])
 
 
-def tell_check(command: str, folder: str, paths: list[str], limit: float, verdicts: set[bool | None]) -> None:
+def tell_check(command: str, paths: list[str], limit: float, verdicts: set[bool | None]) -> None:
     """One line of `check` or `check2`, whose verdict is put to the others."""
-    call = timed(LIMIT, os.devnull, program(), command, *paths, calls=CALLS)
-    if not call.has_ended:
+    took = timed(LIMIT, os.devnull, program(), command, *paths, calls=CALLS)
+    if not took.has_ended:
         print(f"    {command:7} no end within {LIMIT:.0f} s", flush=True)
         return
     count = counted(command, *paths)
     verdicts.add(solvers.verdict_of(count.text))
-    splits = splits_of_second(folder, command, paths, limit, verdicts)
+    splits = splits_of_second(command, paths, limit, verdicts)
     beside = f"not counted by the second implementation within {limit:.0f} s" if splits is None else \
         f"{count.turns / splits:5.2f} x {splits} (bar {TURNS_BAR})"
-    within = (splits is None or count.turns <= TURNS_BAR * splits) and call.seconds <= SECONDS_BAR and call.peak <= PEAK_BAR
+    within = (splits is None or count.turns <= TURNS_BAR * splits) and took.seconds <= SECONDS_BAR and took.peak <= PEAK_BAR
     print(f"    {command:7} {count.first:12} {count.turns:6} turns, {beside}; "
-          f"{count.instructions / 1e6:8.1f} million instructions; {call.seconds:6.3f} s (bar {SECONDS_BAR}); "
-          f"{call.peak / MIB:5.1f} MiB (bar {PEAK_BAR // MIB}){'' if within else '   PAST A BAR'}", flush=True)
+          f"{count.instructions / 1e6:8.1f} million instructions; {took.seconds:6.3f} s (bar {SECONDS_BAR}); "
+          f"{took.peak / MIB:5.1f} MiB (bar {PEAK_BAR // MIB}){'' if within else '   PAST A BAR'}", flush=True)
 
 
 def tell_solver(name: str, found: solvers.Answered | None, verdicts: set[bool | None]) -> None:
@@ -120,11 +115,11 @@ def tell_solver(name: str, found: solvers.Answered | None, verdicts: set[bool | 
 
 def tell_sweep(paths: list[str]) -> None:
     """One line of `sweep`, of a pattern."""
-    call = timed(LIMIT, os.devnull, program(), "sweep", *paths, calls=CALLS)
+    took = timed(LIMIT, os.devnull, program(), "sweep", *paths, calls=CALLS)
     count = counted("sweep", *paths)
     rows = [line for line in count.text.split("\n") if line.startswith("row ")]
     print(f"    sweep   {len(rows)} rows, {sum(row.endswith(' observable') for row in rows)} observable; {count.turns} turns; "
-          f"{count.instructions / 1e6:.1f} million instructions; {call.seconds:.3f} s; {call.peak / MIB:.1f} MiB", flush=True)
+          f"{count.instructions / 1e6:.1f} million instructions; {took.seconds:.3f} s; {took.peak / MIB:.1f} MiB", flush=True)
 
 
 def ask(name: str, limit: float) -> bool:
@@ -132,16 +127,14 @@ def ask(name: str, limit: float) -> bool:
     question = QUESTIONS[name]
     verdicts: set[bool | None] = set()
     print(f"{name} on {question.model}")
-    with tempfile.TemporaryDirectory() as folder:
-        model = saved(folder, "ring.uspec", RING) if question.model == "ring" else shipped("models", question.model)[0]
-        paths = [model, saved(folder, "question.test", question.make())]
-        if question.is_swept:
-            tell_sweep(paths)
-            return True
-        for command in ("check", "check2"):
-            tell_check(command, folder, paths, limit, verdicts)
-        for solver, found in solvers.asked(folder, paths, "cadical", "z3", writing=WRITING_LIMIT, limit=LIMIT):
-            tell_solver(solver, found, verdicts)
+    paths = (saved(RING) if question.model == "ring" else shipped("models", question.model)) + saved(question.make())
+    if question.is_swept:
+        tell_sweep(paths)
+        return True
+    for command in ("check", "check2"):
+        tell_check(command, paths, limit, verdicts)
+    for solver, found in solvers.asked(paths, "cadical", "z3", writing=WRITING_LIMIT, limit=LIMIT):
+        tell_solver(solver, found, verdicts)
     if len(verdicts) > 1:
         print("    VERDICTS DIFFER")
     return len(verdicts) <= 1
@@ -151,13 +144,11 @@ def asked_of_many(seed: int) -> tuple[float, str]:
     """The seconds of `check` on one of the many runs, and what it is."""
     addresses, values, stale = (2, 4)[seed % 2], (2, 3, 1000)[seed // 2 % 3], seed // 6 % 2
     name = FIRST_MODELS[seed // 12 % len(FIRST_MODELS)]
-    with tempfile.TemporaryDirectory() as folder:
-        paths = shipped("models", name) + [saved(folder, "run.test", run(seed, 8, 8, addresses, values, stale))]
-        answer = os.path.join(folder, "answer")
-        call = timed(LIMIT, answer, program(), "check", *paths)
-        with open(answer, encoding="ascii") as file:
-            verdict = file.readline().strip() if call.has_ended else "no end"
-    return call.seconds, f"run {seed}, {addresses} addresses, {values} values, {stale} stale reads, on {name}: {verdict}"
+    test, answer = saved(run(seed, 8, 8, addresses, values, stale), "")
+    took = timed(LIMIT, answer, program(), "check", *shipped("models", name), test)
+    with open(answer, encoding="ascii") as file:
+        verdict = file.readline().strip() if took.has_ended else "no end"
+    return took.seconds, f"run {seed}, {addresses} addresses, {values} values, {stale} stale reads, on {name}: {verdict}"
 
 
 def ask_many(count: int) -> None:
@@ -188,4 +179,4 @@ def main(words: list[str]) -> int:
 
 
 if __name__ == "__main__":
-    sys.exit(main(sys.argv[1:]))
+    call(main)

@@ -22,24 +22,27 @@ import sys
 import tempfile
 from collections.abc import Iterator
 from concurrent.futures import ThreadPoolExecutor
+from itertools import product
 from random import Random
 
-sys.dont_write_bytecode = True
-
-# pylint: disable=wrong-import-position
-from counting import TOP, saved, under_callgrind
+from counting import TOP, call, under_callgrind
 from questions import FIRST_PAIRS, ONE_WRITE, SEARCHED, choices, fences, ring, writes
 
 # what a program writes, and its exit status
 Answer = tuple[bytes, int]
 
 
+def named(path: str, text: str) -> str:
+    """A file of this name, which is told where something is wrong."""
+    with open(path, "w", encoding="latin-1") as file:
+        file.write(text)
+    return path
+
+
 def calls(folder: str, is_long: bool) -> Iterator[list[str]]:
     """The words of each call."""
-    models, tests = (sorted(glob.glob(os.path.join(TOP, f"examples/**/*.{it}"), recursive=True)) for it in ("uspec", "test"))
-    for model in models:
-        for test in tests:
-            yield ["check", model, test]
+    for pair in product(*(sorted(glob.glob(f"{TOP}/examples/**/*.{it}", recursive=True)) for it in ("uspec", "test"))):
+        yield ["check", *pair]
     for cores in (2, 3, 4):
         yield ["gen", str(cores)]
     for size in (4, 8, 32) if is_long else (4, 8):
@@ -47,7 +50,7 @@ def calls(folder: str, is_long: bool) -> Iterator[list[str]]:
         for name, text in SEARCHED.items():
             for kind, test in kinds.items():
                 if (name == "ring") == (kind == "ring"):
-                    yield ["check", saved(folder, f"{name}.uspec", text), saved(folder, f"{kind}{size}.test", test)]
+                    yield ["check", named(f"{folder}/{name}.uspec", text), named(f"{folder}/{kind}{size}.test", test)]
 
 
 def answer(program: str, words: list[str], seconds: float | None = None) -> Answer | None:
@@ -63,11 +66,11 @@ def compare_bytes(old: str, new: str, is_long: bool) -> bool:
     """Compares what both write. Whether all is the same."""
     count = differ = 0
     with tempfile.TemporaryDirectory() as folder:
-        for call in calls(folder, is_long):
+        for words in calls(folder, is_long):
             count += 1
-            if answer(old, call) != answer(new, call):
+            if answer(old, words) != answer(new, words):
                 differ += 1
-                print("differs:", " ".join(call), flush=True)
+                print("differs:", " ".join(words), flush=True)
     print(f"{count} calls, {differ} differ")
     return differ == 0
 
@@ -86,39 +89,35 @@ def compare_counts(old: str, new: str) -> None:
 
 def random_pair(folder: str, seed: int) -> list[str]:
     """A model and a test: choices between edges, or what tests/random_texts.py made in the folder."""
-    paths = [os.path.join(folder, f"{seed}.{ending}") for ending in ("uspec", "test")]
+    model, test = f"{folder}/{seed}.uspec", f"{folder}/{seed}.test"
     if seed % 2:
         random = Random(seed)
         stages = random.randint(4, 9)
-        for path, text in zip(paths, (choices(random.randint(stages, 6 * stages), seed, stages), ONE_WRITE)):
-            with open(path, "w", encoding="ascii") as file:
-                file.write(text)
-    return paths
+        named(model, choices(random.randint(stages, 6 * stages), seed, stages))
+        named(test, ONE_WRITE)
+    return [model, test]
 
 
 def judge_random(made: str, old: str, new: str, seed: int, seconds: int) -> tuple[list[str], bool, int]:
     """What is wrong of a random pair, one line each; whether it has a verdict; and how many answers of OLD did not come."""
     wrong, has_verdict, late = [], False, 0
     paths = random_pair(made, seed)
-    with tempfile.TemporaryDirectory() as folder:
-        for command in ("check", "check2"):
-            before = answer(old, [command, *paths], seconds)
-            now = answer(new, [command, *paths], 3 * seconds)
-            if now is None:
-                wrong.append(f"seed {seed}: {command} has no answer in time")
-                continue
-            after, also = now
-            if before is None:
-                late += 1
-            elif before[1] != also or before[0].partition(b"\n")[0] != after.partition(b"\n")[0]:
-                wrong.append(f"seed {seed}: {command} says {after[:40]!r}, and said {before[0][:40]!r}")
-            if also in (0, 1):
-                has_verdict = True
-                certificate = os.path.join(folder, "certificate")
-                with open(certificate, "wb") as file:
-                    file.write(after)
-                if answer(new, ["verify", *paths, certificate]) != (b"verified " + after.partition(b"\n")[0] + b"\n", also):
-                    wrong.append(f"seed {seed}: verify refuses what {command} writes")
+    for command in ("check", "check2"):
+        before = answer(old, [command, *paths], seconds)
+        now = answer(new, [command, *paths], 3 * seconds)
+        if now is None:
+            wrong.append(f"seed {seed}: {command} has no answer in time")
+            continue
+        after, also = now
+        if before is None:
+            late += 1
+        elif before[1] != also or before[0].partition(b"\n")[0] != after.partition(b"\n")[0]:
+            wrong.append(f"seed {seed}: {command} says {after[:40]!r}, and said {before[0][:40]!r}")
+        if also in (0, 1):
+            has_verdict = True
+            certificate = named(f"{made}/{seed}.{command}", after.decode("latin-1"))
+            if answer(new, ["verify", *paths, certificate]) != (b"verified " + after.partition(b"\n")[0] + b"\n", also):
+                wrong.append(f"seed {seed}: verify refuses what {command} writes")
     return wrong, has_verdict, late
 
 
@@ -145,20 +144,20 @@ def random_words(words: list[str]) -> tuple[int, int, str, str] | None:
     return None
 
 
-def main() -> int:
+def main(given: list[str]) -> int:
     """Compares."""
-    words = [word for word in sys.argv[1:] if word not in ("--long", "--count")]
+    words = [word for word in given if word not in ("--long", "--count")]
     asked = random_words(words[1:]) if words[:1] == ["--random"] else None
     if asked is not None:
         return 0 if compare_random(*asked) else 1
     if len(words) != 2:
         print(__doc__)
         return 2
-    if "--count" in sys.argv:
+    if "--count" in given:
         compare_counts(*words)
         return 0
-    return 0 if compare_bytes(words[0], words[1], "--long" in sys.argv) else 1
+    return 0 if compare_bytes(words[0], words[1], "--long" in given) else 1
 
 
 if __name__ == "__main__":
-    sys.exit(main())
+    call(main)

@@ -12,16 +12,11 @@ three calls, in one run. Each ratio stands beside its bar; the exit status is 1 
 else 0. It takes ten minutes on four processors.
 """
 import os
-import sys
-import tempfile
 from concurrent.futures import ThreadPoolExecutor
 from dataclasses import dataclass
 
-sys.dont_write_bytecode = True
-
-# pylint: disable=wrong-import-position
 import solvers
-from counting import Counted, counted, instructions, program, saved, show, timed
+from counting import Counted, call, counted, instructions, program, saved, show, timed
 from questions import FIRST_PAIRS, ONE_WRITE, choices
 
 COMMANDS = ("check", "check2")
@@ -57,31 +52,31 @@ def tell_splits(group: Group, counts: list[list[Counted]]) -> None:
     print(f"{group.what}: splits of check2 over those of check before: {splits[1] / group.before[0]:.3f}", flush=True)
 
 
-def line_cost(folder: str, paths: list[str], count: Counted) -> float:
+def line_cost(paths: list[str], count: Counted) -> float:
     """The instructions of `verify` for each line of the text, without those for the files."""
-    head = instructions("verify", *paths, saved(folder, "head", f"{count.first}\n"))
-    return (instructions("verify", *paths, saved(folder, "whole", count.text)) - head) / count.text.count("\n")
+    head, whole = (instructions("verify", *paths, text) for text in saved(f"{count.first}\n", count.text))
+    return (whole - head) / count.text.count("\n")
 
 
-def ask(folder: str, axioms: int, seed: int) -> tuple[list[Counted], list[float], bool]:
+def ask(axioms: int, seed: int) -> tuple[list[Counted], list[float], bool]:
     """One random question: what both versions take, what a line of each costs, and whether the verdicts are one."""
-    paths = [saved(folder, f"{axioms}-{seed}.uspec", choices(axioms, seed)), saved(folder, "one.test", ONE_WRITE)]
+    paths = saved(choices(axioms, seed), ONE_WRITE)
     counts = [counted(command, *paths) for command in COMMANDS]
     took = [timed(LIMIT, os.devnull, program(), command, *paths, calls=3).seconds for command in COMMANDS]
     verdicts = {solvers.verdict_of(count.text) for count in counts}
     beside = ""
-    for name, peer in solvers.asked(folder, paths, "cadical", limit=LIMIT):
+    for name, peer in solvers.asked(paths, "cadical", limit=LIMIT):
         assert peer is not None
         verdicts |= {peer.verdict} if peer.call.has_ended else set()
         beside = f"   {name} with its proof {1000 * peer.call.seconds:8.1f} ms"
     print(f"{axioms} axioms, seed {seed}: {counts[0].turns:6} splits, {counts[1].turns:6} with signs"
           f"   {1000 * took[0]:8.1f} ms, {1000 * took[1]:8.1f} ms{beside}", flush=True)
-    return counts, [line_cost(folder, paths, count) for count in counts], len(verdicts) == 1
+    return counts, [line_cost(paths, count) for count in counts], len(verdicts) == 1
 
 
-def random_questions(folder: str, group: Group) -> bool:
+def random_questions(group: Group) -> bool:
     """The random questions of a group. Whether the verdicts are one."""
-    found = [ask(folder, axioms, seed) for axioms, seed in group.questions]
+    found = [ask(axioms, seed) for axioms, seed in group.questions]
     tell_splits(group, [[counts[k] for counts, _, _ in found] for k in range(2)])
     ratio = sum(costs[1] for _, costs, _ in found) / sum(costs[0] for _, costs, _ in found)
     show(f"{group.what}: verify, instructions a line", ratio, 1.1)
@@ -92,7 +87,7 @@ def first_pairs() -> bool:
     """The shipped pairs of 28 November 2026. Whether the verdicts are one."""
     calls = [(command, *pair) for command in COMMANDS for pair in FIRST_PAIRS]
     with ThreadPoolExecutor(os.cpu_count()) as pool:
-        counts = list(pool.map(lambda call: counted(*call), calls))
+        counts = list(pool.map(lambda words: counted(*words), calls))
     plain, signed = counts[: len(FIRST_PAIRS)], counts[len(FIRST_PAIRS):]
     tell_splits(PAIRS, [plain, signed])
     written = sum(count.text.count("\nsplit ") for count in plain)
@@ -102,17 +97,16 @@ def first_pairs() -> bool:
 
 def main(words: list[str]) -> int:
     """The questions, and then the shipped pairs; or one question."""
-    with tempfile.TemporaryDirectory() as folder:
-        if words:
-            same = ask(folder, int(words[0]), int(words[1]))[2]
-        else:
-            same = all([random_questions(folder, group) for group in GROUPS] + [first_pairs()])
+    if len(words) not in (0, 2) or not all(word.isdecimal() for word in words):
+        raise SystemExit(__doc__)
+    if words:
+        same = ask(int(words[0]), int(words[1]))[2]
+    else:
+        same = all([random_questions(group) for group in GROUPS] + [first_pairs()])
     if not same:
         print("VERDICTS DIFFER")
     return 0 if same else 1
 
 
 if __name__ == "__main__":
-    if len(sys.argv) not in (1, 3) or not all(word.isdecimal() for word in sys.argv[1:]):
-        sys.exit(f"{__doc__}")
-    sys.exit(main(sys.argv[1:]))
+    call(main)

@@ -11,9 +11,9 @@ import sys
 from collections.abc import Iterator
 from dataclasses import dataclass
 
-from counting import TOP, Timed, timed
+from counting import TOP, Timed, saved, timed
 
-SECOND = [sys.executable, os.path.join(TOP, "tools"), "second"]
+SECOND = [sys.executable, "-E", "-S", f"{TOP}/tools", "second"]
 # the line that is a verdict, of the program and of solvers
 VERDICT = re.compile(r"^(?:s )?(un)?(?:observable|sat(?:isfiable)?)$", re.MULTILINE | re.IGNORECASE)
 # each with the kind of its question, and its words, of which some stand for paths
@@ -39,28 +39,23 @@ def verdict_of(text: str) -> bool | None:
     return None if found is None else not found[1]
 
 
-def written(path: str, kind: str, paths: list[str], limit: float) -> str | None:
-    """The path of a question that is written anew; None where that takes longer than the limit."""
-    return path if timed(limit, path, *SECOND, kind, *paths).has_ended else None
-
-
 def asked(
-    folder: str, paths: list[str], *names: str, calls: int = 1, writing: float = math.inf, limit: float = math.inf
+    paths: list[str], *names: str, calls: int = 1, writing: float = math.inf, limit: float = math.inf
 ) -> Iterator[tuple[str, Answered | None]]:
     """Those of these solvers that are here, each with what it takes for the question, the least of so many calls, each ended at a
     limit of seconds; None where writing the question takes longer than its own."""
-    questions: dict[str, str | None] = {}
-    out, proof = (os.path.join(folder, name) for name in ("answer", "proof"))
+    questions: dict[str, str] = {}
+    out, proof = saved("", "")
     for name in filter(shutil.which, names):
         kind, words = SOLVERS[name]
         if kind not in questions:
-            path = os.path.join(folder, {"dimacs": "question.cnf", "smt": "question.smt2"}[kind])
-            questions[kind] = written(path, kind, paths, writing)
-        question = questions[kind]
-        if question is None:
+            [path] = saved("")
+            # one that is not written in time is none
+            questions[kind] = path if timed(writing, path, *SECOND, kind, *paths).has_ended else ""
+        if not questions[kind]:
             yield name, None
             continue
-        places = {"question": question, "proof": proof}
+        places = {"question": questions[kind], "proof": proof}
         call = timed(limit, out, *(places.get(word, word) for word in words), calls=calls)
         with open(out, encoding="latin-1") as file:
-            yield name, Answered(call, verdict_of(file.read()), os.path.getsize(question))
+            yield name, Answered(call, verdict_of(file.read()), os.path.getsize(questions[kind]))

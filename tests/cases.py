@@ -6,6 +6,7 @@ runs them too. A case is what `gives`, `judge` or `holds` judges by a name that 
 from __future__ import annotations
 
 import atexit
+import compileall
 import contextlib
 import functools
 import io
@@ -22,7 +23,9 @@ import threading
 import time
 import traceback
 import unittest
+from concurrent.futures import ThreadPoolExecutor
 from dataclasses import dataclass
+from hashlib import sha256
 from typing import Any, Callable, Iterator, Mapping, Sequence
 
 TOP = os.path.dirname(os.path.dirname(os.path.realpath(__file__)))
@@ -69,7 +72,8 @@ def program() -> str:
 
 def lay_apart(folder: str) -> None:
     """Has the scripts stand in this folder as where they are installed, with the program that stands here: which one does is not
-    asked there at each call, and what is in Python is compiled once."""
+    asked there at each call, and what is in Python is compiled."""
+    compileall.compile_dir(f"{TOP}/tools", quiet=1)
     for it in ("commands.txt", "pipecheck", "script", "tools"):
         if os.path.isdir(f"{TOP}/{it}"):
             shutil.copytree(f"{TOP}/{it}", f"{folder}/{it}")
@@ -84,7 +88,6 @@ def lay_apart(folder: str) -> None:
             shutil.copy2(f"{TOP}/examples/suite", f"{folder}/examples/suite")
         else:
             os.symlink(f"{TOP}/examples/{it}", f"{folder}/examples/{it}")
-    subprocess.run([sys.executable, "-S", "-m", "compileall", "-q", f"{folder}/tools"], check=True)
 
 
 @functools.cache
@@ -133,6 +136,12 @@ def run(
     options["stdin" if isinstance(stdin, int) else "input"] = stdin
     done = subprocess.run(list(words), env=environment(env), check=False, **{**options, **how})
     return Done(status_of(done.returncode), text_of(done.stdout or b""), text_of(done.stderr or b""))
+
+
+def at_once(count: int, ask: Callable[[], Done]) -> list[Done]:
+    """What so many calls give that are made side by side."""
+    with ThreadPoolExecutor(count) as pool:
+        return [it.result() for it in [pool.submit(ask) for _ in range(count)]]
 
 
 def status_of(code: int) -> int:
@@ -245,6 +254,12 @@ def write(path: str, text: str | bytes) -> str:
     return path
 
 
+def hash_of(path: str) -> str:
+    """The SHA-256 of a file."""
+    with open(path, "rb") as file:
+        return sha256(file.read()).hexdigest()
+
+
 def read(path: str) -> str:
     """The text of a file, which may be named from the top of the repository."""
     with open(os.path.join(TOP, path), "rb") as file:
@@ -298,6 +313,10 @@ class Cases(unittest.TestCase):
         """By the script standard output and the status are the program's, and this is said on standard error."""
         self.gives(name, [pipecheck(), *words], status, out, err)
 
+    def holds(self, name: str, condition: object) -> None:
+        """This holds."""
+        self.same(name, bool(condition))
+
     def skips(self, name: str, why: str) -> None:
         """A case that cannot run here, which is said and is no passed one."""
         with self.case(name):
@@ -349,7 +368,7 @@ def copy_checkout(folder: str, copied: Sequence[str] = (), crates: Sequence[str]
 def _take(path: str, at: str, is_copied: bool) -> None:
     """Copies what stands at this path, or links it."""
     if is_copied and os.path.isdir(path):
-        shutil.copytree(path, at, symlinks=True, ignore=shutil.ignore_patterns("__pycache__", "out"))
+        shutil.copytree(path, at, symlinks=True, ignore=shutil.ignore_patterns("out"))
     else:
         os.symlink(path, at)
 

@@ -9,26 +9,26 @@ of which each class is run by a process of its own. The status is 1 where a case
 """
 from __future__ import annotations
 
-import ast
+import gc
+import importlib
 import os
 import shutil
 import subprocess
 import sys
 import tempfile
+import traceback
 import unittest
-from concurrent.futures import ThreadPoolExecutor, as_completed
-from dataclasses import dataclass
-from hashlib import sha256
-from typing import Any
+from typing import IO, Any
 
 from tests import cases
 
 # those that take longest begin first
 LONGEST = (
-    "suite_shipped", "suite_calls", "pages", "install", "agree", "suite_tables", "answers", "benches", "checks", "script", "build",
-    "explain", "lint", "mend", "test86", "compare",
+    "lint", "pages", "script", "install_ended", "suite_shipped", "checks", "build", "install", "benches", "mend", "suite_calls",
+    "explain", "agree", "suite_tables", "test86",
 )
 HEADS = {"ok": "ok      ", "failed": "FAILED  ", "skipped": "skipped "}
+Class = type[unittest.TestCase]
 
 
 class Lines(unittest.TestResult):
@@ -80,63 +80,65 @@ class Lines(unittest.TestResult):
             self.tell("failed", subtest, (self.failures if issubclass(err[0], test.failureException) else self.errors)[-1][1])
 
 
-def run_class(name: str, wanted: str | None) -> int:
-    """Runs one class of cases in this process."""
-    cases.wanted = wanted
-    result = Lines()
-    unittest.defaultTestLoader.loadTestsFromName(name).run(result)
-    return 0 if result.wasSuccessful() else 1
-
-
-@dataclass(frozen=True)
-class Part:
-    """A part of a family that is run by a process of its own."""
-
-    family: str
-    words: list[str]
-
-
-def classes_of(path: str) -> list[str]:
-    """The classes of cases in a module: those at its top with a test method."""
-    with open(path, encoding="utf-8") as file:
-        tree = ast.parse(file.read())
-    return [
-        it.name for it in tree.body
-        if isinstance(it, ast.ClassDef)
-        and any(isinstance(part, ast.FunctionDef) and part.name.startswith("test") for part in it.body)
-    ]
-
-
-def families() -> dict[str, list[Part]]:
+def families() -> list[str]:
     """All families, those that take longest first."""
-    found: dict[str, list[Part]] = {}
-    for it in sorted(os.listdir(f"{cases.TOP}/tests")):
-        if it.startswith("test_") and it.endswith(".py"):
-            family, module = it[5:-3], it[:-3]
-            start = [sys.executable, "-S", "-m", "tests.running", "--class"]
-            found[family] = [Part(family, [*start, f"tests.{module}.{name}"]) for name in classes_of(f"{cases.TOP}/tests/{it}")]
-    return dict(sorted(found.items(), key=lambda it: LONGEST.index(it[0]) if it[0] in LONGEST else len(LONGEST)))
+    found = [it[5:-3] for it in sorted(os.listdir(f"{cases.TOP}/tests")) if it.startswith("test_") and it.endswith(".py")]
+    return sorted(found, key=lambda it: LONGEST.index(it) if it in LONGEST else len(LONGEST))
 
 
-def run_part(part: Part) -> list[str]:
-    """The lines of a part."""
-    done = subprocess.run(part.words, cwd=cases.TOP, stdin=subprocess.DEVNULL, stdout=subprocess.PIPE, check=False)
-    lines = cases.text_of(done.stdout).splitlines()
-    if done.returncode != 0 and not any(it.startswith("FAILED") for it in lines):
-        lines.append(f"FAILED  {' '.join(part.words[-1:])} came to no end: status {cases.status_of(done.returncode)}")
+def classes_of(family: str) -> list[Class]:
+    """The classes of cases of a family: those of its module with a test method of their own."""
+    module = importlib.import_module(f"tests.test_{family}")
+    own = [it for it in vars(module).values() if isinstance(it, type) and it.__module__ == module.__name__]
+    return [it for it in own if issubclass(it, unittest.TestCase) and any(name.startswith("test") for name in vars(it))]
+
+
+def begin(its: Class) -> tuple[int, IO[bytes]]:
+    """Begins to run a class of cases, by a process that is forked from this one: what it imports is there already. Returns the
+    process, and the file that it writes to."""
+    file = tempfile.TemporaryFile()
+    process = os.fork()
+    if process == 0:
+        status = 1
+        try:
+            os.dup2(file.fileno(), 1)
+            with open(1, "w", encoding="utf-8", errors="surrogateescape") as sys.stdout:
+                result = Lines()
+                unittest.defaultTestLoader.loadTestsFromTestCase(its).run(result)
+                status = 0 if result.wasSuccessful() else 1
+        except BaseException:  # pylint: disable=broad-exception-caught
+            traceback.print_exc()
+        finally:
+            os._exit(status)
+    return process, file
+
+
+def lines_of(its: Class, file: IO[bytes], status: int) -> list[str]:
+    """The lines of a class that has ended."""
+    with file:
+        file.seek(0)
+        lines = cases.text_of(file.read()).splitlines()
+    if status != 0 and not any(it.startswith("FAILED") for it in lines):
+        lines.append(f"FAILED  {its.__module__}.{its.__name__} came to no end: status {cases.status_of(status)}")
     return lines
 
 
-def run_all(parts: list[Part]) -> int:
-    """Runs these parts on all processors. Prints their lines, and how many cases passed."""
+def run_all(waiting: list[Class]) -> int:
+    """Runs these classes on all processors. Prints their lines, and how many cases passed."""
     counts = dict.fromkeys(HEADS, 0)
-    with ThreadPoolExecutor(len(os.sched_getaffinity(0))) as pool:
-        for ended in as_completed([pool.submit(run_part, it) for it in parts]):
-            for line in ended.result():
-                sys.stdout.buffer.write(line.encode("utf-8", "surrogateescape") + b"\n")
-                for how, head in HEADS.items():
-                    counts[how] += line.startswith(head.rstrip() + " ")
-            sys.stdout.flush()
+    running: dict[int, tuple[Class, IO[bytes]]] = {}
+    while waiting or running:
+        # one more than there are processors, since some wait
+        while waiting and len(running) <= len(os.sched_getaffinity(0)):
+            its = waiting.pop(0)
+            process, file = begin(its)
+            running[process] = its, file
+        process, status = os.wait()
+        for line in lines_of(*running.pop(process), os.waitstatus_to_exitcode(status)):
+            sys.stdout.buffer.write(line.encode("utf-8", "surrogateescape") + b"\n")
+            for how, head in HEADS.items():
+                counts[how] += line.startswith(head.rstrip() + " ")
+        sys.stdout.flush()
     by = "" if cases.is_proved() else cases.BY_THAT_PROGRAM
     print(f"{counts['ok']} passed, {counts['failed']} failed, {counts['skipped']} skipped{by}")
     return 0 if counts["ok"] and not counts["failed"] else 1
@@ -150,8 +152,8 @@ def shorten_python(folder: str) -> None:
     os.environ["PATH"] = f"{folder}:{os.environ['PATH']}"
 
 
-def start(room: str, parts: list[Part]) -> int:
-    """Has the program and the scripts stand that are tested, in this folder, and runs these parts."""
+def start(room: str, names: list[str]) -> int:
+    """Has the program and the scripts stand that are tested, in this folder, and runs these families."""
     program = cases.program()
     shorten_python(f"{room}/python")
     # what pages show of explain has lines as where there is no terminal
@@ -159,30 +161,28 @@ def start(room: str, parts: list[Part]) -> int:
     os.mkdir(f"{room}/apart")
     cases.lay_apart(f"{room}/apart")
     os.environ["APART"] = f"{room}/apart"
-    # what families and tools import is compiled once, and not beside the sources
-    os.environ["PYTHONPYCACHEPREFIX"] = f"{room}/compiled"
-    with open(program, "rb") as file:
-        hashed = sha256(file.read()).hexdigest()
-    print(f"on the {'proved program' if cases.is_proved() else 'program without its proofs'}, sha256 {hashed}", flush=True)
-    return run_all(parts)
+    which = "proved program" if cases.is_proved() else "program without its proofs"
+    print(f"on the {which}, sha256 {cases.hash_of(program)}", flush=True)
+    with open(os.devnull, "rb") as nothing:
+        os.dup2(nothing.fileno(), 0)
+    classes = [it for name in names for it in classes_of(name)]
+    # what is there by now no process that is forked looks through for what is to be freed
+    gc.freeze()
+    return run_all(classes)
 
 
 def main() -> int:
     """Answers one call."""
-    words = sys.argv[1:]
-    if words[:1] == ["--class"]:
-        return run_class(words[1], words[2] if len(words) > 2 else None)
+    words, known = sys.argv[1:], families()
+    if len(words) == 2 and words[1] not in known:
+        cases.wanted = words.pop()
+    unknown = [it for it in words if it not in known]
+    if unknown:
+        print(f"tests: there is no family {unknown[0]}; those that there are: {' '.join(sorted(known))}", file=sys.stderr)
+        return 2
     room = tempfile.mkdtemp(prefix="pipecheck-tests-")
     try:
-        known = families()
-        wanted = words[1] if len(words) == 2 and words[1] not in known else None
-        names = words[:1] if wanted is not None else words
-        unknown = [it for it in names if it not in known]
-        if unknown:
-            print(f"tests: there is no family {unknown[0]}; those that there are: {' '.join(sorted(known))}", file=sys.stderr)
-            return 2
-        parts = [part for name in names or known for part in known[name]]
-        return start(room, [Part(it.family, [*it.words, *([wanted] if wanted else [])]) for it in parts])
+        return start(room, words or known)
     except subprocess.CalledProcessError as fault:
         print(f"tests: {fault}", file=sys.stderr)
         print("0 passed, 1 failed")

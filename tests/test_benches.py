@@ -5,16 +5,18 @@ by a model of the search, a program of its own that makes the same choices.
 
 A solver may be missing where this runs, so one stands in for each: it answers what its name says, if the question is one.
 So a case shows that the question was written and that verdicts are compared, and measures nothing. Programs that refuse all
-stand in for two builds, and one that leaves an empty library for the prover. Where valgrind is missing, what counts is skipped.
+stand in for two builds, and one that leaves an empty library for the prover. What counts is counted by valgrind itself once for
+each kind of count, and skipped where that is missing; in the other cases one stands in that counts bytes of files.
 """
 from __future__ import annotations
 
 import os
 import re
+import runpy
 import shutil
 import sys
 
-from tests.cases import TOP, Cases, Done, program, read, run, write
+from tests.cases import TOP, Cases, Done, call, program, read, run, write
 
 # a question is whole where its last line, or its first, is there
 SMT = """#!/bin/sh
@@ -24,6 +26,14 @@ echo {}
 DIMACS = """#!/bin/sh
 case $(head -n 1 "$2") in 'c '* | 'p cnf '*) ;; *) exit 1 ;; esac
 echo {}ISFIABLE
+"""
+# it runs the program, and counts the bytes of its last file
+VALGRIND = """#!/bin/sh
+: >"${2#*=}"
+shift 2
+"$@"
+for last; do :; done
+echo "Collected : $(wc -c <"$last")" >&2
 """
 # in the place of the toolchain: its prover takes some seconds, leaves a library, and judges crates, and edits, with these statuses
 TOOLCHAIN = """#!/bin/sh
@@ -44,25 +54,21 @@ exit 2
 """
 
 # what a case shows, the words, the verdict of the solvers, or what the prover does, the status, and what is printed among other
-# things; a case of the first table needs valgrind
+# things
 Row = tuple[str, tuple[str, ...], str, int, str]
-COUNTED: list[Row] = [
-    ("bench/signs.py on one random question", ("signs", "24", "1"), "sat", 0, "24 axioms, seed 1: "),
+COUNTED: Row = ("bench/signs.py on one random question", ("signs", "24", "1"), "sat", 0, "24 axioms, seed 1: ")
+PAIR, RINGS = ("peers", "--shipped", "--test", "MP", "sc-inorder"), ("peers", "2")
+OTHERS: list[Row] = [
     ("bench/signs.py on one random question, and a judge that knows no verdict", ("signs", "24", "1"), "unknown", 1,
      "VERDICTS DIFFER"),
     ("bench/runs.py on a ring of 8 cores, and judges of another verdict", ("runs", "--counting", "0", "ring-8"), "sat", 1,
      "VERDICTS DIFFER"),
     ("bench/commands.py of the cores of one model", ("commands", "core", "sc-inorder"), "unsat", 0, "of 3 pairs with a core "),
     ("bench/reading.py of listings", ("reading", "listings"), "unsat", 0, "\n2,000 lines of comments"),
-]
-PAIR = ("peers", "--shipped", "--test", "MP", "sc-inorder")
-OTHERS: list[Row] = [
     ("bench/peers.py on one shipped pair, and a judge of the same verdict", PAIR, "unsat", 0, "1 pairs: "),
     ("bench/peers.py on one shipped pair, and a judge of another verdict", PAIR, "sat", 1, "VERDICTS DIFFER: sc-inorder MP"),
     ("bench/peers.py on one shipped pair, and a judge that knows no verdict", PAIR, "unknown", 1, "VERDICTS DIFFER: sc-inorder MP"),
     ("bench/peers.py with a test that is not there", ("peers", "--shipped", "--test", "none", "sc-inorder"), "unsat", 2, ""),
-    ("bench/peers.py on a ring of 2 cores, and judges of another verdict for shipped tests", ("peers", "2"), "sat", 1,
-     "ring of 2 "),
     ("bench/runs.py of a question that is not there", ("runs", "none"), "unsat", 2, ""),
     ("bench/families.py of one seed on one model", ("families", "1", "1", "sc-inorder"), "unsat", 0, " 6 questions: 0 over 1 s"),
     ("bench/families.py of a model that is not there", ("families", "1", "1", "none"), "unsat", 2, ""),
@@ -75,12 +81,14 @@ OTHERS: list[Row] = [
     ("bench/reading.py of a model that asks for memory", ("reading", "memory", "80,000"), "unsat", 0,
      "predicate-unknown; with half of it want of memory"),
     ("bench/reading.py of a part that is not there", ("reading", "none"), "unsat", 2, ""),
+]
+RANDOM = ("same", "--random", "1", "--seconds", "5")
+SLOW: list[Row] = [
     ("bench/same.py on a random pair that the new program answers a little later than the old one may",
-     ("same", "--random", "1", "--seconds", "5", "refuses_at_once", "refuses_late"), "unsat", 0,
-     "1 random pairs, 0 with a verdict, 0 wrong; 0 answers"),
+     (*RANDOM, "refuses_at_once", "refuses_late"), "unsat", 0, "1 random pairs, 0 with a verdict, 0 wrong; 0 answers"),
     ("bench/same.py on a random pair that the old program answers too late",
-     ("same", "--random", "1", "--seconds", "5", "refuses_late", "refuses_at_once"), "unsat", 0,
-     "1 random pairs, 0 with a verdict, 0 wrong; 2 answers"),
+     (*RANDOM, "refuses_late", "refuses_at_once"), "unsat", 0, "1 random pairs, 0 with a verdict, 0 wrong; 2 answers"),
+    ("bench/peers.py on a ring of 2 cores, and judges of another verdict for shipped tests", RINGS, "sat", 1, "ring of 2 "),
 ]
 COSTS: list[Row] = [
     ("bench/costs.py of a commit and itself", ("costs", "--between", "HEAD", "HEAD", "pc_case"), "0 0 1", 0, "\npc_case "),
@@ -113,7 +121,7 @@ class Benches(Cases):
         """A program of this name and text."""
         os.chmod(write(f"{self.work}/{name}", text), 0o755)
 
-    def called(self, words: tuple[str, ...], says: str) -> Done:
+    def called(self, words: tuple[str, ...], says: str, is_counted: bool = False) -> Done:
         """A call beside programs that say, or do, this."""
         shutil.rmtree(self.work)
         os.makedirs(f"{self.work}/kit/bin")
@@ -121,46 +129,48 @@ class Benches(Cases):
             seconds, of_crates, of_edits = says.split()
             self.put("rt", TOOLCHAIN.format(folder=self.work))
             self.put("kit/bin/rattle", PROVER.format(folder=self.work, seconds=seconds, of_crates=of_crates, of_edits=of_edits))
-        self.put("z3", SMT.format(says))
-        for name in ("cadical", "minisat"):
-            self.put(name, DIMACS.format(says.upper()))
+        if not is_counted:
+            self.put("valgrind", VALGRIND)
+        # rings are asked of the one alone, since each kind of question takes long to write
+        for name in ("minisat",) if words == RINGS else ("cadical", "z3"):
+            self.put(name, SMT.format(says) if name == "z3" else DIMACS.format(says.upper()))
         for name, wait in (("refuses_at_once", "0"), ("refuses_late", "8")):
             self.put(name, REFUSER.format(wait))
         return self.again(*words)
 
     def again(self, name: str, *words: str) -> Done:
         """A call beside the programs that are there."""
-        env = {"PATH": f"{self.work}:{os.environ['PATH']}", "PIPECHECK": program()}
-        return run([sys.executable, "-S", f"{TOP}/bench/{name}.py", *words], env=env, seconds=3600)
+        def entry() -> None:
+            sys.path[0] = f"{TOP}/bench"
+            runpy.run_path(f"{TOP}/bench/{name}.py", run_name="__main__")
 
-    def judge_rows(self, rows: list[Row], is_counted: bool = False) -> None:
+        return call(entry, [name, *words], env={"PATH": f"{self.work}:{os.environ['PATH']}", "PIPECHECK": program()})
+
+    def judge_rows(self, *rows: Row, is_counted: bool = False) -> None:
         """Each call ends as it should."""
         for name, words, says, status, prints in rows:
-            if is_counted and shutil.which("valgrind") is None:
-                self.skips(name, "there is no valgrind")
-            elif self.is_wanted(name):
+            if self.is_wanted(name):
                 with self.case(name):
-                    done = self.called(words, says)
+                    done = self.called(words, says, is_counted)
                     self.assertEqual(done.status, status, done.err)
                     self.assertIn(prints, done.out)
                     self.assertNotIn("Traceback", done.err)
 
 
 class Counted(Benches):
-    """What counts instructions and splits."""
+    """What counts instructions and splits, by valgrind itself."""
 
-    def test_rows(self) -> None:
-        self.judge_rows(COUNTED, True)
-
-    def test_splits(self) -> None:
+    def test_counts(self) -> None:
         names = (
             "bench/runs.py on a ring of 8 cores", "bench/runs.py counts the splits of a ring of 8 cores that were counted before"
         )
         if shutil.which("valgrind") is None:
-            for it in names:
+            for it in (COUNTED[0], *names):
                 self.skips(it, "there is no valgrind")
-        elif any(map(self.is_wanted, names)):
-            done = self.called(("runs", "--counting", "600", "ring-8"), "unsat")
+            return
+        self.judge_rows(COUNTED, is_counted=True)
+        if any(map(self.is_wanted, names)):
+            done = self.called(("runs", "--counting", "600", "ring-8"), "unsat", True)
             with self.case(names[0]):
                 self.assertEqual(done.status, 0, done.err)
                 self.assertIn(" 50 turns,  1.00 x 50 ", done.out)
@@ -168,15 +178,18 @@ class Counted(Benches):
                 # n² - 2n + 2 of n cores, and with signs n² - 4n + 6, as of the rings of 16 and of 32
                 counts = [(str(it), str(it)) for it in (8 * 8 - 2 * 8 + 2, 8 * 8 - 4 * 8 + 6)]
                 self.assertEqual(TURNS.findall(done.out), counts)
-        if "SPLITS" not in os.environ:
-            return
+        if "SPLITS" in os.environ:
+            self.judge_splits()
+
+    def judge_splits(self) -> None:
+        """All questions whose splits were counted before."""
         for name in ("lock-4-lost", "run-1", "lines-11"):
             with self.case(f"the second implementation makes the splits of {name} that were counted before"):
-                found = TURNS.findall(self.called(("runs", "--counting", "600", name), "unsat").out)
+                found = TURNS.findall(self.called(("runs", "--counting", "600", name), "unsat", True).out)
                 self.assertEqual([of_second for _, of_second in found], [str(it) for it in SPLITS[name]])
         for name, (one, other) in SPLITS.items():
             with self.case(f"bench/runs.py makes at most {MOST} times {one} and {other} splits of {name}"):
-                found = [int(it) for it, _ in TURNS.findall(self.called(("runs", "--counting", "0", name), "unsat").out)]
+                found = [int(it) for it, _ in TURNS.findall(self.called(("runs", "--counting", "0", name), "unsat", True).out)]
                 self.assertEqual([it <= MOST * most for it, most in zip(found, (one, other), strict=True)], [True, True], found)
 
 
@@ -184,27 +197,36 @@ class Others(Benches):
     """What counts nothing."""
 
     def test_rows(self) -> None:
-        self.judge_rows(OTHERS)
+        self.judge_rows(*OTHERS)
 
     def test_families(self) -> None:
-        drawn = "bench/families.py draws tests of 40 to 64 micro-ops for {} by their seeds"
-        for family in filter(lambda it: self.is_wanted(drawn.format(it)), FAMILIES):
-            with self.case(drawn.format(family)):
-                texts = []
-                for seed in "123":
-                    one, other = (self.called(("families", family, seed), "unsat") for _ in range(2))
-                    self.assertEqual(one, other)
-                    self.assertEqual((one.status, one.out.partition("\n")[0]), (0, 'Litmus "t".'), one.err)
-                    self.assertIn(one.out.count("\nMicroop "), range(40, 65))
-                    texts.append(one.out)
-                self.assertEqual(len(set(texts)), 3)
+        # by another interpreter, whose hashes are others
+        asked = "from makers import drawn; print(*(drawn(it, seed) for it in {} for seed in (1, 2, 3)), sep='|', end='')"
+        texts = iter(run([sys.executable, "-S", "-c", asked.format(FAMILIES)], cwd=f"{TOP}/bench").out.split("|"))
+        for family in FAMILIES:
+            drawn = [next(texts) for _ in range(3)]
+            name = f"bench/families.py draws tests of 40 to 64 micro-ops for {family} by their seeds"
+            if self.is_wanted(name):
+                with self.case(name):
+                    for text, seed in zip(drawn, "123"):
+                        self.assertEqual(self.again("families", family, seed), Done(0, text, ""))
+                        self.assertTrue(text.startswith('Litmus "t".\n'))
+                        self.assertIn(text.count("\nMicroop "), range(40, 65))
+                    self.assertEqual(len(set(drawn)), 3)
+
+
+class Slow(Benches):
+    """What takes long by the clock."""
+
+    def test_rows(self) -> None:
+        self.judge_rows(*SLOW)
 
 
 class Costs(Benches):
     """What proofs cost."""
 
     def test_rows(self) -> None:
-        self.judge_rows(COSTS)
+        self.judge_rows(*COSTS)
 
     def test_goes_on(self) -> None:
         """bench/costs.py that goes on where another call ended"""

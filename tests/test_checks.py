@@ -74,7 +74,7 @@ class Types(Checked):
         )
         self.judge_parts(said, {
             **{f"types of {it}": f"{copy}:" for it, copy in copies.items()},
-            **{f"types of {it}": it for it in sorted(glob("tools/*/", root_dir=TOP))},
+            **{f"types of {it}": it for it in sorted(glob("tools/[!_]*/", root_dir=TOP))},
             "types of what all tools take": "tools/",
             "types of the families of tests": "tests/",
             "types of the scripts of bench/": "bench/",

@@ -12,12 +12,11 @@ import signal
 import subprocess
 import tempfile
 import time
-from hashlib import sha256
 from typing import Any, Callable, Iterator, Mapping, Sequence
 
 from tests.cases import (
-    NO_TOOLCHAIN, TOP, Cases, Done, as_proved, call, command, command_forms, commands_without, copy_checkout, environment,
-    program, read, run, status_of, tool, within, write
+    NO_TOOLCHAIN, TOP, Cases, Done, as_proved, at_once, call, command, command_forms, commands_without, copy_checkout, environment,
+    hash_of, program, read, run, status_of, tool, within, write
 )
 
 # where these stand tests.cases says
@@ -117,21 +116,15 @@ class Installs(Cases):
     def does(self, name: str, status: int, out: str, err: str, words: Sequence[str | bytes], **how: Any) -> None:
         """A command that runs there ends with this status and writes these two texts."""
         done = self.run_it(words, **how)
-        with self.case(name):
-            self.assertEqual((done.status, done.out, done.err), (status, out, err))
+        self.same(name, (done.status, done.out, done.err), (status, out, err))
 
     def installs(self, name: str, prefix: str) -> None:
         """An install under this folder."""
         self.does(name, 0, installed_under(prefix), "", ["./install", prefix])
 
-    def takes_away(self, name: str, prefix: str, err: str = "", said: str | None = None) -> None:
+    def takes_away(self, name: str, prefix: str, err: str = "") -> None:
         """An uninstall of what stands there."""
-        self.does(name, 0, f"removed from {said or prefix}\n", err, ["./install", "--uninstall", prefix])
-
-    def holds(self, name: str, condition: object) -> None:
-        """This holds."""
-        with self.case(name):
-            self.assertTrue(condition)
+        self.does(name, 0, f"removed from {prefix}\n", err, ["./install", "--uninstall", prefix])
 
 
 class Installed(Installs):
@@ -174,8 +167,7 @@ class Installed(Installs):
     def test_install(self) -> None:
         with self.case("no program is installed without its proofs"):
             self.assertEqual((self.without.status, self.without.out, self.without.err), (125, "", NO_TOOLCHAIN))
-        with self.case("install"):
-            self.assertEqual((self.done.status, self.done.out, self.done.err), (0, installed_under(self.prefix), ""))
+        self.same("install", (self.done.status, self.done.out, self.done.err), (0, installed_under(self.prefix), ""))
         with self.case("... for all to read"):
             paths = [f"{place}/{it}" for place, folders, files in os.walk(self.prefix) for it in (*folders, *files)]
             self.assertEqual([it for it in paths if not os.path.islink(it) and os.stat(it).st_mode & 0o444 != 0o444], [])
@@ -196,10 +188,7 @@ pipecheck: in-order.uspec is a model, and stands for the test: check MODEL TEST
             ("nothing to prove", 125, "", "pipecheck: an installed copy has nothing to prove\n", ("--prove",)),
         ):
             done = self.answer("pipecheck", *words)
-            with self.case(f"installed: {name}"):
-                self.assertEqual((done.status, done.out, done.err), (status, out, err))
-        with open(program(), "rb") as file:
-            hashed = sha256(file.read()).hexdigest()
+            self.same(f"installed: {name}", (done.status, done.out, done.err), (status, out, err))
         shutil.copy2(f"{self.tree}/examples/x86/SB.litmus", self.work)
         examples = f"{self.tree}/examples"
         for name, line, words in (
@@ -208,14 +197,13 @@ pipecheck: in-order.uspec is a model, and stands for the test: check MODEL TEST
                 "mend", f"{examples}/buggy/weak-ooo-read-read.uspec", f"{examples}/tests/CoRR.test"
             )),
             ("explain", '1.0@0:Mem before 2.0@1:Mem   "rf" by axiom "read"', ("explain", "in-order.uspec", "mp.test")),
-            ("--version", f"^program sha256 {hashed}$", ("--version",)),
+            ("--version", f"^program sha256 {hash_of(program())}$", ("--version",)),
         ):
             with self.case(f"installed: {name}"):
                 self.assertRegex(self.answer("pipecheck", *words).out, f"(?m){line}")
-        with self.case("installed: of script/ what an installed copy calls"):
-            self.assertEqual(sorted(os.listdir(f"{self.tree}/script")), [
-                "calls", "completion.bash", "completion.fish", "completion.zsh", "standing", "telling",
-            ])
+        self.same("installed: of script/ what an installed copy calls", sorted(os.listdir(f"{self.tree}/script")), [
+            "calls", "completion.bash", "completion.fish", "completion.zsh", "standing", "telling",
+        ])
         os.rename(f"{self.tree}/docs", f"{self.tree}/away")
         self.holds(
             "without its pages a refusal is told", self.answer("pipecheck", "check", "in-order.uspec", "in-order.uspec").status == 3
@@ -296,8 +284,7 @@ pipecheck: in-order.uspec is a model, and stands for the test: check MODEL TEST
                 if not shutil.which(shell):
                     self.skips(f"completion by {shell}: {name}", f"there is no {shell}")
                     continue
-                with self.case(f"completion by {shell}: {name}"):
-                    self.assertEqual(found[number : number + 1], [offered])
+                self.same(f"completion by {shell}: {name}", found[number : number + 1], [offered])
 
     def test_editors(self) -> None:
         """They know each word of the languages."""
@@ -343,8 +330,7 @@ class Refusals(Installs):
         else:
             installer.TOP = self.top
             done = call(lambda: installer.main("judge", prefix), ["installer.py"])
-        with self.case(name):
-            self.assertEqual((done.status, done.out, done.err), (1, "", f"install: {said}\n"))
+        self.same(name, (done.status, done.out, done.err), (1, "", f"install: {said}\n"))
         self.holds("... and nothing is changed", before == state(self.work))
 
     @contextlib.contextmanager
@@ -467,8 +453,7 @@ class Folders(Installs):
         self.run_it(["./install", deep])
         write(f"{self.work}/deep/mine", "mine\n")
         self.takes_away("a folder on the way that holds something else", deep)
-        with self.case("... is left"):
-            self.assertEqual([it[0] for it in state(self.work)], ["deep", "deep/mine"])
+        self.same("... is left", [it[0] for it in state(self.work)], ["deep", "deep/mine"])
 
     def test_the_folder_of_the_user(self) -> None:
         home = f"{self.work}/home"
@@ -495,8 +480,7 @@ class Fails(Installs):
     def is_refused(self, name: str, said: str, words: Sequence[str], **how: Any) -> None:
         """A call ends with 1, and says this but for which tree it is."""
         done = self.run_it(words, **how)
-        with self.case(name):
-            self.assertEqual((done.status, done.out, re.sub(r"lib/pipecheck.[12]", "lib/TREE", done.err)), (1, "", said))
+        self.same(name, (done.status, done.out, re.sub(r"lib/pipecheck.[12]", "lib/TREE", done.err)), (1, "", said))
 
     def older_one(self) -> Callable[[str], None]:
         """Installs one, and judges later whether it is left as it was."""
@@ -504,8 +488,7 @@ class Fails(Installs):
         before = state(self.way)
 
         def is_left(name: str = "... leaves the older one") -> None:
-            with self.case(name):
-                self.assertEqual(state(self.way), before)
+            self.same(name, state(self.way), before)
 
         return is_left
 
@@ -513,8 +496,7 @@ class Fails(Installs):
         """The size of a file is limited to 300 blocks of 1,024 bytes, which the program alone exceeds."""
         limit, said = within(resource.RLIMIT_FSIZE, 300 * 1024), f"install: {self.way}/lib/TREE/pipecheck_cli: File too large\n"
         self.is_refused("a file that cannot be written", said, ["./install", self.way], preexec_fn=limit)
-        with self.case("... leaves nothing"):
-            self.assertEqual(os.listdir(self.way), [])
+        self.same("... leaves nothing", os.listdir(self.way), [])
         is_left = self.older_one()
         self.is_refused("an update that fails", said, ["./install", self.way], preexec_fn=limit)
         is_left("... leaves the older one")
@@ -581,17 +563,10 @@ exec "$PYTHON" -c 'import sys, time; open(sys.argv[1], "w").close(); time.sleep(
         is_left("... and all is left")
 
     def test_two_at_once(self) -> None:
-        its = environment({"PATH": self.plain, "PIPECHECK_PROVED": None})
-        calls = [
-            subprocess.Popen(
-                ["./install", self.way], cwd=self.top, env=its, stdin=subprocess.DEVNULL, stdout=subprocess.PIPE,
-                stderr=subprocess.STDOUT, text=True,
-            ) for _ in range(2)
-        ]
-        said = [[row for row in it.communicate()[0].splitlines(True) if "another call works" not in row] for it in calls]
+        calls = at_once(2, lambda: self.run_it(["./install", self.way]))
         with self.case("two installs at once"):
-            self.assertEqual([it.returncode for it in calls], [0, 0])
-            self.assertEqual(["".join(it) for it in said], [installed_under(self.way)] * 2)
+            self.assertEqual([(it.status, it.out) for it in calls], [(0, installed_under(self.way))] * 2)
+            self.assertEqual([row for it in calls for row in it.err.splitlines() if "another call works" not in row], [])
         self.does("... of which one stands", 1, VERDICT, "", [f"{self.way}/bin/pipecheck", "check", *MP])
         shutil.copy2(f"{TOP}/install", f"{self.way}/lib/pipecheck")
         self.does(

@@ -14,6 +14,8 @@ import shutil
 import signal
 import sys
 import tempfile
+from contextlib import suppress
+from itertools import count
 from typing import Callable, NamedTuple, Sequence
 
 from tests.cases import Cases
@@ -81,10 +83,8 @@ class Room(NamedTuple):
 
     def uninstall(self) -> None:
         """An uninstall; that there is nothing is no fault."""
-        try:
+        with suppress(Refused):
             installer.Installation(self.prefix).uninstall()
-        except Refused:
-            pass
 
     def install_former(self) -> None:
         """An installation of the former layout, as that installer made it, of version 1."""
@@ -156,51 +156,55 @@ def is_change(event: str, words: tuple[object, ...]) -> bool:
     return event in EVENTS or bool(writes)
 
 
-def ended(change: int, work: Callable[[], None]) -> bool:
-    """Does the work in a process of its own, which is ended before this change; whether it was."""
+def status_of(work: Callable[[], int | None], change: Callable[[int, str], None]) -> int:
+    """Does the work in a process of its own, where this is called before each change with its number and its event; how it ends."""
     pid = os.fork()
     if pid == 0:
-        count = 0
+        numbers, status = count(1), 3
 
         def look(event: str, words: tuple[object, ...]) -> None:
-            nonlocal count
             if is_change(event, words):
-                count += 1
-                if count == change:
-                    os.kill(os.getpid(), signal.SIGKILL)
-
-        sys.addaudithook(look)
-        work()
-        os._exit(0)
-    status = os.waitpid(pid, 0)[1]
-    if not os.WIFSIGNALED(status) and status != 0:
-        raise AssertionError(f"status {status} before change {change}")
-    return os.WIFSIGNALED(status)
-
-
-def lacks_room(change: int, work: Callable[[], None]) -> bool:
-    """Does the work in a process of its own, where the disk is full from this change on; whether it wanted room."""
-    pid = os.fork()
-    if pid == 0:
-        count, wanted = 0, False
-
-        def look(event: str, words: tuple[object, ...]) -> None:
-            nonlocal count, wanted
-            if is_change(event, words):
-                count += 1
-                if count >= change and event in TAKE_ROOM:
-                    wanted = True
-                    raise OSError(errno.ENOSPC, os.strerror(errno.ENOSPC))
+                change(next(numbers), event)
 
         sys.addaudithook(look)
         try:
+            status = work() or 0
+        finally:
+            os._exit(status)
+    return os.waitstatus_to_exitcode(os.waitpid(pid, 0)[1])
+
+
+def ended(last: int, work: Callable[[], None]) -> bool:
+    """Does the work in a process that is ended before this change; whether it was."""
+    def change(number: int, _: str) -> None:
+        if number == last:
+            os.kill(os.getpid(), signal.SIGKILL)
+
+    status = status_of(work, change)
+    assert status in (0, -signal.SIGKILL), f"status {status} before change {last}"
+    return status != 0
+
+
+def lacks_room(first: int, work: Callable[[], None]) -> bool:
+    """Does the work in a process where the disk is full from this change on; whether it wanted room."""
+    wanted = False
+
+    def change(number: int, event: str) -> None:
+        nonlocal wanted
+        if number >= first and event in TAKE_ROOM:
+            wanted = True
+            raise OSError(errno.ENOSPC, os.strerror(errno.ENOSPC))
+
+    def refused() -> int:
+        try:
             work()
         except OSError as error:
-            os._exit(1 if error.errno == errno.ENOSPC else 2)
+            return 1 if error.errno == errno.ENOSPC else 2
         # one that it could do without
-        os._exit(2 if wanted else 0)
-    status = os.waitstatus_to_exitcode(os.waitpid(pid, 0)[1])
-    judge(status in (0, 1), f"status {status} without room for change {change}")
+        return 2 if wanted else 0
+
+    status = status_of(refused, change)
+    assert status in (0, 1), f"status {status} without room for change {first}"
     return status == 1
 
 
@@ -244,19 +248,6 @@ def prepare(room: Room, case: Case) -> Texts:
     return own
 
 
-class Beginning:
-    """What stands before each call of a case: it is made once, and written again then."""
-
-    def __init__(self, room: Room, case: Case) -> None:
-        self.room = room
-        self.own = prepare(room, case)
-        self.before, self.old, self.names = texts(room.around), commands(room)[:1], served(room)
-
-    def begin(self) -> None:
-        """Has it stand."""
-        put(self.before, self.room.around)
-
-
 def put(found: Texts, folder: str) -> None:
     """Has a folder with these files, links and folders stand in the place of another one."""
     shutil.rmtree(folder, ignore_errors=True)
@@ -272,80 +263,74 @@ def put(found: Texts, folder: str) -> None:
                 file.write(text)
 
 
-def judge(condition: bool, what: str) -> None:
-    """Ends the case where something does not hold."""
-    if not condition:
-        raise AssertionError(what)
-
-
 def run_case(room: Room, case: Case, new: Texts) -> int:
     """Ends the work before each change in turn; answers how many changes there are."""
-    change, its = 0, Beginning(room, case)
-    own, old, names = its.own, its.old, its.names
-    while True:
-        change += 1
-        its.begin()
+    own = prepare(room, case)
+    before, old, names = texts(room.around), commands(room)[:1], served(room)
+    for change in count(1):
+        put(before, room.around)
         is_ended = ended(change, (lambda: room.install("2")) if case.work == "install" else room.uninstall)
         after = commands(room)
-        judge(all(tree in old + [new] for tree in after), f"a part of a tree before change {change}")
-        judge(len(after) in (0, 2) or case.work == "uninstall", f"one command of two before change {change}")
-        judge(names <= served(room) or case.work == "uninstall", f"a command or a page is lost before change {change}")
+        assert all(tree in old + [new] for tree in after), f"a part of a tree before change {change}"
+        assert len(after) in (0, 2) or case.work == "uninstall", f"one command of two before change {change}"
+        assert names <= served(room) or case.work == "uninstall", f"a command or a page is lost before change {change}"
         kept = texts(room.around)
         room.install("2")
-        judge(commands(room) == [new, new], f"install after change {change}")
+        assert commands(room) == [new, new], f"install after change {change}"
         rest = [name for name in texts(room.around) if "-part" in name]
-        judge(not rest, f"a rest after change {change}")
+        assert not rest, f"a rest after change {change}"
         room.uninstall()
-        judge(texts(room.around) == own, f"install and uninstall after change {change}")
+        assert texts(room.around) == own, f"install and uninstall after change {change}"
         put(kept, room.around)
         room.uninstall()
-        judge(texts(room.around) == own, f"uninstall after change {change}")
+        assert texts(room.around) == own, f"uninstall after change {change}"
         if not is_ended:
-            return change
+            break
+    return change
 
 
 def run_without_room(room: Room, case: Case, new: Texts) -> int:
     """Has the disk full from each change on in turn; answers how many changes there are."""
-    change, its = 0, Beginning(room, case)
-    own, before, old, names = its.own, its.before, its.old, its.names
-    while True:
-        change += 1
-        its.begin()
+    own = prepare(room, case)
+    before, old, names = texts(room.around), commands(room)[:1], served(room)
+    for change in count(1):
+        put(before, room.around)
         if case.work == "uninstall":
-            judge(not lacks_room(1, room.uninstall), "an uninstall wants room")
-            judge(texts(room.around) == own, "uninstall without room")
-            return change
+            assert not lacks_room(1, room.uninstall), "an uninstall wants room"
+            assert texts(room.around) == own, "uninstall without room"
+            break
         is_full = lacks_room(change, lambda: room.install("2"))
         if case.before == "former":
             # of the two layouts each command is of the one or of the other
-            judge(all(tree in old + [new] for tree in commands(room)), f"a part of a tree without room for {change}")
-            judge(names <= served(room), f"a command or a page is lost without room for change {change}")
+            assert all(tree in old + [new] for tree in commands(room)), f"a part of a tree without room for {change}"
+            assert names <= served(room), f"a command or a page is lost without room for change {change}"
         elif is_full:
-            judge(texts(room.around) == before, f"something is left, or lost, without room for change {change}")
-        judge(is_full or commands(room) == [new, new], f"install without room for change {change}")
-        judge(not lacks_room(1, room.uninstall), f"an uninstall wants room after change {change}")
-        judge(texts(room.around) == own, f"uninstall without room after change {change}")
+            assert texts(room.around) == before, f"something is left, or lost, without room for change {change}"
+        assert is_full or commands(room) == [new, new], f"install without room for change {change}"
+        assert not lacks_room(1, room.uninstall), f"an uninstall wants room after change {change}"
+        assert texts(room.around) == own, f"uninstall without room after change {change}"
         if not is_full:
-            return change
+            break
+    return change
 
 
 def run_again_and_again(room: Room, new: Texts) -> int:
     """Ends call after call at changes of chance, the same in each run; answers how many calls were ended."""
-    chance, count = random.Random(48), 0
+    chance, ends = random.Random(48), 0
     for number in range(35):
         case = CASES[number % len(CASES)]
         own = prepare(room, case)
         old, names = commands(room)[:1], served(room)
         for _ in range(4):
-            count += ended(chance.randrange(1, 90), lambda: room.install("2"))
+            ends += ended(chance.randrange(1, 90), lambda: room.install("2"))
             after = commands(room)
-            judge(all(tree in old + [new] for tree in after) and len(after) in (0, 2), f"after {count} calls")
-            judge(names <= served(room), f"a command or a page is lost after {count} calls")
+            assert all(tree in old + [new] for tree in after) and len(after) in (0, 2), f"after {ends} calls"
+            assert names <= served(room), f"a command or a page is lost after {ends} calls"
         if number % 2:
-            count += ended(chance.randrange(1, 30), room.uninstall)
+            ends += ended(chance.randrange(1, 30), room.uninstall)
         room.uninstall()
-        judge(texts(room.around) == own, f"uninstall after {count} calls")
-    return count
+        assert texts(room.around) == own, f"uninstall after {ends} calls"
+    return ends
 
 
 def page(_: str, name: str) -> str:

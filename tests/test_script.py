@@ -5,15 +5,13 @@ import os
 import re
 import resource
 import shutil
-import subprocess
 import tempfile
 import time
-from hashlib import sha256
 from typing import Any, Mapping
 
 from tests.cases import (
-    NO_TOOLCHAIN, TOP, Cases, Done, as_proved, command, command_forms, commands_without, copy_checkout, environment, files_below,
-    forms_of, program, read, run, unread, within, write
+    NO_TOOLCHAIN, TOP, Cases, Done, as_proved, at_once, command, command_forms, commands_without, copy_checkout, files_below,
+    forms_of, hash_of, program, read, run, unread, within, write
 )
 
 MP = ("examples/in-order.uspec", "examples/mp.test")
@@ -28,7 +26,8 @@ OUT = "crates/pipecheck_cli/out"
 
 
 class InACopy(Cases):
-    """Cases in a copy of the checkout without what was built, where the proved program alone answers."""
+    """Cases in a copy of the checkout without what was built, where the proved program alone answers, as if it were of fewer crates,
+    which are read at each call."""
 
     # those that cases change
     crates: tuple[str, ...] = ()
@@ -41,6 +40,7 @@ class InACopy(Cases):
         cls.room = tempfile.mkdtemp(prefix="pipecheck-tests-")
         cls.addClassCleanup(shutil.rmtree, cls.room, ignore_errors=True)
         cls.copy = copy_checkout(f"{cls.room}/copy", ("tests", "tools"), cls.crates)
+        write(f"{cls.copy}/crates.txt", "pc_common:\nsolver: pc_common\nmodel_bench: pc_common\npipecheck_cli: pc_common solver\n")
         cls.plain = commands_without(f"{cls.room}/plain", "rt")
 
     def call_it(self, *words: str, env: Mapping[str, str | None] | None = None, **how: Any) -> Done:
@@ -75,8 +75,7 @@ class NotBuilt(InACopy):
         for form in (("help", "explain"), ("explain", "-h")):
             self.answers(" ".join(form), form, 0, forms_of("explain"))
         done = self.call_it("help", "agree")
-        with self.case("help agree"):
-            self.assertEqual((done.status, "".join(done.out.splitlines(True)[:3]), done.err), (0, forms_of("agree"), ""))
+        self.same("help agree", (done.status, "".join(done.out.splitlines(True)[:3]), done.err), (0, forms_of("agree"), ""))
         with self.case("... has the options too"):
             self.assertIn("--between MODEL MODEL", done.out)
 
@@ -116,8 +115,7 @@ esac
         )
         with self.case("... leaves no program"):
             self.assertFalse(os.path.exists(f"{self.copy}/{OUT}/pipecheck_cli"))
-        with self.case("... and no copy"):
-            self.assertEqual(os.listdir(room), [])
+        self.same("... and no copy", os.listdir(room), [])
         os.remove(unproved)
         built(
             "a build is told at its start and its end", 1, VERDICT, f"{BEGINS}pipecheck: proved and built after TIME\n", *CHECK
@@ -125,19 +123,9 @@ esac
         built("... and is not made again", 1, VERDICT, "", *CHECK)
         os.remove(f"{self.copy}/{OUT}/pipecheck_cli")
         os.remove(checks)
-        its = environment({**env, "PIPECHECK_PROVED": "yes"})
-        calls = [
-            subprocess.Popen(
-                ["./pipecheck", *CHECK], cwd=self.copy, env=its, stdin=subprocess.DEVNULL, stdout=subprocess.DEVNULL,
-                stderr=subprocess.DEVNULL,
-            ) for _ in range(3)
-        ]
-        for it in calls:
-            it.wait()
-        with self.case("three calls at once build once"):
-            self.assertEqual(read(checks), "check\n")
-        with self.case("a build leaves no copy"):
-            self.assertEqual(os.listdir(room), [])
+        at_once(3, lambda: self.call_it(*CHECK, env=env))
+        self.same("three calls at once build once", read(checks), "check\n")
+        self.same("a build leaves no copy", os.listdir(room), [])
         shutil.rmtree(f"{self.copy}/{OUT}")
 
     def test_the_commit(self) -> None:
@@ -160,8 +148,7 @@ esac
             "a copied script has no checkout", CHECK, 125, "",
             f"pipecheck: {alone} has neither a checkout nor an installed program beside this script: nothing is built\n", cwd=alone,
         )
-        with self.case("... and leaves nothing behind"):
-            self.assertEqual(os.listdir(alone), ["pipecheck"])
+        self.same("... and leaves nothing behind", os.listdir(alone), ["pipecheck"])
         shutil.copy2(f"{TOP}/commands.txt", alone)
         shutil.copytree(f"{TOP}/script", f"{alone}/script")
         self.answers(
@@ -172,15 +159,9 @@ esac
 
 
 class Built(InACopy):
-    """A copy where the program that is tested stands as the proved one, as if it were of fewer crates, which are read at each
-    call."""
+    """A copy where the program that is tested stands as the proved one."""
 
     crates = ("pc_common", "model_bench")
-
-    @classmethod
-    def setUpClass(cls) -> None:
-        super().setUpClass()
-        write(f"{cls.copy}/crates.txt", "pc_common:\nsolver: pc_common\nmodel_bench: pc_common\npipecheck_cli: pc_common solver\n")
 
     def setUp(self) -> None:
         super().setUp()
@@ -231,11 +212,9 @@ class Built(InACopy):
             )
         self.stands("... which is called as before")
         command(f"{self.work}/tools/rt", "echo 'a kit logic 0123456789abcdef'\n")
-        with open(program(), "rb") as file:
-            hashed = sha256(file.read()).hexdigest()
         self.answers(
             "--version names the program", ("--version",), 0,
-            f"commit unknown\nlogic 0123456789abcdef\nprogram sha256 {hashed}, proved\n",
+            f"commit unknown\nlogic 0123456789abcdef\nprogram sha256 {hash_of(program())}, proved\n",
             env={"PATH": f"{self.work}/tools:{self.plain}"},
         )
 
