@@ -43,8 +43,9 @@ from tools.second.judging import Refused as CertificateRefused
 from tools.second.judging import judge, second_line
 from tools.second.lifted import LiftedJudge, judge_lifted
 from tools.second.models import Model
-from tools.second.patterns import is_observable, read_pattern, sweep, sweep_text
+from tools.second.patterns import read_pattern, sweep, sweep_text
 from tools.second.scopes import read_model
+from tools.second.searching import is_observable
 from tools.second.main import LIMIT, Refused, ask, core, judged, judged_three
 from tools.standing import tested
 

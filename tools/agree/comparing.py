@@ -19,8 +19,9 @@ from tools.second.cases import Case
 from tools.second.listings import read_file_items
 from tools.second.models import Model
 from tools.second.patterns import ENDING as PATTERN
-from tools.second.patterns import is_observable, read_pattern, sweep
+from tools.second.patterns import read_pattern, sweep
 from tools.second.scopes import read_model
+from tools.second.searching import is_observable
 from tools.second.tokens import Fault
 from tools.standing import standing
 from tools.suite.allowing import MACHINE, Machines
