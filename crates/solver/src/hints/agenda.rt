@@ -28,6 +28,7 @@ struct Change {
 /// Where the search looks next: the pending Ors of the first open branch, each with its standing, so that a turn looks
 /// only where something changed. No clause speaks of it: what it proposes is tested, and where it proposes nothing all
 /// rows are looked at.
+#[derive(Drop)]
 pub(crate) struct Agenda {
     watch: Watch,
     standings: Vec<Standing>,
@@ -52,29 +53,6 @@ pub(crate) struct Agenda {
     changes: Changes,
     /// Whether memory was refused to the trail or the marks.
     is_refused: bool,
-}
-
-// By hand: docs/DECISIONS.md, "Drops are written by hand".
-impl Drop for Agenda {
-    fn drop(self) {
-        let Agenda {
-            watch: _,
-            standings: _,
-            stamps: _,
-            moment: _,
-            pending: _,
-            open: _,
-            ready: _,
-            forced: _,
-            truths: _,
-            trail: _,
-            marks: _,
-            seen: _,
-            failures: _,
-            changes: _,
-            is_refused: _,
-        } = self;
-    }
 }
 
 impl Agenda {

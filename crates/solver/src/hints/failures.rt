@@ -54,6 +54,7 @@ struct Fork {
 ///
 /// The search still refutes each side, since a refutation has each of them. So where a left side has failed
 /// without its split, the right one is searched by the same splits: they are replayed.
+#[derive(Drop)]
 pub(crate) struct Failures {
     /// The level of a split is its place here, from 1; level 0 is what the whole tree asserts.
     forks: Vec<Fork>,
@@ -76,26 +77,6 @@ pub(crate) struct Failures {
     cuts: Vec<Cut>,
     /// Whether memory was refused to the forks, the levels, the scripts or the cuts.
     is_refused: bool,
-}
-
-// By hand: docs/DECISIONS.md, "Drops are written by hand".
-impl Drop for Failures {
-    fn drop(self) {
-        let Failures {
-            forks: _,
-            literals: _,
-            positions: _,
-            levels: _,
-            conflicts: _,
-            records: _,
-            scripts: _,
-            found: _,
-            guide: _,
-            end: _,
-            cuts: _,
-            is_refused: _,
-        } = self;
-    }
 }
 
 impl Failures {
