@@ -1,6 +1,6 @@
 -- Flags for the truth of subtrees and for the positions of a branch, and the sides of an Or by its rows.
-use Rattle.std.proofs.Common.{◌≡◌, ◌<◌, inl, inr, ℕ, ◌+◌, Bool, true, false, ◌&&◌, ◌||◌, List, Some, None, length, refl, sym, ap, ◌∙◌, subst, arith}
-use Rattle.std.{proofs.lemmas.Bool.{or_left, or_right}, specs.Prelude.{slice_get, ◌↔◌, IsTrue}}
+use Rattle.std.proofs.Common.{◌≡◌, ◌<◌, inl, inr, ℕ, ◌+◌, Bool, true, false, ◌&&◌, ◌||◌, List, Some, length, refl, sym, ap, ◌∙◌, subst, arith}
+use Rattle.std.{proofs.lemmas.{Bool.{and_from, or_left, or_right}, Option.{none-some}}, specs.Prelude.{slice_get, ◌↔◌, IsTrue}}
 use Rattle.pc_ground.specs.declared.{literal.Literal.{Literal}, row.{Row.{Row}, RowKind.TheVariants.{True, False, Lit, And, Or}}, version.Version.{Version}}
 use Rattle.pc_ground.specs.{declared.version.Version.TheVariants.{One, Two}, Literals.{Joins, IsPresent, Holds}}
 use Rattle.pc_ground.specs.{Tree.{Tree, always, never, leaf, both, either, negation, turned, size_of}, Rows.{root_kind, rows_of}, Refutes.{Signed, subtree_at}}
@@ -11,21 +11,19 @@ use Rattle.solver.specs.{Spelled.{spelled, IsSpelled}, Met.{IsMet}, Flags.{AreTr
 use Rattle.solver.specs.{Places.{left_side, denied_left, right_side, IsOr, IsDeniedIn, AreSides}, declared.tree.side.Side.{Side}}
 use Rattle.solver.proofs.HasAsserted.{row_root, length_spelled}
 
+-- the two trees, each at its place
+two_children : (t : Tree ℕ) (p right : ℕ) → HasChildren t p right
+    → (a : Tree ℕ) × (b : Tree ℕ) × (subtree_at t (p + 1) ≡ Some a) × (subtree_at t right ≡ Some b) × (right ≡ p + 1 + size_of a)
+two_children t p right (of_both a b e) = (let places = children_both t p a b e in (a, b, places.0, places.1, refl))
+two_children t p right (of_either a b e) = (let places = children_either t p a b e in (a, b, places.0, places.1, refl))
+
 pub children_inside : (rows : List (Row ℕ)) (p right : ℕ) → IsSpelled rows → HasChildren (spelled rows) p right → (p + 1 < length rows) × (right < length rows)
-children_inside rows p right flat (of_both a b e) =
-    let t = spelled rows in
-    let children = children_both t p a b e in
-    let first = subtree_size t (p + 1) a children.0 in
-    let second = subtree_size t (p + 1 + size_of a) b children.1 in
+children_inside rows p right flat has =
+    let k = two_children (spelled rows) p right has in
+    let first = subtree_size (spelled rows) (p + 1) k.0 k.2 in
+    let second = subtree_size (spelled rows) right k.1 k.3 in
     let len = length_spelled rows flat in
-    (omega (arith, first, size_pos a, len), omega (arith, second, size_pos b, len))
-children_inside rows p right flat (of_either a b e) =
-    let t = spelled rows in
-    let children = children_either t p a b e in
-    let first = subtree_size t (p + 1) a children.0 in
-    let second = subtree_size t (p + 1 + size_of a) b children.1 in
-    let len = length_spelled rows flat in
-    (omega (arith, first, size_pos a, len), omega (arith, second, size_pos b, len))
+    (omega (arith, first, size_pos k.0, len), omega (arith, second, size_pos k.1, len))
 
 root_skip : (rows : List (Row ℕ)) (p : ℕ) (r : Row ℕ) (s : Tree ℕ) → IsSpelled rows → p < size_of (spelled rows) → slice_get rows p ≡ Some r
     → subtree_at (spelled rows) p ≡ Some s → r.skip ≡ size_of s
@@ -35,16 +33,10 @@ root_skip rows p r s flat inside at e =
 
 pub right_is : (rows : List (Row ℕ)) (p right : ℕ) (r : Row ℕ) → IsSpelled rows → HasChildren (spelled rows) p right
     → slice_get rows (p + 1) ≡ Some r → right ≡ p + 1 + r.skip
-right_is rows p right r flat (of_both a b e) at =
-    let t = spelled rows in
-    let children = children_both t p a b e in
-    let first = subtree_size t (p + 1) a children.0 in
-    ap (λ n. p + 1 + n) (sym (root_skip rows (p + 1) r a flat (omega (arith, first, size_pos a)) at children.0))
-right_is rows p right r flat (of_either a b e) at =
-    let t = spelled rows in
-    let children = children_either t p a b e in
-    let first = subtree_size t (p + 1) a children.0 in
-    ap (λ n. p + 1 + n) (sym (root_skip rows (p + 1) r a flat (omega (arith, first, size_pos a)) at children.0))
+right_is rows p right r flat has at =
+    let k = two_children (spelled rows) p right has in
+    let first = subtree_size (spelled rows) (p + 1) k.0 k.2 in
+    omega (arith, k.4, root_skip rows (p + 1) r k.0 flat (omega (arith, first, size_pos k.0)) at k.2)
 
 -- the kind of a row is that of the tree that stands there
 pub kind_at : (rows : List (Row ℕ)) (p : ℕ) (r : Row ℕ) (s : Tree ℕ) → IsSpelled rows → p < length rows → slice_get rows p ≡ Some r
@@ -122,11 +114,8 @@ met_both t ls p flags (both a b) pair e at truths children =
     let left = truths (p + 1) a (omega arith) places.0 in
     let right = truths (p + 1 + size_of a) b (omega arith) places.1 in (
       (λ h. (left.0 (sym are.0 ∙ and_first pair.0 pair.1 h), right.0 (sym are.1 ∙ and_second pair.0 pair.1 h))),
-      (λ h. and_both pair.0 pair.1 (are.0 ∙ left.1 h.0) (are.1 ∙ right.1 h.1)),
+      (λ h. and_from pair.0 pair.1 (are.0 ∙ left.1 h.0) (are.1 ∙ right.1 h.1)),
     )
-  where
-    and_both : (x y : Bool) → x ≡ true → y ≡ true → (x && y) ≡ true
-    and_both x y e f = rw (e, f) refl
 met_both t ls p flags (either a b) pair e at truths children = cc
 
 pub met_either : (t : Tree ℕ) (ls : List (Literal ℕ)) (p : ℕ) (flags : List Bool) (s : Tree ℕ) (pair : Bool × Bool) → root_kind s ≡ Or → subtree_at t p ≡ Some s
@@ -155,10 +144,7 @@ pub truths_none : (rows : List (Row ℕ)) (ls : List (Literal ℕ)) (from : ℕ)
     → from ≡ length rows → AreTruths (spelled rows) ls from flags
 truths_none rows ls from flags flat e = λ p s past at.
     let none = subtree_past (spelled rows) p (omega (arith, past, e, length_spelled rows flat)) in
-    absurd (no_some s (sym none ∙ at))
-  where
-    no_some : (s : Tree ℕ) → None ≡ Some s → ⊥
-    no_some s e = cc
+    absurd (none-some s (sym none ∙ at))
 
 -- an Or of the tree or of its negation has the children of the tree's And or Or there
 pub signed_children : (t : Tree ℕ) (n : Bool) (p : ℕ) (a b : Tree ℕ) → subtree_at (turned n t) p ≡ Some (either a b) → HasChildren t p (p + 1 + size_of a)

@@ -1,6 +1,6 @@
 -- A clash of asserted literals closes a branch: over numbers, and so over nodes.
-use Rattle.std.proofs.Common.{◌≡◌, ◌≤◌, ◌<◌, inl, inr, ℕ, Bool, List, [], ◌∷◌, ◌++◌, map, length, get_or, Option, Some, None, ◌⊎◌, refl, sym, ap, ◌∙◌, subst}
-use Rattle.std.proofs.lemmas.{List.Elements.{All-contains, All-nil, All-cons, All-push, All-append}, Option.{slice_get_cases, slice_get_read, slice_get-map}}
+use Rattle.std.proofs.Common.{◌≡◌, ◌<◌, inl, inr, ℕ, Bool, List, [], ◌∷◌, ◌++◌, map, length, get_or, Option, refl, sym, ap, ◌∙◌, subst}
+use Rattle.std.proofs.lemmas.{List.{map_push, Elements.{All-contains, All-nil, All-cons, All-push, All-append}}, Option.{slice_get_cases, slice_get_read, slice_get-map}}
 use Rattle.std.specs.{Prelude.{Contains, All, slice_get}, Option.{unwrap_or, option_map}}
 use Rattle.pc_ground.specs.declared.{node_key.NodeKey.{NodeKey}, row.{Row.{Row}, RowKind.{RowKind, TheVariants.{True, False, Lit, And, Or}}}}
 use Rattle.pc_ground.specs.{declared.literal.Literal.{Literal, TheVariants.{Node, Edge, NoNode, NoEdge}}, Rows.{literals_of_kind, turned_row, turned_rows}}
@@ -28,16 +28,12 @@ renamed_present f ls a (as_node h) = as_node (renamed_in f (Node a) ls h)
 renamed_present f ls a (as_start b h) = as_start (f b) (renamed_in f (Edge a b) ls h)
 renamed_present f ls a (as_end b h) = as_end (f b) (renamed_in f (Edge b a) ls h)
 
-map_append : {X Y : Type 0} (f : X → Y) (xs ys : List X) → map f (xs ++ ys) ≡ map f xs ++ map f ys
-map_append f [] ys = refl
-map_append f (x ∷ xs) ys = ap (λ zs. f x ∷ zs) (map_append f xs ys)
-
 contradiction_renamed : {M N : Type 0} (f : M → N) (ls : List (Literal M)) (l : Leaf M) → IsContradiction ls l
     → IsContradiction (map (renamed f) ls) (renamed_leaf f l)
 contradiction_renamed f ls l (a_cycle a via leads) = a_cycle (f a) (map f via) (renamed_leads f ls a via a leads)
 contradiction_renamed {M} {N} f ls l (a_path a via b leads has) =
     let P : List N → Type 0 = λ xs. IsContradiction (map (renamed f) ls) (path (f a ∷ xs)) in
-    subst P (sym (map_append f via (b ∷ []))) (a_path (f a) (map f via) (f b) (renamed_leads f ls a via b leads) (renamed_in f (NoEdge a b) ls has))
+    subst P (sym (map_push f via b)) (a_path (f a) (map f via) (f b) (renamed_leads f ls a via b leads) (renamed_in f (NoEdge a b) ls has))
 contradiction_renamed f ls l (an_absence a has present) = an_absence (f a) (renamed_in f (NoNode a) ls has) (renamed_present f ls a present)
 
 -- the leaf of a clash closes the branch
@@ -56,7 +52,8 @@ has_nodes f ls l (an_absence a has present) = tt
 pub clash_leaf : (nodes : List PlainNode) (ls : List (Literal ℕ)) (k : Clash) → IsClash ls k → IsLeaf (clash_step nodes k)
 clash_leaf nodes ls k c = has_nodes (node_at nodes) ls (leaf_of k) c
 
-all_by_in : {X : Type 0} (P : X → Type 0) (xs : List X) → ((x : X) → In x xs → P x) → All P xs
+-- All, from each element
+pub all_by_in : {X : Type 0} (P : X → Type 0) (xs : List X) → ((x : X) → In x xs → P x) → All P xs
 all_by_in P [] f = All-nil P
 all_by_in P (x ∷ xs) f = All-cons P x xs (f x (inl refl)) (all_by_in P xs (λ y i. f y (inr i)))
 
@@ -95,17 +92,12 @@ turned_all n m rows all = all_by_in (IsRowBelow n) (turned_rows m rows) (λ r i.
     turned_below n m from.0 r (All-contains (IsRowBelow n) rows from.0 all (contains_from_in from.0 rows from.1)) (sym from.2))
 
 row_literals_below : (n : ℕ) (rows : List (Row ℕ)) (p : ℕ) → All (IsRowBelow n) rows → All (IsBelow n) (literals_of_row (slice_get rows p))
-row_literals_below n rows p all = go (slice_get_cases rows p)
-  where
-    go : (slice_get rows p ≡ slice_get rows p)
-        × (((x : Row ℕ) × (p < length rows) × (slice_get rows p ≡ Some x) × (get_or rows p x ≡ x)) ⊎ ((length rows ≤ p) × (slice_get rows p ≡ None)))
-        → All (IsBelow n) (literals_of_row (slice_get rows p))
-    go (e, inl (x, inside, at, is)) =
-        let Q : Option (Row ℕ) → Type 0 = λ o. All (IsBelow n) (literals_of_row o) in
-        subst Q (sym at) (literals_of_below n x.kind (All-contains (IsRowBelow n) rows x all (p, inside, is)))
-    go (e, inr (past, none)) =
-        let Q : Option (Row ℕ) → Type 0 = λ o. All (IsBelow n) (literals_of_row o) in
-        subst Q (sym none) (All-nil (IsBelow n))
+row_literals_below n rows p all =
+    let Q : Option (Row ℕ) → Type 0 = λ o. All (IsBelow n) (literals_of_row o) in
+    elim (slice_get_cases rows p).1 [
+      | inl here ↦ subst Q (sym here.2) (literals_of_below n here.0.kind (All-contains (IsRowBelow n) rows here.0 all (p, here.1, here.3)))
+      | inr past ↦ subst Q (sym past.1) (All-nil (IsBelow n))
+    ]
 
 -- the nodes of a tree's literals are numbers below n
 pub literals_below : (n : ℕ) (rows : List (Row ℕ)) (ps : Branch) → IsSpelled rows → All (IsRowBelow n) rows → All (IsBelow n) (literals_of (spelled rows) ps)

@@ -1,6 +1,6 @@
 -- Asserting a side: where a part's walk starts, one row more, one part more, and what a clash of a first part says of the whole.
-use Rattle.std.proofs.Common.{◌≡◌, ◌≤◌, ◌<◌, ℕ, ◌+◌, Bool, true, false, List, [], ◌∷◌, ◌++◌, Option, Some, None, map, take, length, refl, sym, ap, ◌∙◌, subst, arith, append_assoc}
-use Rattle.std.proofs.lemmas.List.{append-nil, take-append-le, Elements.{All-contains, Contains-append_left}}
+use Rattle.std.proofs.Common.{◌≡◌, ◌≤◌, ◌<◌, ℕ, ◌+◌, Bool, true, false, List, [], ◌∷◌, ◌++◌, Option, Some, None, take, length, refl, sym, ap, ◌∙◌, subst, arith, append_assoc}
+use Rattle.std.proofs.{lemmas.List.{append-nil, map_push, take-take, length-take, Elements.{All-contains, Contains-append_left}}, Math.Seq.{take-length, take-append_seam}}
 use Rattle.std.{proofs.lemmas.{Option.{slice_get_within, get_or_from_slice_get}, Grind.{flat_map-append}}, specs.Prelude.{slice_get, All}}
 use Rattle.pc_common.specs.{Chain.{Leads}, Steps.{Leaf}}
 use Rattle.pc_ground.specs.declared.{literal.Literal.{Literal, TheVariants.{Node, Edge, NoNode, NoEdge}}, row.{Row.{Row}, RowKind.{RowKind}}}
@@ -57,12 +57,8 @@ walk_step rows end at ps r walk before here =
 pub literals_more : (t : Tree ℕ) (ps qs : Branch) → literals_of t (ps ++ qs) ≡ literals_of t ps ++ literals_of t qs
 literals_more t ps qs = flat_map-append (λ q. literal_of (part_at t q)) ps qs
 
-map_append : {X Y : Type 0} (f : X → Y) (xs ys : List X) → map f (xs ++ ys) ≡ map f xs ++ map f ys
-map_append f [] ys = refl
-map_append f (x ∷ xs) ys = ap (λ zs. f x ∷ zs) (map_append f xs ys)
-
 pub positions_push : (new old : List Place) (q : Place) → new ≡ old ++ q ∷ [] → positions new ≡ positions old ++ place_signed q ∷ []
-positions_push new old q e = ap positions e ∙ map_append place_signed old (q ∷ [])
+positions_push new old q e = ap positions e ∙ map_push place_signed old q
 
 literal_here : (rows : List (Row ℕ)) (q : Signed) (r : Row ℕ) → IsSpelled rows → slice_get (turned_rows q.negated rows) q.position ≡ Some r
     → literals_of (spelled rows) (q ∷ []) ≡ literals_of_kind r.kind
@@ -81,32 +77,12 @@ literals_push rows q r ps qs ls ms flat at e f g =
     ∙ sym (literals_more t ps (q ∷ [])) ∙ ap (literals_of t) (sym g)
 
 pub further_same : (g : Graph) → IsFurther g g
-further_same g = record { same_nodes = refl; same_marks = refl; literals = take_all g.literals }
-  where
-    take_all : {X : Type 0} (xs : List X) → take (length xs) xs ≡ xs
-    take_all [] = refl
-    take_all (x ∷ xs) = ap (λ ys. x ∷ ys) (take_all xs)
-
-pub added_further : (r : Row ℕ) (g h : Graph) (a : Added) → HasAddedRow r g h a → IsFurther g h
-added_further r g h was_kept added = added.0
-added_further r g h (clashed k) added = added.0
+further_same g = record { same_nodes = refl; same_marks = refl; literals = take-length g.literals }
 
 pub take_through : {X : Type 0} (xs ys zs : List X) → take (length xs) ys ≡ xs → take (length ys) zs ≡ ys → take (length xs) zs ≡ xs
-take_through [] ys zs e f = refl
-take_through (x ∷ xs) [] zs e f = absurd (no_cons x xs e)
-  where
-    no_cons : {X : Type 0} (x : X) (xs : List X) → [] ≡ x ∷ xs → ⊥
-    no_cons x xs e = cc
-take_through (x ∷ xs) (y ∷ ys) [] e f = absurd (no_cons y ys f)
-  where
-    no_cons : {X : Type 0} (x : X) (xs : List X) → [] ≡ x ∷ xs → ⊥
-    no_cons x xs e = cc
-take_through (x ∷ xs) (y ∷ ys) (z ∷ zs) e f =
-    let first : y ≡ x = cc in
-    let second : z ≡ y = cc in
-    let rest : take (length xs) ys ≡ xs = cc in
-    let more : take (length ys) zs ≡ ys = cc in
-    ap (λ w. w ∷ take (length xs) zs) (second ∙ first) ∙ ap (λ ws. x ∷ ws) (take_through xs ys zs rest more)
+take_through xs ys zs e f =
+    let within : length xs ≤ length ys = omega (arith, ap length e, length-take (length xs) ys) in
+    sym (take-take (length xs) (length ys) zs within) ∙ ap (take (length xs)) f ∙ e
 
 pub further_more : (f g h : Graph) → IsFurther f g → IsFurther g h → IsFurther f h
 further_more f g h a b = record {
@@ -116,14 +92,7 @@ further_more f g h a b = record {
 }
 
 pub kept_push : {X : Type 0} (xs ys zs : List X) (x : X) → take (length xs) ys ≡ xs → zs ≡ ys ++ x ∷ [] → take (length xs) zs ≡ xs
-kept_push xs ys zs x e f =
-    let within : length xs ≤ length ys = shorter xs ys e in
-    ap (take (length xs)) f ∙ take-append-le (length xs) ys (x ∷ []) within ∙ e
-  where
-    shorter : {X : Type 0} (xs ys : List X) → take (length xs) ys ≡ xs → length xs ≤ length ys
-    shorter [] ys e = omega arith
-    shorter (x ∷ xs) [] e = cc
-    shorter (x ∷ xs) (y ∷ ys) e = let rest : take (length xs) ys ≡ xs = cc in omega (arith, shorter xs ys rest)
+kept_push xs ys zs x e f = take_through xs ys zs e (ap (take (length ys)) f ∙ take-append_seam ys (x ∷ []))
 
 contradiction_more : (ls ms : List (Literal ℕ)) (l : Leaf ℕ) → IsContradiction ls l → IsContradiction (ls ++ ms) l
 contradiction_more ls ms l c = go l c
@@ -183,10 +152,6 @@ asserted_clash t first more old k c =
     subst P (sym (literals_more t (positions old ++ first) more) ∙ ap (literals_of t) (append_assoc (positions old) first more))
     (clash_more (literals_of t (positions old ++ first)) (literals_of t more) k c)
 
-pub kept_same : {X : Type 0} (xs : List X) → take (length xs) xs ≡ xs
-kept_same [] = refl
-kept_same (x ∷ xs) = ap (λ ys. x ∷ ys) (kept_same xs)
-
 root_stride : {N : Type 0} (s : Tree N) → 0 < stride (root_of s)
 root_stride always = omega arith
 root_stride never = omega arith
@@ -205,7 +170,7 @@ pub row_added : (old new : Graph) (l : Literal ℕ) (r : Row ℕ) (a : Added) �
 row_added old new l r was_kept e h =
     let K : RowKind ℕ → Type 0 = λ kind. new.literals ≡ old.literals ++ literals_of_kind kind in
     let first : take (length old.literals) new.literals ≡ old.literals =
-    ap (take (length old.literals)) h.0.literals ∙ take-append-le (length old.literals) old.literals (l ∷ []) (omega arith) ∙ kept_same old.literals in
+    ap (take (length old.literals)) h.0.literals ∙ take-append_seam old.literals (l ∷ []) in
     (record { same_nodes = h.0.same_nodes; same_marks = h.0.marks; literals = first }, subst K (sym e) h.0.literals)
 row_added old new l r (clashed k) e h =
     let F : Graph → Type 0 = IsFurther old in

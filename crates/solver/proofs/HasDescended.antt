@@ -1,6 +1,6 @@
 -- One turn of a descent, and its end.
-use Rattle.std.proofs.Common.{◌≡◌, ◌≤◌, ◌<◌, ℕ, ◌+◌, List, [], ◌∷◌, ◌++◌, take, reverse, length, refl, sym, ap, ◌∙◌, subst, arith, append_assoc}
-use Rattle.std.{proofs.lemmas.List.{reverse-append, length-map}, specs.Prelude.{All}}
+use Rattle.std.proofs.Common.{◌≡◌, ◌≤◌, ◌<◌, ℕ, ◌+◌, List, [], ◌∷◌, ◌++◌, take, reverse, length, sym, ap, ◌∙◌, subst, arith, append_assoc}
+use Rattle.std.{proofs.{lemmas.List.{reverse-append, length-map}, Math.Seq.{take-length}}, specs.Prelude.{All}}
 use Rattle.pc_common.{specs.{World.{Node}, Steps.{Step, split}}, proofs.Elements.{contains_from_in}}
 use Rattle.pc_ground.specs.{declared.{row.Row.{Row}, version.Version.{Version}}, Tree.{Tree, turned, size_of}}
 use Rattle.pc_ground.{specs.Refutes.{Branch, Signed, signed, literals_of, left_branch, right_branch}, proofs.FlatRows.{children_either}}
@@ -36,10 +36,7 @@ pub next_inside : (v : Version) (t : Numbered) (b : OpenBranch) (more : Branch) 
     → IsLater (spelled t.rows) (positions b.asserted) b.graph.marks l
 next_inside v t b more ms l kept popped =
     let W : List Later → Type 0 = AreLater (spelled t.rows) (positions b.asserted) b.graph.marks in
-    (subst W (ap reverse popped ∙ reverse_push ms l) kept.waits).0
-  where
-    reverse_push : {X : Type 0} (xs : List X) (x : X) → reverse (xs ++ x ∷ []) ≡ x ∷ reverse xs
-    reverse_push xs x = reverse-append xs (x ∷ [])
+    (subst W (ap reverse popped ∙ reverse-append ms (l ∷ [])) kept.waits).0
 
 -- once the mark is made and the trials are over
 pub same_after : (g h i : Graph) → h ≡ record g { marks = g.marks ++ length g.literals ∷ [] } → IsSame h i
@@ -64,7 +61,7 @@ lighter_split v t here ls ms l q candidate count side pushed =
     let subs = children_either (turned n t) p a b candidate.is_or in
     let reversed : reverse ms ≡ l ∷ reverse ls = ap reverse pushed ∙ reverse-append ls (l ∷ []) in
     let length_ps : length ps ≡ length here = length-map here place_signed in
-    let whole : take l.count ps ≡ ps = ap (λ k. take k ps) (count ∙ sym length_ps) ∙ take_whole ps in
+    let whole : take l.count ps ≡ ps = ap (λ k. take k ps) (count ∙ sym length_ps) ∙ take-length ps in
     let left : ps ++ side_positions t (left_side q) ≡ left_branch ps n p a = left_is t ps n p a subs.0 in
     let right : take l.count ps ++ side_positions t l.side ≡ right_branch v ps n p a b =
     ap (λ rs. rs ++ side_positions t l.side) whole ∙ ap (λ z. ps ++ side_positions t z) side ∙ right_is v t ps n p a b subs.0 subs.1 in
@@ -76,10 +73,6 @@ lighter_split v t here ls ms l q candidate count side pushed =
     let less = weight_split v t ps (waiting t ps (reverse ls)) n p a b candidate.is_or
     (λ i. candidate.no_left (contains_from_in (signed n (p + 1)) ps i)) (λ i. candidate.no_right (contains_from_in (signed n (p + 1 + size_of a)) ps i)) in
     omega (arith, less, ap (weight t) all)
-  where
-    take_whole : {X : Type 0} (xs : List X) → take (length xs) xs ≡ xs
-    take_whole [] = refl
-    take_whole (x ∷ xs) = ap (λ ys. x ∷ ys) (take_whole xs)
 
 pub advanced : (v : Version) (nodes : List Node) (t : Tree ℕ) (g h i : Graph) (here there : List Place) (ls ms : List Later)
     (ss us : List (Step Node)) (l : Later) (q : Signed) (c : Side × Side)

@@ -1,25 +1,21 @@
 -- Whether an Or is a candidate of its branch, from what is asked of it.
 use Rattle.std.proofs.Common.{◌≡◌, ◌≤◌, ◌<◌, inl, inr, ℕ, ◌+◌, Bool, true, false, List, [], ◌∷◌, Some, length, refl, sym, ap, ◌∙◌, subst, arith}
-use Rattle.std.{proofs.lemmas.List.Elements.{All-contains}, specs.Prelude.{slice_get, Contains, IsTrue, ◌↔◌, All, MatchBool}}
+use Rattle.std.{proofs.lemmas.List.{length-map, Elements.{All-contains}}, specs.Prelude.{slice_get, Contains, IsTrue, ◌↔◌, All, MatchBool}}
 use Rattle.pc_common.proofs.Elements.{In, in_from_contains, contains_from_in, in_map}
 use Rattle.pc_ground.specs.declared.{literal.Literal.{Literal}, row.{Row.{Row}, RowKind.TheVariants.{Or}}, version.Version.TheVariants.{One}}
-use Rattle.pc_ground.specs.{Rows.{root_kind, turned_rows}, Tree.{Tree, either, turned, size_of}}
+use Rattle.pc_ground.specs.{Rows.{root_kind, turned_row, turned_rows}, Tree.{Tree, either, turned, size_of}}
 use Rattle.pc_ground.specs.Refutes.{Signed, signed, subtree_at, part_at, literals_of}
 use Rattle.pc_ground.proofs.{Turned.{subtree_denied, size_turned}, FlatRows.{subtree_size, size_pos}, StageWalks.{some_same}}
 use Rattle.solver.specs.{Spelled.{spelled, IsSpelled}, Met.{IsMet, IsMetUnder}, Flags.{flag, AreTruths}, Opens.{positions}, declared.{tree.place.Place.{Place}, tree.side.Side.{Side}}}
 use Rattle.solver.specs.Places.{place_signed, IsOr, AreSides, IsUntaken, IsTaken, IsPending, IsPassed, IsCandidate, IsChosen, AreChosen}
 use Rattle.solver.proofs.{IsSpelled.{turned_flat}, IsIndexed.{place_is}, AreTruths.{or_tree}, HasAsserted.{length_spelled, row_root}}
 
-pub length_turned : (n : Bool) (rows : List (Row ℕ)) → length (turned_rows n rows) ≡ length rows
-length_turned n [] = refl
-length_turned n (r ∷ rs) = (let rest = length_turned n rs in omega (arith, rest))
-
 -- an Or's row, another one, and none
 pub or_row : (rows : List (Row ℕ)) (q : Signed) (r : Row ℕ) → IsSpelled rows → q.position < length rows
     → slice_get (turned_rows q.negated rows) q.position ≡ Some r → r.kind ≡ Or → IsOr (spelled rows) q
 or_row rows q r flat inside at kind =
     or_tree (turned_rows q.negated rows) (turned q.negated (spelled rows)) q.position r (turned_flat q.negated rows flat)
-    (omega (arith, inside, length_turned q.negated rows)) at kind
+    (omega (arith, inside, length-map rows (turned_row q.negated))) at kind
 
 pub other_row : (rows : List (Row ℕ)) (q : Signed) (r : Row ℕ) → IsSpelled rows → q.position < length rows
     → slice_get (turned_rows q.negated rows) q.position ≡ Some r → (r.kind ≡ Or → ⊥) → IsOr (spelled rows) q → ⊥

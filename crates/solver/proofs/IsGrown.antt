@@ -4,7 +4,7 @@ use Rattle.pc_common.{specs.Steps.{Step, split, close}, proofs.Elements.{In, in_
 use Rattle.pc_ground.specs.{Tree.{Tree, always, never, leaf, both, either, negation, turned, size_of}, declared.version.Version.{Version}}
 use Rattle.pc_ground.specs.declared.version.Version.TheVariants.{One, Two}
 use Rattle.pc_ground.specs.Refutes.{Signed, signed, all_signed, Branch, subtree_at, part_at, asserted, with_side, left_branch, right_branch, Runs, IsPartial}
-use Rattle.pc_ground.proofs.{FlatRows.{children_both, children_either}, Turned.{subtree_denied}}
+use Rattle.pc_ground.proofs.{FlatRows.{children_both, children_either}, Turned.{subtree_denied}, StageWalks.{some_same}}
 
 pub record IsGrown {N : Type 0} (t : Tree N) (ps : Branch) : Type 0 where
   pub root : In (signed false 0) ps
@@ -24,9 +24,6 @@ record IsPlaced {N : Type 0} (t : Tree N) (ps : List ℕ) (q : ℕ) : Type 0 whe
   pub tree : Tree N
   pub at : subtree_at t q ≡ Some tree
   pub both_in : (a b : Tree N) → tree ≡ both a b → In (q + 1) ps × In (q + 1 + size_of a) ps
-
-same_some : {X : Type 0} (x y : X) → Some x ≡ Some y → x ≡ y
-same_some x y e = cc
 
 sides_same : {N : Type 0} (a b c d : Tree N) → both a b ≡ both c d → (a ≡ c) × (b ≡ d)
 sides_same a b c d e = ((let left : a ≡ c = cc in left), (let right : b ≡ d = cc in right))
@@ -81,7 +78,7 @@ side_ands : {N : Type 0} (t s : Tree N) (p : ℕ) → subtree_at t p ≡ Some s 
     → subtree_at t q ≡ Some (both a b) → In (q + 1) (asserted s p) × In (q + 1 + size_of a) (asserted s p)
 side_ands t s p at q a b i e =
     let placed = asserted_placed t s p at q i in
-    placed.both_in a b (same_some placed.tree (both a b) (sym placed.at ∙ e))
+    placed.both_in a b (some_same (sym placed.at ∙ e))
 
 -- what a side asserts, under a sign
 side_inside : {N : Type 0} (t : Tree N) (n : Bool) (s : Tree N) (p : ℕ) → subtree_at (turned n t) p ≡ Some s

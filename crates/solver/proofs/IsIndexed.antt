@@ -1,13 +1,7 @@
 -- A list of places with its index: what it finds, and one place more.
-use Rattle.std.proofs.Common.{◌≡◌, ◌≤◌, ◌<◌, inl, inr, ℕ, zero, suc, Bool, List, [], ◌∷◌, ◌++◌, Some, None, length, refl, sym, ap, ◌∙◌, subst, arith, length-append}
-use Rattle.std.{proofs.lemmas.{Bool.{cases_lt}, Option.{slice_get_within, slice_get-get_or, get_or_from_slice_get}}, specs.Prelude.{slice_get, Contains}}
+use Rattle.std.proofs.Common.{◌≡◌, ◌≤◌, ◌<◌, inl, inr, ℕ, zero, suc, Bool, List, [], ◌∷◌, ◌++◌, Some, length, refl, sym, ap, ◌∙◌, subst, arith, length-append}
+use Rattle.std.{proofs.lemmas.{Bool.{cases_lt}, Option.{same_Some, slice_get_within, slice_get-get_or, get_or_from_slice_get}}, specs.Prelude.{slice_get, Contains}}
 use Rattle.solver.specs.{declared.tree.place.Place.{Place}, Indexed.{index_of, IsIndexed, IsPlacePut}}
-
-some_is : {X : Type 0} (x y : X) → Some x ≡ Some y → x ≡ y
-some_is x y e = cc
-
-none_some : {X : Type 0} (x : X) → None ≡ Some x → ⊥
-none_some x e = cc
 
 pub place_is : (a b : Place) → a.negated ≡ b.negated → a.position ≡ b.position → a ≡ b
 place_is a b e f =
@@ -46,7 +40,7 @@ pushed_known items new plain negated q indexed has pushed =
           (old.0, get_front items (q ∷ []) (index_of plain negated x) inside ∙ old.1)
       | inr past ↦
           let at : k ≡ length items = (let size = slice_get_within (items ++ q ∷ []) k x e in omega (arith, size, past, length-append items (q ∷ []))) in
-          let same : x ≡ q = some_is x q (sym e ∙ ap (slice_get (items ++ q ∷ [])) at ∙ get_last items q) in
+          let same : x ≡ q = same_Some x q (sym e ∙ ap (slice_get (items ++ q ∷ [])) at ∙ get_last items q) in
           let P : Place → Type 0 = λ y. slice_get items (index_of plain negated y) ≡ Some y in
           let found : P x = subst P (sym same) (found_at items plain negated q indexed has) in
           let inside = slice_get_within items (index_of plain negated x) x found in
@@ -73,7 +67,7 @@ pushed_new items new plain negated q indexed put pushed =
           (old.0, get_front items (q ∷ []) (index_of plain negated x) inside ∙ old.1)
       | inr past ↦
           let at : k ≡ length items = (let size = slice_get_within (items ++ q ∷ []) k x e in omega (arith, size, past, length-append items (q ∷ []))) in
-          let same : x ≡ q = some_is x q (sym e ∙ ap (slice_get (items ++ q ∷ [])) at ∙ get_last items q) in
+          let same : x ≡ q = same_Some x q (sym e ∙ ap (slice_get (items ++ q ∷ [])) at ∙ get_last items q) in
           let place : index_of plain negated x ≡ length items = ap (index_of plain negated) same ∙ put in
           (omega (arith, place, at), ap (slice_get (items ++ q ∷ [])) place ∙ get_last items q ∙ ap Some (sym same))
     ])

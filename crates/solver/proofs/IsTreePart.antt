@@ -1,14 +1,10 @@
 -- The rows of a subtree, by themselves.
-use Rattle.std.proofs.Common.{◌≡◌, ◌≤◌, ◌<◌, ℕ, ◌+◌, ◌-◌, Bool, List, [], ◌∷◌, ◌++◌, Some, take, drop, length, refl, sym, ap, ◌∙◌, subst, arith}
-use Rattle.std.{proofs.lemmas.List.Elements.{All-take, All-drop}, specs.Prelude.{slice_get, slice_range, All, IsTrue, ◌↔◌}}
+use Rattle.std.proofs.Common.{◌≡◌, ◌≤◌, ◌<◌, ℕ, ◌+◌, ◌-◌, Bool, List, Some, take, drop, length, sym, ap, ◌∙◌, subst, arith}
+use Rattle.std.{proofs.{lemmas.List.Elements.{All-take, All-drop}, Math.Seq.{take-append_seam}}, specs.Prelude.{slice_get, slice_range, All, IsTrue, ◌↔◌}}
 use Rattle.pc_ground.specs.{declared.{literal.Literal.{Literal}, row.Row.{Row}}, Tree.{Tree, size_of}, Rows.{rows_of}, Refutes.{subtree_at}}
 use Rattle.pc_ground.proofs.{FlatRows.{IsPart, subtree_part, subtree_size, length_rows}, StageWalks.{some_same}}
 use Rattle.solver.{specs.{Spelled.{spelled, IsSpelled}, Below.{IsRowBelow}, Met.{IsMet}, Flags.{IsTreePart}}, proofs.IsSpelled.{spelled_is, is_spelled}}
 use Rattle.solver.proofs.HasAsserted.{row_root, length_spelled}
-
-take_first : {X : Type 0} (xs ys : List X) → take (length xs) (xs ++ ys) ≡ xs
-take_first [] ys = refl
-take_first (x ∷ xs) ys = ap (λ zs. x ∷ zs) (take_first xs ys)
 
 pub tree_part : (rows : List (Row ℕ)) (p end : ℕ) (r : Row ℕ) → IsSpelled rows → p < length rows → slice_get rows p ≡ Some r → end ≡ p + r.skip
     → IsTreePart (spelled rows) p (slice_range rows p end) × (end ≤ length rows)
@@ -23,7 +19,7 @@ tree_part rows p end r flat inside at e =
     let part : IsPart rows p s = subst P (sym flat) (subtree_part t p s there.1) in
     let long : end - p ≡ length (rows_of s) = omega (arith, e, skip, length_rows s) in
     let same : slice_range rows p end ≡ rows_of s = ap (λ n. take n (drop p rows)) long ∙ ap (take (length (rows_of s))) part.1
-    ∙ take_first (rows_of s) part.0 in
+    ∙ take-append_seam (rows_of s) part.0 in
     ((s, there.1, same), omega (arith, e, skip, size, len))
 
 pub part_spelled : (t : Tree ℕ) (p : ℕ) (part : List (Row ℕ)) → IsTreePart t p part → IsSpelled part

@@ -1,6 +1,7 @@
 -- What a search keeps: after a split, after a side is entered, and after a side's clash.
-use Rattle.std.proofs.Common.{◌≡◌, ◌≤◌, ◌<◌, ℕ, zero, suc, ◌+◌, Bool, not, List, [], ◌∷◌, ◌++◌, Option, Some, take, drop, reverse, length, refl, sym, ap, ◌∙◌, subst, arith, append_assoc, length-append}
-use Rattle.std.proofs.lemmas.List.{append-nil, take-append-le, length-map, length-take, get_or_append_left, reverse-append}
+use Rattle.std.proofs.Common.{◌≡◌, ◌≤◌, ℕ, ◌+◌, Bool, not, List, [], ◌∷◌, ◌++◌, Option, Some, take, drop, reverse, length, refl, sym, ap, ◌∙◌, subst, arith, append_assoc, length-append}
+use Rattle.std.proofs.lemmas.List.{append-nil, take_all, take-take, take-append-le, take-append-drop, length-map, length-take, get_or_append_left, reverse-append}
+use Rattle.std.proofs.Math.Seq.{take-length, take-append_seam, get_or-append_seam}
 use Rattle.std.specs.{Prelude.{slice_index, Contains}, Option.{option_map}, List.{take-map}}
 use Rattle.pc_common.specs.{World.{Node}, Steps.{Leaf, Step, split, close}}
 use Rattle.pc_ground.specs.{Tree.{Tree, either, negation, turned, size_of}, declared.version.Version.{Version, TheVariants.{One, Two}}}
@@ -13,33 +14,15 @@ use Rattle.solver.{specs.declared.{search.later.Later.{Later}, tree.side.Side.{S
 use Rattle.solver.proofs.{RenamedTree.{part_renamed, negation_renamed, asserted_renamed, size_renamed}, HasAsserted.{asserted_is, literals_more}}
 use Rattle.solver.proofs.AreTruths.{denied_in}
 
--- reading and taking before an end that is put after it
-take_front : {X : Type 0} (k : ℕ) (xs ys : List X) → k ≤ length xs → take k (xs ++ ys) ≡ take k xs
-take_front k xs ys h = take-append-le k xs ys h
-
-index_front : (k : ℕ) (xs ys : List ℕ) → k < length xs → slice_index (xs ++ ys) k ≡ slice_index xs k
-index_front k xs ys h = get_or_append_left xs ys 0 k h
-
-reverse_push : {X : Type 0} (xs : List X) (x : X) → reverse (xs ++ x ∷ []) ≡ x ∷ reverse xs
-reverse_push xs x = reverse-append xs (x ∷ [])
-
-take_whole : {X : Type 0} (xs : List X) → take (length xs) xs ≡ xs
-take_whole [] = refl
-take_whole (x ∷ xs) = ap (λ ys. x ∷ ys) (take_whole xs)
-
-index_last : (xs : List ℕ) (x : ℕ) → slice_index (xs ++ x ∷ []) (length xs) ≡ x
-index_last [] x = refl
-index_last (y ∷ ys) x = index_last ys x
-
 -- waiting branches look at a first part alone
 pub waiting_more : (t : Tree ℕ) (ps qs : Branch) (marks : List ℕ) (ls : List Later) → AreLater t ps marks ls → waiting t (ps ++ qs) ls ≡ waiting t ps ls
 waiting_more t ps qs marks [] h = refl
-waiting_more t ps qs marks (l ∷ ls) h = (let same = take_front l.count ps qs h.0.count in rw same refl)
+waiting_more t ps qs marks (l ∷ ls) h = rw (take-append-le l.count ps qs h.0.count) refl
 
 pub later_more : (t : Tree ℕ) (ps qs : Branch) (marks : List ℕ) (ls : List Later) → AreLater t ps marks ls → AreLater t (ps ++ qs) marks ls
 later_more t ps qs marks [] h = tt
 later_more t ps qs marks (l ∷ ls) h =
-    let same = take_front l.count ps qs h.0.count in
+    let same = take-append-le l.count ps qs h.0.count in
     let P : Branch → Type 0 = λ rs. slice_index marks l.mark ≡ length (literals_of t rs) in
     let Q : Branch → Type 0 = λ rs. AreLater t rs (take (l.mark + 1) marks) ls in (
       record { count = omega (arith, h.0.count, length-append ps qs); live = h.0.live; literals = subst P (sym same) h.0.literals; side = h.0.side },
@@ -49,12 +32,13 @@ later_more t ps qs marks (l ∷ ls) h =
 marks_more : (t : Tree ℕ) (ps : Branch) (marks more : List ℕ) (ls : List Later) → AreLater t ps marks ls → AreLater t ps (marks ++ more) ls
 marks_more t ps marks more [] h = tt
 marks_more t ps marks more (l ∷ ls) h =
-    let same : take (l.mark + 1) (marks ++ more) ≡ take (l.mark + 1) marks = take_front (l.mark + 1) marks more (omega (arith, h.0.live)) in
+    let same : take (l.mark + 1) (marks ++ more) ≡ take (l.mark + 1) marks =
+    take-append-le (l.mark + 1) marks more (omega (arith, h.0.live)) in
     let Q : List ℕ → Type 0 = λ ms. AreLater t (take l.count ps) ms ls in (
       record {
         count = h.0.count;
         live = omega (arith, h.0.live, length-append marks more);
-        literals = index_front l.mark marks more h.0.live ∙ h.0.literals;
+        literals = get_or_append_left marks more 0 l.mark h.0.live ∙ h.0.literals;
         side = h.0.side;
       },
       subst Q (sym same) h.1,
@@ -110,11 +94,12 @@ split_kept v nodes t g h aps ls ms ss us l n p a b kept on at same_literals same
     let left_size = subtree_size (turned n t) (p + 1) a children.0 in
     let right_size = subtree_size (turned n t) (p + 1 + size_of a) b children.1 in
     let turned_size = size_turned n t in
-    let reversed : reverse ms ≡ l ∷ reverse ls = ap reverse pushed ∙ reverse_push ls l in
+    let reversed : reverse ms ≡ l ∷ reverse ls = ap reverse pushed ∙ reverse-append ls (l ∷ []) in
     let length_ps : length ps ≡ length aps = length-map aps place_signed in
-    let whole : take l.count ps ≡ ps = ap (λ k. take k ps) (count ∙ sym length_ps) ∙ take_whole ps in
+    let whole : take l.count ps ≡ ps = ap (λ k. take k ps) (count ∙ sym length_ps) ∙ take-length ps in
     let all_marks : take (l.mark + 1) h.marks ≡ g.marks ++ length g.literals ∷ [] =
-    ap (λ k. take (k + 1) h.marks) mark ∙ ap (take (length g.marks + 1)) marks ∙ take_all (g.marks) (length g.literals) in
+    ap (λ k. take (k + 1) h.marks) mark ∙ ap (take (length g.marks + 1)) marks
+    ∙ take_all _ (g.marks ++ length g.literals ∷ []) (omega (arith, length-append g.marks (length g.literals ∷ []))) in
     let M : List ℕ → Type 0 = λ xs. AreLater t ps xs (reverse ls) in
     let B : Branch → Type 0 = λ rs. AreLater t rs (take (l.mark + 1) h.marks) (reverse ls) in
     let S : Side → Type 0 = IsSideIn t in
@@ -123,7 +108,7 @@ split_kept v nodes t g h aps ls ms ss us l n p a b kept on at same_literals same
     let first : IsLater t ps h.marks l = record {
       count = omega (arith, count, length_ps);
       live = omega (arith, mark, ap length marks, length-append g.marks (length g.literals ∷ []));
-      literals = ap (slice_index h.marks) mark ∙ ap (λ xs. slice_index xs (length g.marks)) marks ∙ index_last g.marks (length g.literals)
+      literals = ap (slice_index h.marks) mark ∙ ap (λ xs. slice_index xs (length g.marks)) marks ∙ get_or-append_seam g.marks (length g.literals) [] 0
           ∙ ap length kept.literals ∙ ap (λ rs. length (literals_of t rs)) (sym whole);
       side = subst S (sym side) inside;
     } in
@@ -152,10 +137,6 @@ split_kept v nodes t g h aps ls ms ss us l n p a b kept on at same_literals same
       waits = subst W (sym reversed) (first, rest);
       partial = subst (λ w. Q us w) (sym reversed) (subst (λ u. Q u (l ∷ reverse ls)) (sym steps) moved);
     }
-  where
-    take_all : (xs : List ℕ) (x : ℕ) → take (length xs + 1) (xs ++ x ∷ []) ≡ xs ++ x ∷ []
-    take_all [] x = refl
-    take_all (y ∷ ys) x = (let one : length (y ∷ ys) + 1 ≡ suc (length ys + 1) = omega arith in rw one (ap (λ zs. y ∷ zs) (take_all ys x)))
 
 -- the side is all asserted
 pub entered_kept : (v : Version) (nodes : List Node) (t : Tree ℕ) (g h : Graph) (aps bs : List Place) (ls : List Later) (ss : List (Step Node)) (more : Branch)
@@ -181,26 +162,13 @@ entered_kept v nodes t g h aps bs ls ss more kept entered stand further =
     )
 
 take_shorter : {X : Type 0} (k : ℕ) (xs ys : List X) → k ≤ length xs → take (length xs) ys ≡ xs → take k ys ≡ take k xs
-take_shorter k xs ys h e = sym (ap (take k) (sym e) ∙ take_take_le k (length xs) ys h)
-  where
-    take_take_le : {X : Type 0} (k n : ℕ) (ys : List X) → k ≤ n → take k (take n ys) ≡ take k ys
-    take_take_le zero n ys h = refl
-    take_take_le (suc k) zero ys h = absurd (omega (arith, h))
-    take_take_le (suc k) (suc n) [] h = refl
-    take_take_le (suc k) (suc n) (y ∷ ys) h = ap (λ zs. y ∷ zs) (take_take_le k n ys (omega (arith, h)))
+take_shorter k xs ys h e = sym (ap (take k) (sym e) ∙ take-take k (length xs) ys h)
 
 take_length : (t : Tree ℕ) (k : ℕ) (ps : Branch) → take (length (literals_of t (take k ps))) (literals_of t ps) ≡ literals_of t (take k ps)
 take_length t k ps =
-    let whole : literals_of t ps ≡ literals_of t (take k ps) ++ literals_of t (drop k ps) =
-    ap (literals_of t) (sym (take_drop k ps)) ∙ literals_more t (take k ps) (drop k ps) in
-    ap (take (length (literals_of t (take k ps)))) whole
-    ∙ take_front (length (literals_of t (take k ps))) (literals_of t (take k ps)) (literals_of t (drop k ps)) (omega arith)
-    ∙ take_whole (literals_of t (take k ps))
-  where
-    take_drop : {X : Type 0} (k : ℕ) (xs : List X) → take k xs ++ drop k xs ≡ xs
-    take_drop zero xs = refl
-    take_drop (suc k) [] = refl
-    take_drop (suc k) (x ∷ xs) = ap (λ ys. x ∷ ys) (take_drop k xs)
+    let front = literals_of t (take k ps) in
+    ap (take (length front)) (ap (literals_of t) (sym (take-append-drop k ps)) ∙ literals_more t (take k ps) (drop k ps))
+    ∙ take-append_seam front (literals_of t (drop k ps))
 
 -- the side's branch is closed, and the next one is entered
 pub closed_kept : (v : Version) (nodes : List Node) (t : Tree ℕ) (g h i : Graph) (aps bs cs : List Place) (ls ms : List Later)
@@ -213,7 +181,7 @@ pub closed_kept : (v : Version) (nodes : List Node) (t : Tree ℕ) (g h i : Grap
 closed_kept v nodes t g h i aps bs cs ls ms ss us s l more kept closes steps popped further extends cut cut_positions =
     let ps = positions aps in
     let T = tree_over nodes t in
-    let reversed : reverse ls ≡ l ∷ reverse ms = ap reverse popped ∙ reverse_push ms l in
+    let reversed : reverse ls ≡ l ∷ reverse ms = ap reverse popped ∙ reverse-append ms (l ∷ []) in
     let W : List Later → Type 0 = AreLater t ps g.marks in
     let waits : AreLater t ps g.marks (l ∷ reverse ms) = subst W reversed kept.waits in
     let here = waits.0 in

@@ -1,6 +1,6 @@
 -- What stays the same where the nodes of a tree are renamed: its rows' form, its positions, and where its literals stand.
 use Rattle.std.proofs.Common.{◌≡◌, ℕ, zero, suc, ◌+◌, ◌-◌, Bool, true, false, List, [], ◌∷◌, ◌++◌, Option, Some, None, map, refl, sym, ap, ◌∙◌, arith, append_assoc}
-use Rattle.std.{proofs.lemmas.List.{append-nil}, specs.{Prelude.{nat_lt, if◌then◌else◌}, Option.{option_map}}}
+use Rattle.std.{proofs.lemmas.List.{append-nil, map-append}, specs.{Prelude.{nat_lt, if◌then◌else◌}, Option.{option_map}}}
 use Rattle.pc_ground.specs.declared.{literal.Literal.{Literal, TheVariants.{Node, Edge, NoNode, NoEdge}}, row.{Row.{Row}, RowKind.{RowKind}}}
 use Rattle.pc_ground.specs.declared.row.RowKind.TheVariants.{True, False, Lit, And, Or}
 use Rattle.pc_ground.specs.{Tree.{Tree, always, never, leaf, both, either, contrary, negation, turned, size_of}, Rows.{rows_of}}
@@ -69,28 +69,13 @@ literal_by f (Some (leaf l)) = refl
 literal_by f (Some (both a b)) = refl
 literal_by f (Some (either a b)) = refl
 
-map_append : {X Y : Type 0} (f : X → Y) (xs ys : List X) → map f (xs ++ ys) ≡ map f xs ++ map f ys
-map_append f [] ys = refl
-map_append f (x ∷ xs) ys = ap (λ zs. f x ∷ zs) (map_append f xs ys)
-
 pub literals_renamed : {M N : Type 0} (f : M → N) (t : Tree M) (ps : Branch) → literals_of (renamed_tree f t) ps ≡ map (renamed f) (literals_of t ps)
 literals_renamed f t [] = refl
 literals_renamed f t (q ∷ ps) =
     let here : literal_of (part_at (renamed_tree f t) q) ≡ map (renamed f) (literal_of (part_at t q)) =
     ap literal_of (part_renamed f t q) ∙ literal_by f (part_at t q) in
     let rest = literals_renamed f t ps in
-    rw (here, rest) (sym (map_append (renamed f) (literal_of (part_at t q)) (literals_of t ps)))
-
-pub rows_renamed : {M N : Type 0} (f : M → N) (t : Tree M) → rows_of (renamed_tree f t) ≡ map (renamed_row f) (rows_of t)
-rows_renamed f always = refl
-rows_renamed f never = refl
-rows_renamed f (leaf l) = refl
-rows_renamed f (both a b) =
-    rw (size_renamed f a, size_renamed f b, rows_renamed f a, rows_renamed f b)
-    (ap (λ rows. renamed_row f (record { kind = And; skip = size_of (both a b) }) ∷ rows) (sym (map_append (renamed_row f) (rows_of a) (rows_of b))))
-rows_renamed f (either a b) =
-    rw (size_renamed f a, size_renamed f b, rows_renamed f a, rows_renamed f b)
-    (ap (λ rows. renamed_row f (record { kind = Or; skip = size_of (either a b) }) ∷ rows) (sym (map_append (renamed_row f) (rows_of a) (rows_of b))))
+    rw (here, rest) (sym (map-append (renamed f) (literal_of (part_at t q)) (literals_of t ps)))
 
 -- the kind and the skip of a row of numbers, by those of its named row
 back_true : {M N : Type 0} (f : M → N) (k : RowKind M) → renamed_kind f k ≡ True → k ≡ True

@@ -1,6 +1,6 @@
 -- The graph of a list of literals, node by node and edge by edge.
-use Rattle.std.proofs.Common.{◌≡◌, ◌≤◌, ◌<◌, ◌⊎◌, inl, inr, ℕ, ◌+◌, Bool, true, ◌&&◌, List, [], ◌∷◌, ◌++◌, Some, map, take, length, refl, sym, ap, ◌∙◌, subst, arith, eqb, eqb-true}
-use Rattle.std.proofs.lemmas.{Bool.{cases_lt}, List.{take_more, take_all, Elements.{All-contains, All-nil, All-cons}}}
+use Rattle.std.proofs.Common.{◌≡◌, ◌≤◌, ◌<◌, ◌⊎◌, inl, inr, ℕ, ◌+◌, Bool, true, ◌&&◌, List, [], ◌∷◌, ◌++◌, Some, map, take, length, sym, ap, ◌∙◌, subst, arith, eqb, eqb-true}
+use Rattle.std.proofs.lemmas.{Bool.{cases_lt}, List.{take_more, take_all, Elements.{All-contains}}}
 use Rattle.std.{proofs.lemmas.Option.{slice_get_within, get_or_from_slice_get}, specs.{Prelude.{Contains, All, ◌↔◌, slice_get}, List.{list_any}}}
 use Rattle.indexmap.specs.IndexSet.{insert_key}
 use Rattle.pc_common.specs.World.{Node, Edge}
@@ -8,11 +8,11 @@ use Rattle.pc_common.proofs.Elements.{In, in_from_contains, contains_from_in, in
 use Rattle.pc_common.proofs.Bools.{true_or_false, and_first, and_second}
 use Rattle.pc_ground.specs.{declared.literal.Literal.{Literal, TheVariants.{Edge as an_edge}}, Literals.{Joins, IsPresent}}
 use Rattle.order_graph.specs.Ways.{IsBelow}
-use Rattle.solver.specs.{Renamed.{node_at}, Shown.{ArePresent, AreEdges, IsPresentNoted, edge_over}}
+use Rattle.solver.{specs.{Renamed.{node_at}, Shown.{ArePresent, AreEdges, IsPresentNoted, edge_over}}, proofs.ClashLeaf.{all_by_in}}
 
-all_by_in : {X : Type 0} (P : X → Type 0) (xs : List X) → ((x : X) → In x xs → P x) → All P xs
-all_by_in P [] f = All-nil P
-all_by_in P (x ∷ xs) f = All-cons P x xs (f x (inl refl)) (all_by_in P xs (λ y i. f y (inr i)))
+last_in : {X : Type 0} (x y : X) → In y (x ∷ []) → x ≡ y
+last_in x y (inl e) = e
+last_in x y (inr i) = absurd i
 
 pub present_more : (nodes : List Node) (ls : List (Literal ℕ)) (k : ℕ) (old new : List Node) → IsPresentNoted nodes ls k old new → ArePresent nodes ls k old
     → ArePresent nodes ls (k + 1) new
@@ -23,12 +23,8 @@ present_more nodes ls k old new (inl (is, e)) are = λ a. (from a, to a)
         let P : List Node → Type 0 = In a in
         elim (in_either a old (node_at nodes k ∷ []) (subst P e (in_from_contains a new h))) [
           | inl i ↦ (let r = (are a).0 (contains_from_in a old i) in (r.0, omega (arith, r.1), r.2, r.3))
-          | inr i ↦ (k, omega arith, is, last a i)
+          | inr i ↦ (k, omega arith, is, last_in (node_at nodes k) a i)
         ]
-      where
-        last : (a : Node) → In a (node_at nodes k ∷ []) → node_at nodes k ≡ a
-        last a (inl h) = h
-        last a (inr h) = absurd h
 
     to : (a : Node) → (j : ℕ) × (j < k + 1) × IsPresent ls j × (node_at nodes j ≡ a) → Contains new a
     to a h =
@@ -89,7 +85,7 @@ insert_pair eq law ks new x e p =
           let P : List (ℕ × ℕ) → Type 0 = λ xs. Contains xs p in (
             (λ h. elim (in_either p ks (x ∷ []) (in_from_contains p (ks ++ x ∷ []) (subst P same h))) [
               | inl i ↦ inl (contains_from_in p ks i)
-              | inr i ↦ inr (last i)
+              | inr i ↦ inr (last_in x p i)
             ]),
             (λ h. subst P (sym same) (contains_from_in p (ks ++ x ∷ []) (elim h [
               | inl k ↦ in_front p ks (x ∷ []) (in_from_contains p ks k)
@@ -97,10 +93,6 @@ insert_pair eq law ks new x e p =
             ]))),
           )
     ]
-  where
-    last : In p (x ∷ []) → x ≡ p
-    last (inl h) = h
-    last (inr h) = absurd h
 
 edge_first : (a b j k : ℕ) → an_edge a b ≡ an_edge j k → a ≡ j
 edge_first a b j k e = (let first : a ≡ j = cc in first)
@@ -134,13 +126,9 @@ edges_more ls n l old new at before noted j k =
       ]))),
       (λ h. (noted j k).1 (elim (in_either (an_edge j k) (take n ls) (l ∷ []) (in_from_contains (an_edge j k) (take n ls ++ l ∷ []) (subst P whole h))) [
         | inl x ↦ inl ((before j k).1 (contains_from_in (an_edge j k) (take n ls) x))
-        | inr x ↦ inr (last x)
+        | inr x ↦ inr (last_in l (an_edge j k) x)
       ])),
     )
-  where
-    last : In (an_edge j k) (l ∷ []) → l ≡ an_edge j k
-    last (inl h) = h
-    last (inr h) = absurd h
 
 pub edges_shown : (nodes : List Node) (ls : List (Literal ℕ)) (pairs : List (ℕ × ℕ)) (es : List Edge) → es ≡ map (edge_over nodes) pairs
     → ((j k : ℕ) → Contains pairs (j, k) ↔ Joins ls j k) → AreEdges nodes ls es

@@ -1,6 +1,6 @@
 -- A consistent list of literals over numbers gives a graph over the nodes, whose world makes a tree true that the literals meet.
-use Rattle.std.proofs.Common.{◌≡◌, ◌<◌, inl, inr, ℕ, Bool, true, false, ◌&&◌, List, [], ◌∷◌, Some, map, length, refl, sym, ap, ◌∙◌, subst}
-use Rattle.std.{proofs.lemmas.{List.Elements.{All-contains}, Option.{slice_get-get_or}, Bool.{or_left, or_right}}, specs.Prelude.{Contains, All, IsTrue, not}}
+use Rattle.std.proofs.Common.{◌≡◌, ◌<◌, inl, inr, ℕ, Bool, true, false, List, [], ◌∷◌, Some, map, length, refl, sym, ap, ◌∙◌, subst}
+use Rattle.std.{proofs.lemmas.{List.Elements.{All-contains}, Option.{slice_get-get_or}, Bool.{and_from, or_left, or_right}}, specs.Prelude.{Contains, All, IsTrue, not}}
 use Rattle.pc_common.specs.{World.{Node, Edge, World, IsWorld, has_node, has_edge, same_node}, Chain.{Leads, Chain, Acyclic}}
 use Rattle.pc_common.{specs.Generated.{IsListed, HasEnds, IsGenerated}, proofs.{Nodes.{has_node_is, has_edge_is}, GeneratedWorlds.{generates, node_tells}}}
 use Rattle.pc_ground.specs.{declared.literal.Literal.{Literal, TheVariants.{Node as a_node, Edge as an_edge, NoNode, NoEdge}}, Numbers.{AreDistinct}}
@@ -85,9 +85,6 @@ pub not_true : (b : Bool) → (b ≡ true → ⊥) → not b ≡ true
 not_true true f = absurd (f refl)
 not_true false f = refl
 
-and_both : (x y : Bool) → x ≡ true → y ≡ true → (x && y) ≡ true
-and_both x y e f = rw (e, f) refl
-
 met_true : (nodes : List Node) (ls : List (Literal ℕ)) (ns : List Node) (es : List Edge) (w : World Node) → Shows nodes ls ns es → IsGenerated ns es w
     → (t : Tree ℕ) → AreBelow (length nodes) t → IsMet ls t → tree_true w (tree_over nodes t) ≡ true
 met_true nodes ls ns es w s g always below h = refl
@@ -113,7 +110,7 @@ met_true nodes ls ns es w s g (leaf (NoEdge a b)) below h =
     let Q : ℕ → Type 0 = λ k. Chain (Joins ls) a k in
     h (subst Q same back.3))
 met_true nodes ls ns es w s g (both a b) below h =
-    and_both (tree_true w (tree_over nodes a)) (tree_true w (tree_over nodes b)) (met_true nodes ls ns es w s g a below.0 h.0)
+    and_from (tree_true w (tree_over nodes a)) (tree_true w (tree_over nodes b)) (met_true nodes ls ns es w s g a below.0 h.0)
     (met_true nodes ls ns es w s g b below.1 h.1)
 met_true nodes ls ns es w s g (either a b) below (inl h) =
     or_left (tree_true w (tree_over nodes a)) (tree_true w (tree_over nodes b)) (met_true nodes ls ns es w s g a below.0 h)

@@ -1,5 +1,5 @@
 -- The weight of open branches falls with each split, and with each branch that is closed.
-use Rattle.std.proofs.Common.{◌≡◌, ◌≤◌, ◌<◌, inl, inr, ℕ, zero, suc, ◌+◌, ◌-◌, ◌*◌, ◌^◌, Bool, true, false, not, ◌||◌, ◌⊎◌, List, [], ◌∷◌, Option, Some, refl, sym, ap, ◌∙◌, subst, arith, eq-eqb, eqb-true}
+use Rattle.std.proofs.Common.{◌≡◌, ◌≤◌, ◌<◌, inl, inr, ℕ, zero, suc, ◌+◌, ◌-◌, ◌*◌, ◌^◌, Bool, true, false, not, ◌||◌, ◌⊎◌, List, [], ◌∷◌, Some, refl, sym, ap, ◌∙◌, subst, arith, eq-eqb, eqb-true}
 use Rattle.std.proofs.{Math.Nat.{pow-le-pow_right, pow-suc, one-le-pow}, lemmas.{List.Sums.{sum_by-cons}, Bool.{ltb-false, or_left, or_right}}}
 use Rattle.std.specs.Prelude.{if◌then◌else◌, nat_lt, ◌==◌}
 use Rattle.pc_common.proofs.Elements.{In, in_front, in_back, in_map, any_holds, holds_any}
@@ -60,12 +60,6 @@ moved p q size ps qs e d = let P : ℕ → Type 0 = λ n. IsDecidedBy n size ps 
 sides_same : {N : Type 0} (a b c d : Tree N) → Some (either a b) ≡ Some (either c d) → a ≡ c
 sides_same a b c d e = (let left : a ≡ c = cc in left)
 
-at_left : {X : Type 0} (c : Bool) (x y z : Option X) → c ≡ true → (if c then x else y) ≡ z → x ≡ z
-at_left c x y z e h = rw e at h
-
-at_right : {X : Type 0} (c : Bool) (x y z : Option X) → c ≡ false → (if c then x else y) ≡ z → y ≡ z
-at_right c x y z e h = rw e at h
-
 -- the Or that is decided counts less
 pending_one_less : {N : Type 0} (t : Tree N) (p q : ℕ) (a b : Tree N) (ps qs : List ℕ) → IsWithin ps qs → subtree_at t q ≡ Some (either a b)
     → IsDecidedBy (p + q) (size_of a) ps qs → pending_ors t p qs < pending_ors t p ps
@@ -87,14 +81,12 @@ pending_one_less (both x y) p (suc q) a b ps qs w e d =
     let right_more = pending_more y (p + 1 + size_of x) ps qs w in
     elim (true_or_false (nat_lt q (size_of x))) [
       | inl h ↦
-          let less = pending_one_less x (p + 1) q a b ps qs w
-          (at_left (nat_lt q (size_of x)) (subtree_at x q) (subtree_at y (q - size_of x)) (Some (either a b)) h e)
+          let less = pending_one_less x (p + 1) q a b ps qs w (rw h at e)
           (moved (p + suc q) (p + 1 + q) (size_of a) ps qs (omega arith) d) in
           omega (arith, less, right_more)
       | inr h ↦
           let past = ltb-false q (size_of x) h in
-          let less = pending_one_less y (p + 1 + size_of x) (q - size_of x) a b ps qs w
-          (at_right (nat_lt q (size_of x)) (subtree_at x q) (subtree_at y (q - size_of x)) (Some (either a b)) h e)
+          let less = pending_one_less y (p + 1 + size_of x) (q - size_of x) a b ps qs w (rw h at e)
           (moved (p + suc q) (p + 1 + size_of x + (q - size_of x)) (size_of a) ps qs (omega (arith, past)) d) in
           omega (arith, less, left_more)
     ]
@@ -105,14 +97,12 @@ pending_one_less (either x y) p (suc q) a b ps qs w e d =
     let right_more = pending_more y (p + 1 + size_of x) ps qs w in
     elim (true_or_false (nat_lt q (size_of x))) [
       | inl h ↦
-          let less = pending_one_less x (p + 1) q a b ps qs w
-          (at_left (nat_lt q (size_of x)) (subtree_at x q) (subtree_at y (q - size_of x)) (Some (either a b)) h e)
+          let less = pending_one_less x (p + 1) q a b ps qs w (rw h at e)
           (moved (p + suc q) (p + 1 + q) (size_of a) ps qs (omega arith) d) in
           omega (arith, here, less, right_more)
       | inr h ↦
           let past = ltb-false q (size_of x) h in
-          let less = pending_one_less y (p + 1 + size_of x) (q - size_of x) a b ps qs w
-          (at_right (nat_lt q (size_of x)) (subtree_at x q) (subtree_at y (q - size_of x)) (Some (either a b)) h e)
+          let less = pending_one_less y (p + 1 + size_of x) (q - size_of x) a b ps qs w (rw h at e)
           (moved (p + suc q) (p + 1 + size_of x + (q - size_of x)) (size_of a) ps qs (omega (arith, past)) d) in
           omega (arith, here, less, left_more)
     ]

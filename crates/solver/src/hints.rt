@@ -9,10 +9,10 @@
 //! | `Agenda::new` | before the tree is asserted |
 //! | `Agenda::note` | a side was entered, and nothing clashed: what changed is noted (`changes.rt`, `watch.rt`, `standing.rt`) |
 //! | `Agenda::first_open` | is there a choice, and which is the first? (`truth.rt`) |
-//! | `Agenda::guide` | does a failure that is replayed say what comes next? (`scripts.rt`) |
+//! | `Agenda::guide` | does a failure that is replayed say what comes next? (`failures.rt`) |
 //! | `propose` | what comes next? (`propose.rt`, `closing.rt`, `alternatives.rt`, `records.rt`) |
 //! | `Agenda::split` | it is split, and its right side waits |
-//! | `Agenda::learn` | a leaf closes a side by a clash (`failures.rt`, `conflict_sets.rt`, `first_literals.rt`) |
+//! | `Agenda::learn` | a leaf closes a side by a clash (`failures.rt`, `conflict_sets.rt`, `levels.rt`) |
 //! | `Agenda::go_back` | the next side that waits is entered |
 //! | `Agenda::take_cuts` | the refutation is handed out |
 
@@ -23,10 +23,9 @@ mod changes;
 mod closing;
 mod conflict_sets;
 mod failures;
-mod first_literals;
+mod levels;
 mod propose;
 mod records;
-mod scripts;
 mod standing;
 mod truth;
 mod walk;

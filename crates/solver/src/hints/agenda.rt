@@ -1,7 +1,7 @@
 ghost use Rattle.std.specs.Prelude.{◌≡◌, All, length};
 ghost use Rattle.solver.specs.Below.{IsRowBelow};
 
-use super::alternatives::{count_left, count_open};
+use super::alternatives::count_open;
 use super::bits::Bits;
 use super::changes::{Changes, Others};
 use super::failures::Failures;
@@ -28,6 +28,7 @@ struct Change {
 /// Where the search looks next: the pending Ors of the first open branch, each with its standing, so that a turn looks
 /// only where something changed. No clause speaks of it: what it proposes is tested, and where it proposes nothing all
 /// rows are looked at.
+#[derive(Drop)]
 pub(crate) struct Agenda {
     watch: Watch,
     standings: Vec<Standing>,
@@ -35,10 +36,8 @@ pub(crate) struct Agenda {
     stamps: Vec<u64>,
     /// How often the search split or went back. What the trail has of one moment is undone together.
     moment: u64,
-    /// The pending Ors whose truth or whose closed sides are known, which a literal may change; and those whose closed
-    /// sides are known.
-    known_truths: Bits,
-    known_sides: Bits,
+    /// The pending Ors.
+    pending: Bits,
     open: Bits,
     ready: Bits,
     forced: Bits,
@@ -56,41 +55,16 @@ pub(crate) struct Agenda {
     is_refused: bool,
 }
 
-// By hand: docs/DECISIONS.md, "Drops are written by hand".
-impl Drop for Agenda {
-    fn drop(self) {
-        let Agenda {
-            watch: _,
-            standings: _,
-            stamps: _,
-            moment: _,
-            known_truths: _,
-            known_sides: _,
-            open: _,
-            ready: _,
-            forced: _,
-            truths: _,
-            trail: _,
-            marks: _,
-            seen: _,
-            failures: _,
-            changes: _,
-            is_refused: _,
-        } = self;
-    }
-}
-
 impl Agenda {
-    /// That of a search over these rows and so many nodes, before the tree is asserted.
-    pub(crate) fn new(alloc: Global, rows: &[Row<u32>], nodes: u32) -> Agenda {
+    /// That of a search over these rows, before the tree is asserted.
+    pub(crate) fn new(alloc: Global, rows: &[Row<u32>]) -> Agenda {
         let count = end_of_ors(rows);
         let mut agenda = Agenda {
             watch: Watch::empty(alloc),
             standings: Vec::new(alloc),
             stamps: Vec::new(alloc),
             moment: 0,
-            known_truths: Bits::new(alloc),
-            known_sides: Bits::new(alloc),
+            pending: Bits::new(alloc),
             open: Bits::new(alloc),
             ready: Bits::new(alloc),
             forced: Bits::new(alloc),
@@ -98,7 +72,7 @@ impl Agenda {
             trail: Vec::new(alloc),
             marks: Vec::new(alloc),
             seen: 0,
-            failures: Failures::new(alloc, nodes, count),
+            failures: Failures::new(alloc, count),
             changes: Changes::new(alloc),
             is_refused: false,
         };
@@ -110,8 +84,7 @@ impl Agenda {
     fn make_room(&mut self, count: usize) {
         self.is_refused |= self.standings.resize(count, Standing::none()).is_err();
         self.is_refused |= self.stamps.resize(count, 0).is_err();
-        self.is_refused |= self.known_truths.make_room(count);
-        self.is_refused |= self.known_sides.make_room(count);
+        self.is_refused |= self.pending.make_room(count);
         self.is_refused |= self.open.make_room(count);
         self.is_refused |= self.ready.make_room(count);
         self.is_refused |= self.forced.make_room(count);
@@ -142,11 +115,8 @@ impl Agenda {
         }
         let before = self.standings[position];
         self.standings[position] = standing;
-        if before.can_stale(true) != standing.can_stale(true) {
-            self.known_truths.put(position, standing.can_stale(true));
-        }
-        if before.can_stale(false) != standing.can_stale(false) {
-            self.known_sides.put(position, standing.can_stale(false));
+        if before.is_pending() != standing.is_pending() {
+            self.pending.put(position, standing.is_pending());
         }
         if before.is_open() != standing.is_open() {
             self.open.put(position, standing.is_open());
@@ -288,7 +258,7 @@ impl Agenda {
             self.touch_list(rows, ends_of(node), Others::Closing, false);
         }
         if is_starting {
-            self.touch_list(rows, starts_of(node), Others::Joined, false);
+            self.touch_list(rows, starts_of(node), Others::All, false);
         }
         if has_grown | is_starting {
             self.touch_list(rows, joint_of(node), Others::All, false);
@@ -302,67 +272,27 @@ impl Agenda {
         }
     }
 
-    /// The pending Ors with a standing that a literal may change.
-    fn touchable(&self, in_truth: bool) -> &Bits {
-        if in_truth {
-            &self.known_truths
-        } else {
-            &self.known_sides
-        }
-    }
-
-    /// Makes the pending Or that this is within stale: its closed sides, and with `in_truth` its truth. Returns the
-    /// position from which on the next such Or may stand: past the last row if there is none.
-    fn touch(&mut self, rows: &[Row<u32>], watched: Watched, in_truth: bool) -> usize {
+    /// Makes the pending Or that this is within stale: its closed sides, and with `in_truth` its truth.
+    fn touch(&mut self, rows: &[Row<u32>], watched: Watched, in_truth: bool) {
         let position = watched.position;
-        if let Some(p) = self.touchable(in_truth).last_up_to(position, watched.outer) {
-            let end = p.saturating_add(skip_at(rows, p));
-            if position < end {
+        if let Some(p) = self.pending.last_up_to(position, watched.outer) {
+            if position < p.saturating_add(skip_at(rows, p)) {
                 let standing = self.standing(p).stale(in_truth);
                 self.change(p, standing);
-                return end;
             }
         }
-        match self.touchable(in_truth).first_from(position) {
-            Some(next) => next,
-            None => rows.len(),
-        }
     }
 
-    /// The same for a pair whose other node is among these. Returns the other node and the position from which on there
-    /// may be more.
-    fn touch_watched(
-        &mut self,
-        rows: &[Row<u32>],
-        watched: Watched,
-        others: Others,
-        in_truth: bool,
-    ) -> (u32, usize) {
-        let Some(other) = self.changes.first_other(others, watched.other) else {
-            return (u32::MAX, usize::MAX);
-        };
-        if other > watched.other {
-            return (other, 0);
-        }
-        let position = self.touch(rows, watched, in_truth);
-        (other, position)
-    }
-
-    /// The same for all pairs on the list. Pairs with other nodes are passed over, and so are those within no Or that a
-    /// literal may change.
+    /// The same for each pair on the list whose other node is among these.
     fn touch_list(&mut self, rows: &[Row<u32>], list: u32, others: Others, in_truth: bool) {
         let (from, end) = self.watch.places(list);
-        let mut at = from;
-        for _ in from..end {
-            if at >= end {
-                return;
-            }
+        for at in from..end {
             let Some(watched) = self.watch.watched(at) else {
                 return;
             };
-            let (other, position) = self.touch_watched(rows, watched, others, in_truth);
-            let next = at.saturating_add(1);
-            at = self.watch.first_place(next, end, other, position);
+            if self.changes.has_other(others, watched.other) {
+                self.touch(rows, watched, in_truth);
+            }
         }
     }
 
@@ -468,7 +398,7 @@ impl Agenda {
             let left = if skip_at(rows, p) == 3 {
                 2
             } else {
-                count_left(rows, graph, standing.is_negated(), p)
+                count_open(rows, graph, standing.is_negated(), p, 2, true)
             };
             standing = standing.counted(left);
         }
@@ -534,7 +464,7 @@ impl Agenda {
                 count = usize::MAX;
             }
             let limit = count.saturating_add(1);
-            let open = count_open(rows, graph, negated, position, limit);
+            let open = count_open(rows, graph, negated, position, limit, false);
             if open < count || (open == count && record.has_more(newest)) {
                 chosen = Place { negated, position };
                 newest = record;

@@ -38,32 +38,6 @@ pub(crate) fn side_is_closed(rows: &[Row<u32>], graph: &OrderGraph, side: Side) 
     part_is_closed(rows, graph, Walk::new(rows, side.negated, side.root))
 }
 
-/// How many alternatives of the Or at `p` are not closed, up to `limit`.
-pub(crate) fn count_open(
-    rows: &[Row<u32>],
-    graph: &OrderGraph,
-    negated: bool,
-    p: usize,
-    limit: usize,
-) -> usize
-    requires { All (IsRowBelow graph.now.nodes) rows.now }
-{
-    let mut walk = Walk::alternatives(rows, negated, p);
-    let mut count: usize = 0;
-    for _ in 0..rows.len() {
-        if count >= limit {
-            return count;
-        }
-        let Some(root) = walk.next_alternative(rows) else {
-            return count;
-        };
-        if !part_is_closed(rows, graph, Walk::new(rows, negated, root)) {
-            count = count.saturating_add(1);
-        }
-    }
-    count
-}
-
 /// Whether the literal clashes together with one of the part, of which none would by itself.
 fn clashes_beside(rows: &[Row<u32>], graph: &OrderGraph, literal: Literal<u32>, part: Walk) -> bool
     requires below { All (IsRowBelow graph.now.nodes) rows.now }
@@ -140,20 +114,32 @@ fn is_as_good_as_closed(rows: &[Row<u32>], graph: &OrderGraph, negated: bool, ro
     false
 }
 
-/// How many alternatives of the Or at `p` are not as good as closed: none, one or two, which is more than one.
-pub(crate) fn count_left(rows: &[Row<u32>], graph: &OrderGraph, negated: bool, p: usize) -> usize
+/// How many alternatives of the Or at `p` are not closed, up to `limit`: not as good as closed, where that is asked.
+pub(crate) fn count_open(
+    rows: &[Row<u32>],
+    graph: &OrderGraph,
+    negated: bool,
+    p: usize,
+    limit: usize,
+    in_full: bool,
+) -> usize
     requires { All (IsRowBelow graph.now.nodes) rows.now }
 {
     let mut walk = Walk::alternatives(rows, negated, p);
     let mut count: usize = 0;
     for _ in 0..rows.len() {
-        if count == 2 {
+        if count >= limit {
             return count;
         }
         let Some(root) = walk.next_alternative(rows) else {
             return count;
         };
-        if !is_as_good_as_closed(rows, graph, negated, root) {
+        let is_closed = if in_full {
+            is_as_good_as_closed(rows, graph, negated, root)
+        } else {
+            part_is_closed(rows, graph, Walk::new(rows, negated, root))
+        };
+        if !is_closed {
             count = count.saturating_add(1);
         }
     }

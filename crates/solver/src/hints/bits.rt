@@ -63,17 +63,6 @@ impl Bits {
         self.put_words(&other.words);
     }
 
-    /// Whether it has a number that these words have.
-    pub(crate) fn meets(&self, words: &[u64]) -> bool {
-        let mut met = 0;
-        for k in 0..self.words.len() {
-            if k < words.len() {
-                met |= self.words[k] & words[k];
-            }
-        }
-        met != 0
-    }
-
     pub(crate) fn has(&self, k: usize) -> bool {
         let at = k / 64;
         at < self.words.len() && self.words[at] >> (k % 64) & 1 == 1

@@ -13,10 +13,9 @@ pub(crate) enum Others {
     All,
     Reached,
     Closing,
-    Joined,
 }
 
-/// A denied edge, with its place among the literals.
+/// A denied edge.
 #[derive(Clone, Copy)]
 struct Denial {
     from: u32,
@@ -48,7 +47,9 @@ struct Moment {
 /// - the second node reaches more, and now the end of a denied edge, whose start reaches the first node;
 /// - the start of a denied edge reaches more, and now the first node, and the second one reaches the end.
 ///
-/// So does an edge over a pair that a new denial of an edge has between its ends.
+/// Where an edge is denied anew, an edge over a pair would clash from then on where its start reaches the first node, and the
+/// second one reaches its end. Of the last two cases only the start is looked at.
+#[derive(Drop)]
 pub(crate) struct Changes {
     /// How much each node reaches, as a number that grows with it.
     sizes: Vec<u64>,
@@ -68,10 +69,6 @@ pub(crate) struct Changes {
     closing: Bits,
     /// What the starts of denied edges newly reach, with the starts of the new ones.
     starting: Bits,
-    /// The ends of these denied edges, and all that reaches such an end.
-    joined: Bits,
-    /// The ends alone.
-    ends: Bits,
     /// The nodes that a new literal names, and those that it denies.
     named: Bits,
     denied: Bits,
@@ -79,29 +76,6 @@ pub(crate) struct Changes {
     touched: Bits,
     /// Whether memory was refused to a list.
     pub(crate) is_refused: bool,
-}
-
-// By hand: docs/DECISIONS.md, "Drops are written by hand".
-impl Drop for Changes {
-    fn drop(self) {
-        let Changes {
-            sizes: _,
-            befores: _,
-            denials: _,
-            seen: _,
-            moments: _,
-            grown: _,
-            reached: _,
-            closing: _,
-            starting: _,
-            joined: _,
-            ends: _,
-            named: _,
-            denied: _,
-            touched: _,
-            is_refused: _,
-        } = self;
-    }
 }
 
 /// The literal at `k` of the graph.
@@ -144,8 +118,6 @@ impl Changes {
             reached: Bits::new(alloc),
             closing: Bits::new(alloc),
             starting: Bits::new(alloc),
-            joined: Bits::new(alloc),
-            ends: Bits::new(alloc),
             named: Bits::new(alloc),
             denied: Bits::new(alloc),
             touched: Bits::new(alloc),
@@ -160,8 +132,6 @@ impl Changes {
         self.is_refused |= self.reached.make_room(nodes);
         self.is_refused |= self.closing.make_room(nodes);
         self.is_refused |= self.starting.make_room(nodes);
-        self.is_refused |= self.joined.make_room(nodes);
-        self.is_refused |= self.ends.make_room(nodes);
         self.is_refused |= self.named.make_room(nodes);
         self.is_refused |= self.denied.make_room(nodes);
         self.is_refused |= self.touched.make_room(nodes);
@@ -221,7 +191,6 @@ impl Changes {
         for k in 0..known {
             self.note_known(k, nodes, graph);
         }
-        self.find_joined(nodes, graph);
         self.touched.put_all(&self.grown);
         self.touched.put_all(&self.starting);
     }
@@ -231,8 +200,6 @@ impl Changes {
         self.reached.clear();
         self.closing.clear();
         self.starting.clear();
-        self.ends.clear();
-        self.joined.clear();
         self.named.clear();
         self.denied.clear();
         self.touched.clear();
@@ -305,7 +272,6 @@ impl Changes {
                     self.is_refused |= self.denials.push(denial).is_err();
                     self.starting.put_words(graph.descendants(a));
                     self.starting.put(a as usize, true);
-                    self.ends.put(b as usize, true);
                 }
             }
         }
@@ -328,22 +294,6 @@ impl Changes {
         }
         if self.grown.has(from as usize) {
             self.starting.put_all(&self.reached);
-            self.ends.put(to as usize, true);
-        }
-    }
-
-    /// Finds the joined nodes: the ends, and all that reaches one of them.
-    fn find_joined(&mut self, nodes: u32, graph: &OrderGraph)
-        requires { nodes ≡ graph.now.nodes }
-    {
-        if self.ends.first_from(0).is_none() {
-            return;
-        }
-        self.joined.put_all(&self.ends);
-        for node in 0..nodes {
-            if self.ends.meets(graph.descendants(node)) {
-                self.joined.put(node as usize, true);
-            }
         }
     }
 
@@ -357,7 +307,7 @@ impl Changes {
         self.grown.has(node as usize)
     }
 
-    /// Whether pairs that begin in the node, and end in a joined one, may clash.
+    /// Whether pairs that begin in the node may clash.
     pub(crate) fn is_starting(&self, node: u32) -> bool {
         self.starting.has(node as usize)
     }
@@ -372,13 +322,12 @@ impl Changes {
         self.denied.has(node as usize)
     }
 
-    /// The first node from `from` on that is among these others.
-    pub(crate) fn first_other(&self, others: Others, from: u32) -> Option<u32> {
+    /// Whether the node is among these others.
+    pub(crate) fn has_other(&self, others: Others, node: u32) -> bool {
         match others {
-            Others::All => Some(from),
-            Others::Reached => first_node(&self.reached, from),
-            Others::Closing => first_node(&self.closing, from),
-            Others::Joined => first_node(&self.joined, from),
+            Others::All => true,
+            Others::Reached => self.reached.has(node as usize),
+            Others::Closing => self.closing.has(node as usize),
         }
     }
 }

@@ -3,6 +3,7 @@ use std::alloc::Global;
 /// Sets of levels: of a part of the search that failed the *conflict set*, which are the levels whose splits took
 /// part in its failure (Prosser 1993). One set is at hand; those of left sides wait while their right sides are
 /// searched, the newest last.
+#[derive(Drop)]
 pub(crate) struct ConflictSets {
     /// The levels of the set at hand, each once.
     levels: Vec<usize>,
@@ -14,19 +15,6 @@ pub(crate) struct ConflictSets {
     waiting: Vec<usize>,
     /// Whether memory was refused to a set.
     pub(crate) is_refused: bool,
-}
-
-// By hand: docs/DECISIONS.md, "Drops are written by hand".
-impl Drop for ConflictSets {
-    fn drop(self) {
-        let ConflictSets {
-            levels: _,
-            stamps: _,
-            number: _,
-            waiting: _,
-            is_refused: _,
-        } = self;
-    }
 }
 
 impl ConflictSets {

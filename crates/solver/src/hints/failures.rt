@@ -1,13 +1,20 @@
 use super::conflict_sets::ConflictSets;
-use super::first_literals::FirstLiterals;
+use super::levels::{Levels, Said};
 use super::records::{Record, Records};
-use super::scripts::{Script, Scripts};
 use crate::tree::place::Place;
 use order_graph::{Clash, OrderGraph};
-use pc_ground::Literal;
 use refutation::Cut;
 use std::alloc::Global;
 use std::mem;
+
+/// How a part of the search failed: by a split of this Or, and then on each side by what its script says. Where a side
+/// has none, a leaf closed it.
+#[derive(Clone, Copy)]
+struct Script {
+    place: Place,
+    left: Option<usize>,
+    right: Option<usize>,
+}
 
 /// How the left side of a split failed, while its right side is searched.
 #[derive(Clone, Copy)]
@@ -15,8 +22,7 @@ struct LeftFailure {
     /// Whether the split took no part in the failure: then the same refutation closes the right side.
     is_independent: bool,
     script: Option<usize>,
-    /// How many scripts there were after it, and how many levels waited before its conflict set.
-    scripts: usize,
+    /// How many levels waited before its conflict set.
     waited: usize,
     /// Where its steps end.
     end: usize,
@@ -30,9 +36,8 @@ struct Fork {
     step: usize,
     /// The level at which its Or was asserted.
     origin: usize,
-    /// How many literals, and how many scripts, there were before it.
+    /// How many literals there were before it.
     literals: usize,
-    scripts: usize,
     /// The script that it follows.
     script: Option<usize>,
     /// How the left side failed, once the right side is searched.
@@ -49,10 +54,11 @@ struct Fork {
 ///
 /// The search still refutes each side, since a refutation has each of them. So where a left side has failed
 /// without its split, the right one is searched by the same splits: they are replayed.
+#[derive(Drop)]
 pub(crate) struct Failures {
     /// The level of a split is its place here, from 1; level 0 is what the whole tree asserts.
     forks: Vec<Fork>,
-    literals: FirstLiterals,
+    literals: Levels,
     /// How many positions there are: the list below, of one level a position, is made with the first Or that a split
     /// asserts.
     positions: usize,
@@ -60,7 +66,8 @@ pub(crate) struct Failures {
     /// The conflict set of the failure at hand, and those of left sides.
     conflicts: ConflictSets,
     records: Records,
-    scripts: Scripts,
+    /// The scripts of what failed, with the splits alone that took part. Each names only scripts before it, by number.
+    scripts: Vec<Script>,
     /// The script of the failure at hand, and the one that the next split is to follow.
     found: Option<usize>,
     guide: Option<usize>,
@@ -68,41 +75,21 @@ pub(crate) struct Failures {
     end: usize,
     /// Which steps are not needed.
     cuts: Vec<Cut>,
-    /// Whether memory was refused to the forks, the levels or the cuts.
+    /// Whether memory was refused to the forks, the levels, the scripts or the cuts.
     is_refused: bool,
 }
 
-// By hand: docs/DECISIONS.md, "Drops are written by hand".
-impl Drop for Failures {
-    fn drop(self) {
-        let Failures {
-            forks: _,
-            literals: _,
-            positions: _,
-            levels: _,
-            conflicts: _,
-            records: _,
-            scripts: _,
-            found: _,
-            guide: _,
-            end: _,
-            cuts: _,
-            is_refused: _,
-        } = self;
-    }
-}
-
 impl Failures {
-    /// Those of a search over so many nodes and positions, before its first turn.
-    pub(crate) fn new(alloc: Global, nodes: u32, positions: usize) -> Failures {
+    /// Those of a search over so many positions, before its first turn.
+    pub(crate) fn new(alloc: Global, positions: usize) -> Failures {
         Failures {
             forks: Vec::new(alloc),
-            literals: FirstLiterals::new(alloc, nodes),
+            literals: Levels::new(alloc),
             positions,
             levels: Vec::new(alloc),
             conflicts: ConflictSets::new(alloc),
             records: Records::new(alloc, positions),
-            scripts: Scripts::new(alloc),
+            scripts: Vec::new(alloc),
             found: None,
             guide: None,
             end: 0,
@@ -122,7 +109,6 @@ impl Failures {
             | self.literals.is_refused
             | self.conflicts.is_refused
             | self.records.is_refused
-            | self.scripts.is_refused
     }
 
     /// Whether nothing failed so far.
@@ -158,56 +144,39 @@ impl Failures {
         }
     }
 
-    /// Whether the literal at this place, from 1, was asserted before the fork.
-    fn is_before_fork(&self, place: usize, fork: usize) -> bool {
-        fork < self.forks.len() && place <= self.forks[fork].literals
-    }
-
-    /// The level at which the literal at this place was asserted: how many forks were made before it.
-    fn level_of_literal(&self, place: usize) -> usize {
-        let mut low = 0;
-        let mut high = self.forks.len();
-        for _ in 0..self.forks.len() {
-            if low >= high {
-                return low;
-            }
-            let middle = low + (high - low) / 2;
-            if self.is_before_fork(place, middle) {
-                high = middle;
-            } else {
-                low = middle.saturating_add(1);
-            }
+    /// The script of this number.
+    fn script(&self, number: Option<usize>) -> Option<Script> {
+        let number = number?;
+        if number < self.scripts.len() {
+            Some(self.scripts[number])
+        } else {
+            None
         }
-        low
     }
 
     /// The Or that is to be split next, where a failure is to be replayed.
     pub(crate) fn guide(&self) -> Option<Place> {
-        let script = self.scripts.script(self.guide)?;
-        Some(script.place)
+        Some(self.script(self.guide)?.place)
     }
 
     /// The Or is split by this step, and its left side is searched next. Where it is another Or than the replay has here,
     /// the replay ends.
     pub(crate) fn split(&mut self, place: Place, graph: &OrderGraph, step: usize) {
-        self.literals.add(graph);
         let mut script = self.guide;
         self.guide = None;
-        match self.scripts.script(script) {
+        match self.script(script) {
             Some(followed) if followed.place.position == place.position => {
                 self.guide = followed.left;
             }
             _ => script = None,
         }
         let origin = self.level_of_or(place.position);
-        let literals = self.literals.len();
-        let scripts = self.scripts.len();
+        let literals = graph.len();
         let fork = Fork {
             place,
             step,
             origin,
             literals,
-            scripts,
             script,
             left: None,
         };
@@ -218,8 +187,9 @@ impl Failures {
     /// clash.
     pub(crate) fn learn(&mut self, clash: &Clash, graph: &OrderGraph, end: usize) {
         self.end = end;
+        self.note_literals(graph);
         self.conflicts.clear();
-        self.add_clash(clash, graph);
+        self.add_clash(clash);
         let level = self.forks.len();
         self.add(level);
         self.record_conflict();
@@ -238,55 +208,44 @@ impl Failures {
         }
     }
 
-    /// Puts the level of the literal at this place into the conflict set. A literal after the last split is of the side
-    /// at hand.
-    fn add_place(&mut self, place: usize) {
-        if place > 0 {
-            let level = self.level_of_literal(place);
-            self.add(level);
+    /// Notes the levels of all literals that the graph has.
+    fn note_literals(&mut self, graph: &OrderGraph) {
+        for level in 0..self.forks.len() {
+            self.literals.note(graph, self.forks[level].literals, level);
         }
+        self.literals.note(graph, graph.len(), self.forks.len());
+    }
+
+    /// Puts the level at which this was said into the conflict set.
+    fn add_said(&mut self, said: Said) {
+        let level = self.literals.level_of(said);
+        self.add(level);
     }
 
     /// Puts the levels of the literals that clash into the conflict set.
-    fn add_clash(&mut self, clash: &Clash, graph: &OrderGraph) {
+    fn add_clash(&mut self, clash: &Clash) {
         match clash {
-            Clash::Cycle(nodes) => self.add_cycle(nodes.as_slice(), graph),
-            Clash::Path(nodes) => self.add_path(nodes.as_slice(), graph),
-            Clash::Absent(node) => {
-                let place = self.literals.of_node(*node);
-                self.add_place(place);
-            }
+            Clash::Cycle(nodes) => self.add_edges(nodes.as_slice(), false),
+            Clash::Path(nodes) => self.add_edges(nodes.as_slice(), true),
+            Clash::Absent(node) => self.add_said(Said::Node(*node)),
         }
     }
 
-    fn add_literal(&mut self, literal: Literal<u32>, graph: &OrderGraph) {
-        let place = self.literals.of_literal(graph, literal);
-        self.add_place(place);
-    }
-
-    /// Puts the levels of the edges from each node to the next into it.
-    fn add_edges(&mut self, nodes: &[u32], graph: &OrderGraph) {
+    /// Puts the levels of the edges from each node to the next into it, and that of what joins both ends: an edge from the
+    /// last node to the first, or a denied one from the first to the last.
+    fn add_edges(&mut self, nodes: &[u32], is_denied: bool) {
+        if nodes.is_empty() {
+            return;
+        }
         for k in 1..nodes.len() {
-            self.add_literal(Literal::Edge(nodes[k - 1], nodes[k]), graph);
+            self.add_said(Said::Edge(nodes[k - 1], nodes[k]));
         }
-    }
-
-    /// The same, with the edge from the last node to the first.
-    fn add_cycle(&mut self, nodes: &[u32], graph: &OrderGraph) {
-        if nodes.is_empty() {
-            return;
-        }
-        self.add_edges(nodes, graph);
-        self.add_literal(Literal::Edge(nodes[nodes.len() - 1], nodes[0]), graph);
-    }
-
-    /// The same, with the denied edge from the first node to the last.
-    fn add_path(&mut self, nodes: &[u32], graph: &OrderGraph) {
-        if nodes.is_empty() {
-            return;
-        }
-        self.add_edges(nodes, graph);
-        self.add_literal(Literal::NoEdge(nodes[0], nodes[nodes.len() - 1]), graph);
+        let (first, last) = (nodes[0], nodes[nodes.len() - 1]);
+        self.add_said(if is_denied {
+            Said::NoEdge(first, last)
+        } else {
+            Said::Edge(last, first)
+        });
     }
 
     /// Each Or whose split is in the conflict set at hand gets a record of it.
@@ -306,7 +265,8 @@ impl Failures {
         let Some(fork) = self.forks.pop() else {
             return true;
         };
-        self.literals.cut(graph, fork.literals);
+        let level = self.forks.len().saturating_add(1);
+        self.literals.cut(graph, fork.literals, level);
         match fork.left {
             None => {
                 self.turn_right(fork);
@@ -332,7 +292,6 @@ impl Failures {
         let left = LeftFailure {
             is_independent,
             script: self.found,
-            scripts: self.scripts.len(),
             waited,
             end: self.end,
         };
@@ -345,7 +304,7 @@ impl Failures {
 
     /// The script of the right side.
     fn right_of(&self, script: Option<usize>) -> Option<usize> {
-        self.scripts.script(script)?.right
+        self.script(script)?.right
     }
 
     /// Both sides of the fork, which was the last, have failed.
@@ -363,7 +322,6 @@ impl Failures {
     /// The fork took no part in the failure of its left side: that conflict set and script stand for both sides, and the
     /// steps of the left side for the split.
     fn take_left(&mut self, fork: Fork, left: LeftFailure) {
-        self.scripts.truncate(left.scripts);
         self.found = left.script;
         self.conflicts.clear();
         self.conflicts.unite(left.waited);
@@ -380,7 +338,6 @@ impl Failures {
     /// steps of the right side for the split.
     fn take_right(&mut self, fork: Fork, left: LeftFailure) {
         self.conflicts.discard(left.waited);
-        self.found = self.scripts.remove(fork.scripts, left.scripts, self.found);
         self.cut(fork.step, left.end);
     }
 
@@ -394,7 +351,8 @@ impl Failures {
             left: left.script,
             right: self.found,
         };
-        self.found = self.scripts.push(script);
+        self.found = Some(self.scripts.len());
+        self.is_refused |= self.scripts.push(script).is_err();
         self.add(fork.origin);
     }
 }

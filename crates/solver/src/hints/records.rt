@@ -23,11 +23,6 @@ impl Record {
         self.time > other.time
     }
 
-    /// Whether both have their last failure at one time.
-    pub(crate) fn is_as_new(self, other: Record) -> bool {
-        self.time == other.time
-    }
-
     /// Whether there were more failures than those of the other.
     pub(crate) fn has_more(self, other: Record) -> bool {
         self.count > other.count
@@ -36,6 +31,7 @@ impl Record {
 
 /// The records of all Ors. To split what took part in the last conflict comes from Lecoutre and others (2009), to
 /// count the conflicts and to let the older ones weigh less from Moskewicz and others (2001).
+#[derive(Drop)]
 pub(crate) struct Records {
     /// How many positions there are: the list below, of one record a position, is made with the first failure.
     positions: usize,
@@ -44,18 +40,6 @@ pub(crate) struct Records {
     failures: u64,
     /// Whether memory was refused to the list.
     pub(crate) is_refused: bool,
-}
-
-// By hand: docs/DECISIONS.md, "Drops are written by hand".
-impl Drop for Records {
-    fn drop(self) {
-        let Records {
-            positions: _,
-            records: _,
-            failures: _,
-            is_refused: _,
-        } = self;
-    }
 }
 
 impl Records {

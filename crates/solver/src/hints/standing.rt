@@ -112,16 +112,6 @@ impl Standing {
         self.has(TRUTH_STALE)
     }
 
-    /// Whether it is pending and may be made stale so. Where it is true now, its sides need not be until its truth is.
-    pub(crate) fn can_stale(self, in_truth: bool) -> bool {
-        let known = if in_truth {
-            !self.has(TRUTH_STALE) | !self.has(SIDES_STALE | SETTLED)
-        } else {
-            self.is_open() & !self.has(SIDES_STALE | SETTLED)
-        };
-        self.has(PENDING) & known
-    }
-
     pub(crate) fn is_left_closed(self) -> bool {
         self.has(LEFT_CLOSED)
     }

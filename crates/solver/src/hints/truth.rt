@@ -62,38 +62,11 @@ fn tell(rows: &[Row<u32>], graph: &OrderGraph, truths: &mut [bool], p: usize)
     }
 }
 
-/// Whether the leaf at `p` is true now.
-fn leaf_holds(rows: &[Row<u32>], graph: &OrderGraph, p: usize) -> bool
-    requires { All (IsRowBelow graph.now.nodes) rows.now }
-{
-    row_holds(rows, graph, &[], p)
-}
-
-/// Whether the And or Or of two leaves at `root` is true now.
-fn pair_holds(rows: &[Row<u32>], graph: &OrderGraph, root: usize) -> bool
-    requires { All (IsRowBelow graph.now.nodes) rows.now }
-{
-    let left = root.saturating_add(1);
-    let right = root.saturating_add(2);
-    if root >= rows.len() {
-        return false;
-    }
-    match rows[root].kind {
-        RowKind::And => leaf_holds(rows, graph, left) && leaf_holds(rows, graph, right),
-        RowKind::Or => leaf_holds(rows, graph, left) || leaf_holds(rows, graph, right),
-        RowKind::True | RowKind::False | RowKind::Lit(_) => false,
-    }
-}
-
-/// Whether the tree at `root` is true now: one loop over its rows, from the last one to its root. Most trees that are
-/// asked for are of two leaves, and need no loop.
+/// Whether the tree at `root` is true now: one loop over its rows, from the last one to its root.
 fn tree_holds(rows: &[Row<u32>], graph: &OrderGraph, truths: &mut [bool], root: usize) -> bool
     requires { All (IsRowBelow graph.now.nodes) rows.now }
 {
     let count = skip_at(rows, root);
-    if count == 3 {
-        return pair_holds(rows, graph, root);
-    }
     for k in 0..count {
         let p = root.saturating_add(count - 1 - k);
         tell(rows, graph, truths, p);

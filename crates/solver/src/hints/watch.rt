@@ -1,11 +1,9 @@
-use super::walk::{Walk, skip_at};
-use crate::tree::ors::denied_left;
+use crate::tree::ors::literal_at;
 use pc_ground::{Literal, Row, RowKind, Version};
 use std::alloc::Global;
 
-/// An outermost Or of at most so many rows is watched by each pair that its sides join. A larger one is watched by the
-/// nodes of these pairs, so that the lists grow with the tree.
-const SMALL: usize = 5;
+/// How many rows an Or of two literals has, which is a *small* one.
+const SMALL: usize = 3;
 
 /// What the standing of an Or depends on: a node, or a pair of nodes that a chain may join.
 #[derive(Clone, Copy)]
@@ -21,27 +19,18 @@ pub(crate) struct Watched {
 
 /// What the Ors depend on, by node, as a solver's watch lists have literals. Each node has four lists: the pairs that begin
 /// in it; the pairs that end in it; the literals on the node itself; and the literals with it that a larger Or asserts with
-/// others. A list is sorted by the other nodes, and then by position.
+/// others. A list is in order of positions.
 ///
-/// A pair is an edge or a denied edge, or one that a side joins by two literals: where these clash, and neither clashes by
-/// itself, an edge over the pair would clash.
+/// A pair is an edge or a denied edge, or one that the two literals of a small Or join: where these clash, and neither
+/// clashes by itself, an edge over the pair would clash. A larger Or is watched by the nodes of its literals instead, so that
+/// the lists grow with the tree.
+#[derive(Drop)]
 pub(crate) struct Watch {
     /// Where each list begins. After the last list there is one place more, where it ends.
     starts: Vec<usize>,
     items: Vec<Watched>,
     /// Whether memory was refused to what is to be watched.
     pub(crate) is_refused: bool,
-}
-
-// By hand: docs/DECISIONS.md, "Drops are written by hand".
-impl Drop for Watch {
-    fn drop(self) {
-        let Watch {
-            starts: _,
-            items: _,
-            is_refused: _,
-        } = self;
-    }
 }
 
 /// How many lists a node has.
@@ -91,6 +80,7 @@ pub(crate) fn end_of_ors(rows: &[Row<u32>]) -> usize {
 }
 
 /// The lists in the making: what is to be watched, in order of positions.
+#[derive(Drop)]
 struct Watching {
     version: Version,
     items: Vec<Watched>,
@@ -100,44 +90,11 @@ struct Watching {
     end: usize,
     is_small: bool,
     and_end: usize,
-    /// The literals of the side at hand.
-    side: Vec<Literal<u32>>,
     /// Whether memory was refused to what is to be watched.
     is_refused: bool,
 }
 
-// By hand: docs/DECISIONS.md, "Drops are written by hand".
-impl Drop for Watching {
-    fn drop(self) {
-        let Watching {
-            version: _,
-            items: _,
-            outer: _,
-            end: _,
-            is_small: _,
-            and_end: _,
-            side: _,
-            is_refused: _,
-        } = self;
-    }
-}
-
 impl Watching {
-    /// What was put.
-    fn into_items(self) -> Vec<Watched> {
-        let Watching {
-            version: _,
-            items,
-            outer: _,
-            end: _,
-            is_small: _,
-            and_end: _,
-            side: _,
-            is_refused: _,
-        } = self;
-        items
-    }
-
     fn put(&mut self, list: u32, other: u32, position: usize) {
         let watched = Watched {
             list,
@@ -178,50 +135,15 @@ impl Watching {
         }
     }
 
-    /// Puts the literals that the part at `root` asserts under this sign to those of the side.
-    fn gather(&mut self, rows: &[Row<u32>], negated: bool, root: usize) {
-        let mut walk = Walk::new(rows, negated, root);
-        for _ in 0..rows.len() {
-            let Some(literal) = walk.next_literal(rows) else {
-                return;
-            };
-            self.is_refused |= self.side.push(literal).is_err();
+    /// Watches the pairs that the literals of the Or at `p` join: in version 2 its right side asserts that the left one is
+    /// false, too.
+    fn put_leaves(&mut self, rows: &[Row<u32>], p: usize) {
+        let denied = literal_at(rows, true, p.saturating_add(1));
+        let own = literal_at(rows, false, p.saturating_add(2));
+        if let (Some(denied), Some(own), Version::Two) = (denied, own, self.version) {
+            self.put_joined(denied, own, p);
+            self.put_joined(own, denied, p);
         }
-    }
-
-    fn literal(&self, k: usize) -> Option<Literal<u32>> {
-        if k < self.side.len() {
-            Some(self.side[k])
-        } else {
-            None
-        }
-    }
-
-    /// Watches the pairs that each two literals of the side join, and goes on with a side of none.
-    fn put_side(&mut self, position: usize) {
-        for j in 0..self.side.len() {
-            for k in 0..self.side.len() {
-                if j != k {
-                    if let (Some(first), Some(second)) = (self.literal(j), self.literal(k)) {
-                        self.put_joined(first, second, position);
-                    }
-                }
-            }
-        }
-        self.side.clear();
-    }
-
-    /// Watches the pairs that the sides of the Or at `p` join: of the tree, or of its negation.
-    fn put_sides(&mut self, rows: &[Row<u32>], negated: bool, p: usize) {
-        let left = p.saturating_add(1);
-        let right = left.saturating_add(skip_at(rows, left));
-        self.gather(rows, negated, left);
-        self.put_side(p);
-        if let Some(denied) = denied_left(self.version, left) {
-            self.gather(rows, !negated, denied);
-        }
-        self.gather(rows, negated, right);
-        self.put_side(p);
     }
 
     fn put_row(&mut self, rows: &[Row<u32>], row: Row<u32>, position: usize) {
@@ -232,12 +154,7 @@ impl Watching {
             RowKind::Lit(Literal::Edge(a, b) | Literal::NoEdge(a, b)) => {
                 self.put_edge(a, b, position);
             }
-            RowKind::Or if self.is_small => self.put_sides(rows, false, position),
-            RowKind::And if self.is_small => {
-                if let Version::Two = self.version {
-                    self.put_sides(rows, true, position);
-                }
-            }
+            RowKind::Or if self.is_small => self.put_leaves(rows, position),
             RowKind::And => self.and_end = self.and_end.max(position.saturating_add(row.skip)),
             RowKind::Or | RowKind::True | RowKind::False => {}
         }
@@ -261,9 +178,9 @@ impl Watching {
     }
 }
 
-/// By what all are sorted: the list, and on it the other node. Those of one key keep the order of their positions.
-fn key_of(watched: &Watched) -> (u32, u32) {
-    (watched.list, watched.other)
+/// By what all are sorted: the list. Those of one list keep the order of their positions.
+fn list_key(watched: &Watched) -> u32 {
+    watched.list
 }
 
 /// Puts where each of so many lists begins among these, which are in order of their lists, with one place more for the
@@ -307,15 +224,14 @@ impl Watch {
             end: 0,
             is_small: false,
             and_end: 0,
-            side: Vec::new(alloc),
             is_refused: false,
         };
         for p in 0..rows.len() {
             watching.look_at(rows, p);
         }
         let mut is_refused = watching.is_refused;
-        let mut items = watching.into_items();
-        is_refused |= items.sort_by_key(key_of).is_err();
+        let mut items = watching.items;
+        is_refused |= items.sort_by_key(list_key).is_err();
         let mut starts = Vec::new(alloc);
         is_refused |= put_starts(&items, LISTS as usize * nodes as usize, &mut starts);
         Watch {
@@ -343,46 +259,5 @@ impl Watch {
         } else {
             None
         }
-    }
-
-    /// Whether what is at this place has a lower other node, or the same and stands before the position.
-    fn is_before(&self, place: usize, other: u32, position: usize) -> bool {
-        if place >= self.items.len() {
-            return false;
-        }
-        let watched = self.items[place];
-        watched.other < other || (watched.other == other && watched.position < position)
-    }
-
-    /// The first place from `from` up to `end`, all of one list, where this is not so: by steps that double and then
-    /// halve (Bentley and Yao 1976).
-    pub(crate) fn first_place(
-        &self,
-        from: usize,
-        end: usize,
-        other: u32,
-        position: usize,
-    ) -> usize {
-        let mut low = from;
-        let mut step: usize = 1;
-        for _ in from..end {
-            let next = low.saturating_add(step);
-            if next > end || !self.is_before(next.saturating_sub(1), other, position) {
-                break;
-            }
-            low = next;
-            step = step.saturating_mul(2);
-        }
-        for _ in from..end {
-            step /= 2;
-            if step == 0 {
-                return low;
-            }
-            let next = low.saturating_add(step);
-            if next <= end && self.is_before(next.saturating_sub(1), other, position) {
-                low = next;
-            }
-        }
-        low
     }
 }

@@ -43,7 +43,7 @@ impl Branch {
     {
         let count = tree.count();
         let graph = OrderGraph::new(alloc, count)?;
-        let agenda = Agenda::new(alloc, tree.rows(), count);
+        let agenda = Agenda::new(alloc, tree.rows());
         let asserted = Asserted::new(alloc);
         let later = Vec::new(alloc);
         let refutation = Refutation::new(alloc);

@@ -1,10 +1,10 @@
-use Rattle.std.{proofs.Common.{◌+◌, ℕ, ◌++◌, refl, sym, ap, ◌∙◌, subst, arith}, specs.Prelude.{Option, All}}
+use Rattle.std.{proofs.{Common.{◌+◌, ℕ, ◌++◌, refl, sym, ap, ◌∙◌, subst, arith}, Math.Seq.{take-length}}, specs.Prelude.{Option, All}}
 use Rattle.pc_ground.specs.{Tree.{turned}, Rows.{turned_row, turned_rows}, Refutes.{all_signed, signed, subtree_at}, Walks.{Walk}}
 use Rattle.pc_ground.proofs.Turned.{size_turned}
 use Rattle.order_graph.specs.declared.clash.Clash.{Clash}
 use Rattle.solver.specs.{Below.{IsRowBelow}, Spelled.{spelled}, Places.{asserted_in, asserted_at}, Opens.{positions, HasAssertedRow}}
 use Rattle.solver.proofs.IsSpelled.{turned_flat, turned_at}
-use Rattle.solver.proofs.HasAsserted.{length_spelled, walk_start, walk_step, positions_push, literals_push, further_same, further_more, kept_push, part_clash, whole_push, kept_same, stride_pos, turned_below, row_below}
+use Rattle.solver.proofs.HasAsserted.{length_spelled, walk_start, walk_step, positions_push, literals_push, further_same, further_more, kept_push, part_clash, whole_push, stride_pos, turned_below, row_below}
 use Rattle.solver.proofs.search.enter.enter_part.Goals as goal
 
 pub row-requires-in-loop-at : goal.row-requires-in-loop-at
@@ -34,7 +34,7 @@ loop-at-init g c =
       walk = (asserted_in (subtree_at (turned n t) c.args.root) c.args.root, start.1, refl);
       literals = c.requires.literals;
       further = further_same c.args.graph.now;
-      kept = kept_same c.args.asserted.now;
+      kept = take-length c.args.asserted.now;
     }
 
 pub enter_row-requires : goal.enter_row-requires

@@ -1,0 +1,81 @@
+use super::changes::literal_of;
+use order_graph::OrderGraph;
+use pc_ground::Literal;
+use std::alloc::Global;
+use std::collections::HashMap;
+
+/// What a clash asks of the literals: an edge, a denied edge, or whether a node is there.
+#[derive(Clone, Copy, PartialEq, Eq, Hash)]
+pub(crate) enum Said {
+    Edge(u32, u32),
+    NoEdge(u32, u32),
+    Node(u32),
+}
+
+/// What the literal says, each at least once: an edge says that its nodes are there, too.
+fn said_by(literal: Literal<u32>) -> [Said; 3] {
+    match literal {
+        Literal::Edge(a, b) => [Said::Edge(a, b), Said::Node(a), Said::Node(b)],
+        Literal::NoEdge(a, b) => [Said::NoEdge(a, b); 3],
+        Literal::Node(a) | Literal::NoNode(a) => [Said::Node(a); 3],
+    }
+}
+
+/// At which level of the search each thing was said first: level 0 is what the whole tree asserts, and each split begins
+/// the next one.
+#[derive(Drop)]
+pub(crate) struct Levels {
+    levels: HashMap<Said, usize>,
+    /// How many of the graph's literals were noted.
+    known: usize,
+    /// Whether memory was refused to one.
+    pub(crate) is_refused: bool,
+}
+
+impl Levels {
+    /// That of no literal.
+    pub(crate) fn new(alloc: Global) -> Levels {
+        Levels {
+            levels: HashMap::new(alloc),
+            known: 0,
+            is_refused: false,
+        }
+    }
+
+    /// The level at which this was said first: 0 where it was not.
+    pub(crate) fn level_of(&self, said: Said) -> usize {
+        self.levels.get(&said).copied().unwrap_or(0)
+    }
+
+    /// Notes the graph's literals up to the first `end`, which are of this level where they are not noted.
+    pub(crate) fn note(&mut self, graph: &OrderGraph, end: usize, level: usize) {
+        for k in self.known..end {
+            if k < graph.len() {
+                for said in said_by(literal_of(graph, k)) {
+                    self.put(said, level);
+                }
+            }
+        }
+        self.known = self.known.max(end);
+    }
+
+    fn put(&mut self, said: Said, level: usize) {
+        if !self.levels.contains_key(&said) {
+            self.is_refused |= self.levels.insert(said, level).is_err();
+        }
+    }
+
+    /// Forgets the literals after the first `count`, which are of this level or of later ones, while the graph has them.
+    pub(crate) fn cut(&mut self, graph: &OrderGraph, count: usize, level: usize) {
+        for k in count..self.known {
+            if k < graph.len() {
+                for said in said_by(literal_of(graph, k)) {
+                    if self.level_of(said) >= level {
+                        self.levels.remove(&said);
+                    }
+                }
+            }
+        }
+        self.known = self.known.min(count);
+    }
+}
