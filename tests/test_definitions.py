@@ -14,7 +14,6 @@ from tests.test_pages import shown_by
 from tools.pages.antt import Fault, Reached, first_sentence, read_file
 from tools.pages.crate_list import crates_of
 from tools.pages.meaning import Top, by_crate, only
-from tools.lint.kinds import KINDS
 from tools.second.predicates import PREDICATES
 
 # A top call with two commands. `Unused` stands in a file that is reached, and `Spare` in one that is imported alone.
@@ -301,12 +300,14 @@ class Lists(Cases):
 
     def test_slips_and_commands(self) -> None:
         rows = read("docs/lint.md").partition("\n## What is meant\n")[0]
+        said = "".join(map(read, glob(f"{TOP}/tools/lint/*.py")))
+        kinds = set(re.findall(r"""\b(?:Slip|say)\([^"\n]*"([\w'-]+)",""", said))
         with self.case("docs/lint.md has each kind of slip"):
-            self.assertEqual(sorted(re.findall(r"^\| `([\w'-]+)` \|", rows, re.M)), sorted(KINDS))
+            self.assertEqual(sorted(re.findall(r"^\| `([\w'-]+)` \|", rows, re.M)), sorted(kinds))
         texts = map(read, glob(f"{TOP}/tests/*lint*"))
         tried = {it for text in texts for it in re.findall(r"(?:\d: |NO_ORDER = \")([\w'-]+): ", text)}
         with self.case("tests have each kind of slip"):
-            self.assertEqual({*KINDS} - tried, set())
+            self.assertEqual(kinds - tried, set())
         words = in_file("commands.txt", r"^program\|([\w-]+)\|")
         with self.case("the table `commands.txt` has what the definitions spell"):
             self.assertEqual(words, sorted(Top(TOP).words))

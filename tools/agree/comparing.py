@@ -17,7 +17,7 @@ from tools.agree.programs import Program
 from tools.agree.verdicts import is_alike, runs
 from tools.agree.working import Unusable
 from tools.lint.lines import line_of
-from tools.lint.linting import Asked
+from tools.lint.asked import Asked
 from tools.second.cases import Case, Entry
 from tools.second.evaluating import false_axioms
 from tools.second.grounding import ground

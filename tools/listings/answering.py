@@ -6,7 +6,7 @@ from typing import Mapping, Sequence
 
 from tools.ending import SIGNALS
 from tools.lint.lines import line_of
-from tools.lint.linting import Asked
+from tools.lint.asked import Asked
 from tools.listings.asking import MOST_SWEEPS, Asker, Sweep, Swept, Unasked
 from tools.listings.beyond import Notes
 from tools.listings.comparing import Comparison

@@ -15,7 +15,7 @@ Row = tuple[tuple[str, ...], Callable[..., bool]]
 
 def program_order(i: Op, j: Op) -> bool:
     """i is before j in program order."""
-    return (i.core, i.thread) == (j.core, j.thread) and i.g < j.g
+    return i.core == j.core and i.thread == j.thread and i.g < j.g
 
 
 def is_memory(*ops: Op) -> bool:
