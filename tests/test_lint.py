@@ -600,6 +600,8 @@ FILES = (
      "bad.uspec:2:12: arity: the predicate takes another number of arguments\n", ""),
     ("a test in place of the model", ["good.test"], 3, "good.test:1:1: syntax: no model can continue with this token\n",
      f"pipecheck: `StageName`, `Axiom` or `DefineMacro` is expected\npipecheck: good.test {IN_PLACE}\n"),
+    ("a test in place of a query", ["good.uspec", "test.query"], 3, "test.query:1:8: syntax: no model can continue with this token\n",
+     "pipecheck: a name, a number, `=>`, `\\/`, `/\\` or the end of the file is expected\n"),
     ("a model alone", ["good.uspec"], 0, "", ""),
     ("a name that is no UTF-8", ["-m", "\udcff"], 1, slip_of("-m", "\udcff"), ""),
     ("names that would break a line are one word of bash", ["a\nm", "a\nt"], 1, slip_of("$'a\\nm'", "$'a\\nt'"), ""),
@@ -658,7 +660,7 @@ class Command(Cases):
             "bad.test": 'Litmus "d".\nMicroop 0 64 0 0 (Fence).\n', "bad.uspec": 'StageName 0 "S".\nAxiom "x": IsAnyRead i 7.\n',
             "good.test": 'Litmus "t".\n', "good.uspec": ALL, "slip.test": slip, "-m": ALL, "--t": slip, "\udcff": slip, "a\nm": ALL,
             "a\nt": slip, "slips.litmus": LISTING, "meant.litmus": LISTING.replace("{ }", MEANT_HERE), "slips.pattern": PATTERN,
-            "slips.test": PATTERN,
+            "slips.test": PATTERN, "test.query": 'Litmus "t".\n',
         }.items():
             write(f"{self.work}/{name}", text)
 

@@ -58,7 +58,7 @@ class Files:
         expected = sentence_of(fault)
         if expected:
             print(f"pipecheck: {expected}", file=sys.stderr)
-        if fault.word == "syntax" and kind == "model" and is_test(self.texts[path]):
+        if fault.word == "syntax" and path == self.model_path and is_test(self.texts[path]):
             print(f"pipecheck: {shown(path)} is a test, and stands for the model: lint MODEL [TEST..] [QUERY..]", file=sys.stderr)
 
 
