@@ -27,8 +27,8 @@ class Asked:
         for formula in queries:
             self.follow(formula)
         # the axioms and the macros that are expanded, each once
-        macros = [macro for name, macro in self.macros.items() if name in self.expanded]
-        self.bodies = [item.body for item in (*model.axioms, *macros)]
+        expanded = (macro.body for name, macro in self.macros.items() if name in self.expanded)
+        self.bodies: list[Formula] = [*(axiom.body for axiom in model.axioms), *expanded]
 
     def follow(self, formula: Formula) -> None:
         """Takes in a formula; each macro is followed once."""
