@@ -14,7 +14,6 @@ from tests.test_pages import shown_by
 from tools.pages.antt import Fault, first_sentence, read_file
 from tools.pages.crates import crates_of
 from tools.pages.meaning import Meaning, Top, by_crate, only
-from tools.lint.kinds import KINDS
 from tools.second.predicates import PREDICATES
 
 # A top call with two commands. `Unused` stands in a file that is reached, and `Spare` in one that is imported alone.
@@ -298,10 +297,12 @@ class Lists(Cases):
 
     def test_slips_and_commands(self) -> None:
         rows = read("docs/lint.md").partition("\n## What is meant\n")[0]
-        self.same("docs/lint.md has each kind of slip", sorted(re.findall(r"^\| `([\w'-]+)` \|", rows, re.M)), sorted(KINDS))
+        said = "".join(map(read, glob(f"{TOP}/tools/lint/*.py")))
+        kinds = set(re.findall(r"""\b(?:Slip|say)\([^"\n]*"([\w'-]+)",""", said))
+        self.same("docs/lint.md has each kind of slip", sorted(re.findall(r"^\| `([\w'-]+)` \|", rows, re.M)), sorted(kinds))
         texts = map(read, glob(f"{TOP}/tests/*lint*"))
         tried = {it for text in texts for it in re.findall(r"(?:\d: |NO_ORDER = \")([\w'-]+): ", text)}
-        self.same("tests have each kind of slip", {*KINDS} - tried, set())
+        self.same("tests have each kind of slip", kinds - tried, set())
         words = in_file("commands.txt", r"^program\|([\w-]+)\|")
         self.same("the table `commands.txt` has what the definitions spell", words, sorted(Top().words))
         second = in_file("tools/second/main.py", r'^    "([\w-]+)": \(\d, ')

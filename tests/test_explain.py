@@ -1,7 +1,6 @@
 """`pipecheck explain` on certificates of each kind: what is said of them, what of files that it refuses, and how it ends."""
 from __future__ import annotations
 
-import functools
 import os
 import re
 import resource
@@ -16,16 +15,14 @@ from threading import Thread
 from typing import Any, Sequence
 
 from tests.cases import (
-    TOP, Cases, Done, call, commands_without, pipecheck, program, read, replaced, run, status_of, tool_entry, without_output,
-    without_proofs, write
+    TOP, Cases, Done, call, command, commands_without, pipecheck, program, read, replaced, run, status_of, within,
+    without_output, without_proofs, write
 )
 
-from tools.explain import main as explain
+from tools.explain import judged
 from tools.texts import origins
 from tools.second.standard_output import status_of as status_of_main
 
-# what the script calls
-JUDGED = tool_entry("explain.judged")
 SB = ("examples/store-buffer.uspec", "examples/sb.test")
 SB_GRAPH = "examples/certificates/sb.txt"
 MP = ("examples/in-order.uspec", "examples/mp.test")
@@ -37,19 +34,10 @@ SHOWN = "observable: a run of this model shows the outcome\n"
 PLAIN: dict[str, str | None] = {"COLUMNS": None, "PIPECHECK": None}
 
 
-def explained(folder: str, model: str, test: str, certificate: str = "", width: int = 0, called: str = "") -> Done:
-    """What `pipecheck explain` says: this certificate, or one that the program finds, is judged by the program and said in words as
-    explain.py is called for that."""
-    listing = "86" * test.endswith(".litmus")
-    if not certificate:
-        certificate = write(f"{folder}/certificate", run([program(), f"check{listing}", model, test]).out)
-    is_lifted = read(certificate).split("\n", 3)[2:3] == ["lifted"]
-    judged = run([program(), "verify-lifted" if is_lifted else f"verify{listing}", model, test, certificate])
-    if judged.out not in ("verified observable\n", "verified unobservable\n"):
-        return judged
-    words = ["explain.py", "--called", called or model, model, test, certificate]
-    said = call(lambda: status_of_main(explain.main, sys.argv[1:]), words, env={**PLAIN, "COLUMNS": str(width) if width else None})
-    return Done(said.status or judged.status, said.out, said.err)
+def explained(*files: str, width: int = 0, **how: Any) -> Done:
+    """What `pipecheck explain` says of these files in lines of so many columns, as it calls Python for that."""
+    env = {**PLAIN, "COLUMNS": str(width) if width else None}
+    return call(lambda: status_of_main(judged.main, sys.argv[1:]), ["judged", program(), *files], env=env, **how)
 
 
 @dataclass(frozen=True)
@@ -78,33 +66,32 @@ Axiom "late": forall microops "i", forall microops "j", ProgramOrder i j =>
   ~EdgeExists ((i, S), (j, S), "") /\ AddEdge ((i, S), (i, T), "")
   /\ ~EdgeExists ((j, S), (i, T), "").
 """
-# eight branches, by three choices of two
-ODDS = r"""StageName 0 "S".
-StageName 1 "T".
-StageName 2 "U".
-Axiom "S is in some order": forall microops "i", forall microops "j", ProgramOrder i j =>
-  AddEdge ((i, S), (j, S)) \/ AddEdge ((j, S), (i, S)).
-Axiom "T is in some order": forall microops "i", forall microops "j", ProgramOrder i j =>
-  AddEdge ((i, T), (j, T)) \/ AddEdge ((j, T), (i, T)).
-Axiom "U is in some order": forall microops "i", forall microops "j", ProgramOrder i j =>
-  AddEdge ((i, U), (j, U)) \/ AddEdge ((j, U), (i, U)).
-DefineMacro "KeepsTFree" "a" "b": EdgeExists ((a, S), (b, S)) =>
+
+
+def odds(stages: str) -> str:
+    """A model that leaves a choice of two at each of these stages, and denies each order at T."""
+    declared = "".join(f'StageName {number} "{it}".\n' for number, it in enumerate(stages))
+    return declared + "".join(rf"""Axiom "{it} is in some order": forall microops "i", forall microops "j", ProgramOrder i j =>
+  AddEdge ((i, {it}), (j, {it})) \/ AddEdge ((j, {it}), (i, {it})).
+""" for it in stages) + r"""DefineMacro "KeepsTFree" "a" "b": EdgeExists ((a, S), (b, S)) =>
   ~EdgeExists ((a, T), (b, T)) /\ ~EdgeExists ((b, T), (a, T)).
 Axiom "no order at T": forall microops "i", forall microops "j", ProgramOrder i j =>
   ExpandMacro KeepsTFree i j /\ ExpandMacro KeepsTFree j i.
 """
 
 
-def odds() -> str:
-    """The refutation of those."""
+def refutation_of_odds(numbers: tuple[int, int], choices: Sequence[str] = ()) -> str:
+    """Its refutation: behind a choice at S and one at T these ones, with the same on both sides."""
     lines = ["unobservable", "test forbidden: ok", "split 1"]
-    for number, first in ((13, "0.0@0:S 1.0@0:S"), (18, "1.0@0:S 0.0@0:S")):
+    for number, first in zip(numbers, ("0.0@0:S 1.0@0:S", "1.0@0:S 0.0@0:S")):
         lines.append("split 5")
         for second in ("0.0@0:T 1.0@0:T", "1.0@0:T 0.0@0:T"):
-            lines += ["split 9", *2 * [f"split {number}", f"path {first}", f"path {second}"]]
+            lines += [*choices, *(1 + len(choices)) * [f"split {number}", f"path {first}", f"path {second}"]]
     return "\n".join([*lines, "end", ""])
 
 
+# eight branches, by three choices of two
+ODDS, OF_ODDS = odds("STU"), refutation_of_odds((13, 18), ["split 9"])
 CLOSED = 'All 8 branches end in an order that is denied; each by axiom "T is in some order" and axiom "no order at T".\n'
 LEAVES = "Each split is a choice that the model leaves, and each branch ends in what cannot be:\n"
 DENIED = "      path: this order is asked for and denied\n"
@@ -218,7 +205,7 @@ path: this order is asked for and denied
   not 1.0@0:S before 0.0@0:T   axiom "late" at 5:1, i = 0.0, j = 1.0
 Every branch is closed.
 """, EITHER, TWO[1], part=BODY),
-    Row("what closes all of eight branches", CLOSED + LEAVES + 8 * DENIED, ODDS, TWO[1], odds(),
+    Row("what closes all of eight branches", CLOSED + LEAVES + 8 * DENIED, ODDS, TWO[1], OF_ODDS,
         r"(?m)^(?:All|Each).*\n|^ *path:.*\n", 1000),
     Row("a node that is denied and asked for", """absent: 0.0@5:S is asked for and denied
   0.0@5:S is there   axiom "far" at 2:1, i = 0.0
@@ -354,29 +341,28 @@ class Words(Cases):
 
     def file(self, name: str, text: str) -> str:
         """The path of examples, or a file of this name and text."""
-        return text if text.startswith("examples/") else write(f"{self.work}/{name}", text)
+        return f"{TOP}/{text}" if text.startswith("examples/") else os.path.basename(write(f"{self.work}/{name}", text))
 
     def test_rows(self) -> None:
         for row in ROWS:
             if self.is_wanted(row.name):
-                model = self.file("model.uspec", row.model)
                 test = self.file("test.litmus" if row.test.startswith("X86") else "t.test", row.test)
-                certificate = row.certificate and self.file("given", row.certificate)
-                done = explained(self.work, model, test, certificate, row.width, model.replace(f"{self.work}/", ""))
+                certificate = [self.file("given", row.certificate)] if row.certificate else []
+                done = explained(self.file("model.uspec", row.model), test, *certificate, width=row.width, cwd=self.work)
                 self.judge(row.name, Done(done.status, "".join(re.findall(row.part, done.out)), done.err), row.status, row.said)
 
     def test_lifted_branches(self) -> None:
         """... lifted"""
         model = write(f"{self.work}/odds.uspec", ODDS)
-        lifted = run([program(), "lift", model, TWO[1], write(f"{self.work}/odds", odds())]).out
-        done = explained(self.work, model, TWO[1], write(f"{self.work}/lifted", lifted), 1000)
+        lifted = run([program(), "lift", model, TWO[1], write(f"{self.work}/odds", OF_ODDS)]).out
+        done = explained(model, TWO[1], write(f"{self.work}/lifted", lifted), width=1000)
         self.assertEqual((done.status, re.findall("(?m)^All.*\n", done.out), done.err), (1, [CLOSED], ""))
 
     def test_too_much(self) -> None:
         """three quantifiers over 64 micro-ops, without guards, are too much"""
         graph = "observable\ntest unstated\n" + "".join(f"node {k}.0@{k % 8}:S\n" for k in range(64)) + "end\n"
         with replaced(origins, "MOST_STEPS", origins.MOST_STEPS // 10):
-            done = explained(self.work, self.file("m", MANY), self.file("t", OF_64), self.file("c", graph))
+            done = explained(self.file("m", MANY), self.file("t", OF_64), self.file("c", graph), cwd=self.work)
         self.assertEqual(done, Done(125, "", "explain: not explained: the axioms ask too much of so many micro-ops; "
                                              "guards in front of quantifiers make it less\n"))
 
@@ -386,10 +372,11 @@ class Words(Cases):
         for model in ("examples/models/tso-ooo.uspec", "examples/models/nmca-ooo.uspec"):
             for name in ("MP", "SB", "CoRR", "IRIW+fences", "3.SB+fences", "Final+both+behind", "ISA2"):
                 test = f"examples/tests/{name}.test"
-                said.append(explained(self.work, model, test))
+                certificate = write(f"{self.work}/certificate", run([program(), "check", model, test]).out)
+                said.append(explained(model, test, certificate))
                 if said[-1].status == 1:
-                    text = run([program(), "lift", model, test, f"{self.work}/certificate"]).out
-                    lifted.append(explained(self.work, model, test, write(f"{self.work}/lifted", text)))
+                    text = run([program(), "lift", model, test, certificate]).out
+                    lifted.append(explained(model, test, write(f"{self.work}/lifted", text)))
         with self.case("certificates of larger models"):
             self.assertEqual([it.err for it in said if it.err or not it.out.startswith((REFUTED, SHOWN))], [])
             self.assertEqual([it.out for it in said if "no axiom asks" in it.out or "several axioms" in it.out], [])
@@ -477,26 +464,23 @@ def unkept(what: str, folder: str) -> str:
     return f"pipecheck: {what} could not be kept in {folder}, the folder for temporary files; TMPDIR names another one\n"
 
 
-def feed(paths: dict[str, str]) -> list[Thread]:
+def feed(paths: dict[str, str]) -> None:
     """Makes a pipe at each of these paths, and has it give the file behind it, once."""
-    for path in paths:
+    for path, file in paths.items():
         os.mkfifo(path)
-    feeding = [Thread(target=write, args=(path, read(file)), daemon=True) for path, file in paths.items()]
-    for it in feeding:
-        it.start()
-    return feeding
+        Thread(target=write, args=(path, read(file)), daemon=True).start()
 
 
 class Script(Cases):
     """What the script does before and after something is said, and how it is told what cannot be."""
 
     def explains(self, name: str, words: Sequence[str], status: int = 0, out: str = "", err: str = "", **how: Any) -> None:
-        """These files are explained: by the script, or where nothing but a folder is said of the call in a process that is forked from
-        this one."""
+        """These files are explained: by the script, or where no more than a folder is said of the call in a process that is forked
+        from this one."""
         if how.keys() - {"cwd"}:
             self.gives(name, [pipecheck(), "explain", *words], status, out, err, **{**how, "env": {**PLAIN, **how.get("env", {})}})
         elif self.is_wanted(name):
-            self.judge(name, call(JUDGED, ["judged", program(), *words], env=PLAIN, **how), status, out, err)
+            self.judge(name, explained(*words, **how), status, out, err)
 
     def test_files(self) -> None:
         here = [f"{TOP}/pipecheck", "explain"]
@@ -630,7 +614,7 @@ pipecheck: a text in quotes is expected
         ):
             # nothing can be written to a file; what is said goes to a pipe
             self.explains(name, words, 125, "", unkept(what, self.work), env={"TMPDIR": self.work},
-                          preexec_fn=functools.partial(resource.setrlimit, resource.RLIMIT_FSIZE, (0, 0)))
+                          preexec_fn=within(resource.RLIMIT_FSIZE, 0))
 
     def test_small_device(self) -> None:
         """A device of 4 KiB."""
@@ -650,9 +634,8 @@ pipecheck: a text in quotes is expected
 
     def test_checkers(self) -> None:
         """The checker that PIPECHECK names."""
-        called, checker = f"{self.work}/called", f"{self.work}/a checker"
-        write(checker, f'#!/bin/sh\necho "$1" >>{shlex.quote(called)}\nexec {shlex.quote(program())} "$@"\n')
-        os.chmod(checker, 0o755)
+        called = f"{self.work}/called"
+        checker = command(f"{self.work}/a checker", f'echo "$1" >>{shlex.quote(called)}\nexec {shlex.quote(program())} "$@"\n')
         explains = [pipecheck(), "explain", *SB]
         self.judge("another checker", run(explains, env={**PLAIN, "PIPECHECK": checker}), 0, GRAPH)
         several: dict[str, str | None] = {**PLAIN, "PIPECHECK": f"env 'LANG=a b' '{checker}'"}
@@ -682,8 +665,7 @@ class Endings(Cases):
 
     def command(self, name: str, text: str) -> str:
         """A command of this name in place of another one: a PATH that has it first."""
-        os.makedirs(f"{self.work}/bin", exist_ok=True)
-        os.chmod(write(f"{self.work}/bin/{name}", f"#!/bin/sh\n{text}\n"), 0o755)
+        command(f"{self.work}/bin/{name}", f"{text}\n")
         return f"{self.work}/bin:{os.environ['PATH']}"
 
     def quits(self, name: str, words: Sequence[str], **env: str) -> None:

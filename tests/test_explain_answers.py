@@ -5,9 +5,8 @@ from __future__ import annotations
 
 import re
 
-from tests.cases import Cases, Done, call, pipecheck, program, run, tool_entry, without_proofs, write
-from tests.test_explain import ONE, PLAIN, explained
-
+from tests.cases import Cases, Done, pipecheck, program, run, without_proofs, write
+from tests.test_explain import ONE, PLAIN, explained, odds, refutation_of_odds
 
 SC, TSO, TUTORIAL = (f"examples/models/{name}.uspec" for name in ("sc-inorder", "tso-ooo", "tutorial"))
 LONG = (SC, "examples/tests/3.SB+fences.test", "examples/certificates/3.SB+fences.txt")
@@ -25,29 +24,6 @@ MOST_INDENT = 40
 # one more split; all steps together are a cycle
 CHOICE = '(AddEdge ((i, S{0}), (i, S{1})) \\/ NodeExists (i, X{0})) /\\ (~NodeExists (i, X{0}) \\/ ~NodeExists (i, X{0}))'
 # two choices with the same sides
-ODDS = """StageName 0 "S".
-StageName 1 "T".
-Axiom "S is in some order": forall microops "i", forall microops "j", ProgramOrder i j =>
-  AddEdge ((i, S), (j, S)) \\/ AddEdge ((j, S), (i, S)).
-Axiom "T is in some order": forall microops "i", forall microops "j", ProgramOrder i j =>
-  AddEdge ((i, T), (j, T)) \\/ AddEdge ((j, T), (i, T)).
-DefineMacro "KeepsTFree" "a" "b": EdgeExists ((a, S), (b, S)) =>
-  ~EdgeExists ((a, T), (b, T)) /\\ ~EdgeExists ((b, T), (a, T)).
-Axiom "no order at T": forall microops "i", forall microops "j", ProgramOrder i j =>
-  ExpandMacro KeepsTFree i j /\\ ExpandMacro KeepsTFree j i.
-"""
-
-
-def split_of_odds() -> str:
-    """The refutation of those."""
-    lines = ["unobservable", "test forbidden: ok", "split 1"]
-    for last, first in ((9, "0.0@0:S 1.0@0:S"), (14, "1.0@0:S 0.0@0:S")):
-        lines.append("split 5")
-        for second in ("0.0@0:T 1.0@0:T", "1.0@0:T 0.0@0:T"):
-            lines += [f"split {last}", f"path {first}", f"path {second}"]
-    return "\n".join([*lines, "end", ""])
-
-
 SAID_OF_ODDS = """split 1: axiom "S is in some order" at 3:1, i = 0.0, j = 1.0
 left of split 1: 0.0@0:S before 1.0@0:S
   split 5: axiom "T is in some order" at 5:1, i = 0.0, j = 1.0
@@ -151,7 +127,7 @@ class Refutations(Cases):
     """Refutations, long and deep ones too, and lines within a width."""
 
     def test_long(self) -> None:
-        said = explained(self.work, *LONG)
+        said = explained(*LONG)
         with self.case("a refutation of 31 splits takes at most 80 lines"):
             self.assertEqual(said.status, 1)
             self.assertLessEqual(len(said.out.splitlines()), 80)
@@ -159,22 +135,22 @@ class Refutations(Cases):
             self.assertEqual(sum(" split " in f" {line}" and ", since " in line for line in said.out.splitlines()), 31)
         self.shows("it is judged", 1, "verified unobservable\n", "verify", *LONG)
         with self.case("100 columns where nothing says how many"):
-            self.assertEqual(said, explained(self.work, *LONG, width=USUAL))
+            self.assertEqual(said, explained(*LONG, width=USUAL))
 
     def test_sides(self) -> None:
         for name, model, certificate, wanted in (
-            ("both sides of a split that go on have a name", ODDS, split_of_odds(), SAID_OF_ODDS),
+            ("both sides of a split that go on have a name", odds("ST"), refutation_of_odds((9, 14)), SAID_OF_ODDS),
             ("why a side cannot be", CLASHES, SPLIT_OF_CLASHES, SAID_OF_CLASHES),
         ):
             files = (write(f"{self.work}/model", model), FORBIDDEN, write(f"{self.work}/given", certificate))
-            done = explained(self.work, *files)
+            done = explained(*files)
             self.judge(name, Done(done.status, done.out.partition(" cannot be:\n")[2], done.err), 1, wanted)
 
     def test_deep(self) -> None:
         deep = write(f"{self.work}/deep.uspec", many_choices()), write(f"{self.work}/one.test", ONE)
         found = write(f"{self.work}/found", run([program(), "check", *deep]).out)
         for width in (40, USUAL):
-            said = explained(self.work, *deep, found, width)
+            said = explained(*deep, found, width=width)
             with self.case(f"{CHOICES} choices in each other at {width} columns"):
                 sides = [len(re.findall(rf"^ *{side} of split \d+:", said.out, re.MULTILINE)) for side in ("left", "right")]
                 self.assertEqual((said.status, is_narrow(said.out, width), sides), (1, True, [CHOICES - 1, CHOICES - 1]))
@@ -184,15 +160,15 @@ class Refutations(Cases):
         test = "examples/tests/n7.test"
         graph = (TSO, test, write(f"{self.work}/graph", run([program(), "check", TSO, test]).out))
         for name, files, least in (("a refutation", LONG, 20), ("a lifted one", lifted, 20), ("a graph", graph, 30)):
-            wide = explained(self.work, *files, width=100_000).out
+            wide = explained(*files, width=100_000).out
             for width in (least, 40, 80, USUAL):
                 with self.case(f"{name} at {width} columns"):
-                    narrow = explained(self.work, *files, width=width).out
+                    narrow = explained(*files, width=width).out
                     self.assertTrue(is_narrow(narrow, width))
                     # a word that is longer than a line is broken, too; a table is written anew where it is too wide
                     self.assertTrue("".join(narrow.split()) == "".join(wide.split()) or "core 0  0.0 " in narrow)
         with self.case("a table that is too wide names the cores"):
-            self.assertIn("\nstep\n   1  core 0  0.0 ", explained(self.work, *graph, width=40).out)
+            self.assertIn("\nstep\n   1  core 0  0.0 ", explained(*graph, width=40).out)
 
 
 BESIDE = "pipecheck: an answer of ask is explained beside its query: explain MODEL TEST ANSWER QUERY\n"
@@ -211,14 +187,10 @@ class Answers(Cases):
         """What the script says of these words."""
         return without_proofs(run([pipecheck(), *words], env=PLAIN))
 
-    def judged(self, *files: str) -> Done:
-        """What is said of an answer, each part of which the program judges before."""
-        return call(tool_entry("explain.judged"), ["judged", program(), *files], env=PLAIN)
-
     def refuses(self, name: str, lines: list[str], line: int) -> None:
         """An answer of `core` is refused at this line: where it is taken apart, or where the program judges a part."""
         spoilt = write(f"{self.work}/spoilt", "\n".join(lines))
-        self.judge(f"core: {name} is refused", self.judged(*CORE, spoilt), 6, refused(line))
+        self.judge(f"core: {name} is refused", explained(*CORE, spoilt), 6, refused(line))
 
     def test_core(self) -> None:
         answer = self.script("core", *CORE)
@@ -256,7 +228,7 @@ class Answers(Cases):
         self.refuses("a set that does not forbid the outcome", fewer, cycle)
         done = self.script("explain", "examples/in-order.uspec", CORE[0], path)
         self.judge("core: a refused test", Done(done.status, done.out, ""), 3, "refused test syntax at 22:1\n")
-        self.judge("core: beside a query", self.judged(*CORE, path, QUERY), 125, "", ONLY)
+        self.judge("core: beside a query", explained(*CORE, path, QUERY), 125, "", ONLY)
 
     def test_ask(self) -> None:
         asked = self.script("ask", *ASK, QUERY)
@@ -272,7 +244,7 @@ class Answers(Cases):
             done = self.script("explain", *NEVER[:2], write(f"{self.work}/never", self.script("ask", *NEVER).out), NEVER[2])
             self.assertEqual((done.status, done.out.partition(":")[0]), (0, "ask never"))
             self.assertIn(SAID_OF_NEVER, done.out)
-        self.judge("ask: without its query", self.judged(*ASK, path), 125, "", BESIDE)
+        self.judge("ask: without its query", explained(*ASK, path), 125, "", BESIDE)
         wrong = write(f"{self.work}/word", answer.replace("ask sometimes", "ask always"))
         faulty = write(f"{self.work}/faulty.query", 'forall microop "i",\n  NodeExists (i, Nowhere)')
         gone = f"{self.work}/gone"

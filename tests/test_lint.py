@@ -10,7 +10,7 @@ import os
 import resource
 import shutil
 import sys
-from dataclasses import dataclass, field
+from dataclasses import dataclass, field, replace
 from typing import Any, Callable, Iterable, Sequence
 
 from tests.cases import (
@@ -20,11 +20,12 @@ from tests.cases import (
 from tools.lint import main as lint
 from tools.lint import idle as linting_idle
 from tools.lint import nodes as linting_nodes
-from tools.lint.linting import Linter, read_query_file, read_test, slips
+from tools.lint.linting import Linter, read_query_file, read_test
 from tools.lint.edges import BETWEEN_TEST
 from tools.lint.nodes import FreeNodes
 from tools.lint.slips import Slip, TestFile
 from tools.second.models import Model
+from tools.second.predicates import MICROOP, PREDICATES, of_pair
 from tools.second.scopes import read_model
 from tools.telling.refusals import expected, refusal_of
 from tools.second.standard_output import DEPTH, status_of
@@ -49,7 +50,8 @@ WRITE = "(Write (VA 0 0) (PA 0 0) (Data 1))"
 @dataclass(frozen=True)
 class Row:
     """What lint says: of a model M, which is the right one with a text behind it, of tests T and U, of a query Q. An `@` in a text
-    marks a place and is no part of it; a line names the first of a file as `M@1`, and so on."""
+    marks a place and is no part of it; a line names the first of a file as `M@1`, and so on. Where these names are meant, as a
+    comment may say, a case says that lint has nothing to say then."""
 
     name: str
     lines: list[str] = field(default_factory=list)
@@ -58,6 +60,7 @@ class Row:
     query: str | None = None
     # 0 without lines and 1 with some, where none is given
     status: int | None = None
+    meant: str | None = None
 
 
 def ops(*lines: str) -> str:
@@ -75,15 +78,13 @@ ORDERS = [
     Row("nothing to say"),
     Row("order: a fence numbered 9 between 0 and 1",
         [f"T@1: order: instruction 1 stands behind instruction 9 of its core, and {ORDER}"],
-        tests=(alone(f"0 0 0 0 {WRITE}", "9 0 0 0 (Fence)", "@1 0 0 0 (Fence)", "2 0 0 0 (Fence)"),)),
-    Row("order: one that is meant", tests=(alone("% Lint allows: order", "9 0 0 0 (Fence)", "1 0 0 0 (Fence)"),)),
+        tests=(alone(f"0 0 0 0 {WRITE}", "9 0 0 0 (Fence)", "@1 0 0 0 (Fence)", "2 0 0 0 (Fence)"),), meant=""),
     Row("order: two cores in turn, and two micro-ops of one instruction, have none",
         tests=(alone("5 0 0 1 (Fence)", "1 1 1 0 (Fence)", "5 0 0 0 (Fence)", "2 1 1 0 (Fence)"),)),
     Row("threads: a core with two, and one with three",
         ["T@1: threads: core 0 runs threads 0 and 4, and there is no program order between two threads",
          "T@2: threads: core 1 runs threads 1, 2 and 3, and there is no program order between two threads"],
-        tests=(alone("0 0 0 0 (Fence)", "1 0 @4 0 (Fence)", "2 1 1 0 (Fence)", "3 1 @2 0 (Fence)", "4 1 3 0 (Fence)"),)),
-    Row("threads: ones that are meant", tests=(alone("% Lint allows: threads", "0 0 0 0 (Fence)", "1 0 4 0 (Fence)"),)),
+        tests=(alone("0 0 0 0 (Fence)", "1 0 @4 0 (Fence)", "2 1 1 0 (Fence)", "3 1 @2 0 (Fence)", "4 1 3 0 (Fence)"),), meant=""),
     Row("threads: one number on two cores", tests=(alone("0 0 0 0 (Fence)", "1 1 0 0 (Fence)"),)),
 ]
 OF_ALL = "of every test given and of every one that lint makes up"
@@ -92,14 +93,11 @@ FALSE = "is False by what the test says alone, of"
 NEVER = '@Axiom "never": forall microops "i", IsAnyWrite i /\\ IsAnyRead i => AddEdge ((i, T), (i, S)).'
 OF_PAGES = '@Axiom "a page": forall microops "i", SamePhysicalAddress i i /\\ NodeExists (i, S).'
 IDLE = [
-    Row("idle: a premise that never holds", [f'M@1: idle: axiom "never" {NOTHING}'], NEVER),
+    Row("idle: a premise that never holds", [f'M@1: idle: axiom "never" {NOTHING}'], NEVER, meant="never"),
     Row("idle: the same in a model alone", [f'M@1: idle: axiom "never" {NOTHING}'], NEVER, ()),
     Row("idle: a dependency against program order", [f'M@1: idle: axiom "addr" {NOTHING}'],
         '@Axiom "addr": forall microops "i", forall microops "j", HasDependency addr j i /\\ ProgramOrder i j => '
         "AddEdge ((i, T), (j, S))."),
-    Row("idle: one that is meant",
-        model='Axiom "a b": forall microops "i", IsAnyFence i /\\ SameData i i => AddEdge ((i, T), (i, S)).\n'
-        "% Lint allows: idle a-b"),
     Row("idle: one whose title has commas and a star",
         model='Axiom "a, b*": forall microops "i", IsAnyFence i /\\ SameData i i => AddEdge ((i, T), (i, S)).\n'
         "% Lint allows: idle a--b-"),
@@ -126,7 +124,7 @@ LINE_OF_WRITES = 'Axiom "line": forall microops "w", IsAnyWrite w => NodeExists 
 FREE = "and none denies it: a run has this node or not, as it likes"
 NODES = [
     Row("free-node: a line that some access brings in, under exists",
-        [f"M@1: free-node: no axiom gives stage Line to the write 0.0 of T, {FREE}, and 2 more of them"], LINE + HIT),
+        [f"M@1: free-node: no axiom gives stage Line to the write 0.0 of T, {FREE}, and 2 more of them"], LINE + HIT, meant="Line"),
     Row("free-node: the same in a model alone", [f"M@1: free-node: no axiom gives stage Line to every read, {FREE}"], LINE + HIT,
         ()),
     Row("free-node: a node on one side of an or", [f"M@1: free-node: no axiom gives stage Line to the write 0.0 of T, {FREE}"],
@@ -161,12 +159,11 @@ NODES = [
     Row("free-node: a node in a premise whose conclusion denies something",
         model=LINE + HIT + 'Axiom "a": forall microops "l", NodeExists (l, Line) => ~NodeExists (l, (5, @T)).',
         lines=["M@2: two-places: (l, (5, T)) here, and (i, T) in 3 places: where the core is another, these are two nodes"]),
-    Row("free-node: one that is meant", model=LINE + HIT + "% Lint allows: free-node Line"),
 ]
 BOUND = "is bound again, so that the body does not see the one further outside"
 NAMES = [
-    Row("unused-stage: a stage that no axiom names", ["M@1: unused-stage: no axiom names stage Line"], 'StageName 2 @"Line".'),
-    Row("unused-stage: one that is meant", model='StageName 2 "Line". % Lint allows: unused-stage Line'),
+    Row("unused-stage: a stage that no axiom names", ["M@1: unused-stage: no axiom names stage Line"], 'StageName 2 @"Line".',
+        meant="Line"),
     Row("unused-variable: names of a macro and of quantifiers",
         ["M@1: unused-variable: the body does not use b", "M@2: unused-variable: the body does not use j",
          "M@3: unused-variable: the body does not use c"],
@@ -174,11 +171,9 @@ NAMES = [
         'Axiom "x": forall microops "i", @forall microops "j", @forall cores "c", ExpandMacro Pass i i.'),
     Row("unused-variable: a type of the same name is no use", ["M@1: unused-variable: the body does not use Full"],
         'Axiom "x": @exists microop "Full", forall microops "i", AccessType Full i => NodeExists (i, S).',
-        (ops(f"0 0 0 0 {WRITE}"),)),
+        (ops(f"0 0 0 0 {WRITE}"),), meant="Full"),
     Row("unused-variable: a name that only the body of a macro uses",
         model='DefineMacro "Pass": NodeExists (i, S).\nAxiom "x": forall microops "i", ExpandMacro Pass.'),
-    Row("unused-variable: one that is meant",
-        model='Axiom "x": forall microops "i", forall microops "j", NodeExists (i, S).\n' "% Lint allows: unused-variable j"),
     Row("shadowed: a parameter and a name", [f"M@1: shadowed: a {BOUND}", f"M@2: shadowed: i {BOUND}"],
         'DefineMacro "P" "a": (@forall microops "a", NodeExists (a, S)) /\\ NodeExists (a, S).\n'
         'Axiom "x": forall microops "i", (@forall microops "i", ExpandMacro P i) /\\ NodeExists (i, S).'),
@@ -196,15 +191,12 @@ PLACES = [
         'StageName 2 "Memory".\n'
         'Axiom "drain": forall microops "w", AddEdges [((w, T), (w, (0, Memory))); ((w, S), (w, (0, Memory)))].\n'
         'Axiom "fence": forall microops "f", forall microops "w", IsAnyFence f /\\ ProgramOrder w f =>\n'
-        "  AddEdge ((w, @Memory), (f, S))."),
+        "  AddEdge ((w, @Memory), (f, S)).", meant="Memory"),
     Row("two-places: a core that is a variable, and the rarer of the two first",
         [f"M@1: two-places: (w, (c, Memory)) here and in 1 more place, and (w, Memory) in 3 places: {TWO}"],
         'StageName 2 "Memory".\n' 'Axiom "a": forall microops "w", NodeExists (w, Memory) /\\ forall cores "c",\n'
         "  AddEdges [((w, T), (w, (c, @Memory))); ((w, S), (w, (c, Memory)));\n"
         "            ((w, T), (w, Memory)); ((w, S), (w, Memory))]."),
-    Row("two-places: one that is meant",
-        model='StageName 2 "Memory". % Lint allows: two-places Memory\n'
-        'Axiom "a": forall microops "w", NodesExist [(w, Memory); (w, (0, Memory))].'),
 ]
 LOOSE = "the arrow is the weakest connective: a w of which its left side is False is enough"
 ARROWS = [
@@ -238,7 +230,7 @@ def last(form: str) -> str:
 
 EDGES = [
     Row("no-order: that no write stands between, as ~exists", [f"M@1: {BETWEEN}"],
-        last('~exists microop "v", IsAnyWrite v /\\ @EdgesExist [((w, T), (v, T)); ((v, T), (r, S))]')),
+        last('~exists microop "v", IsAnyWrite v /\\ @EdgesExist [((w, T), (v, T)); ((v, T), (r, S))]'), meant="Last"),
     Row("no-order: that no write stands between, as forall", [f"M@1: {BETWEEN}", f"M@2: {BETWEEN}"],
         last('forall microops "v", IsAnyWrite v => ~(@EdgeExists ((w, T), (v, T)) /\\ @EdgeExists ((v, T), (r, S)))')),
     Row("no-order: that no write stands between, by a macro and a premise", [f"M@1: {BETWEEN}", f"M@2: {BETWEEN}"],
@@ -248,9 +240,6 @@ EDGES = [
         last('~exists microop "v", IsAnyRead v /\\ @EdgesExist [((w, T), (v, T)); ((v, T), (r, S))]')),
     Row("no-order: that no write comes before has no test", [f"M@1: {NO_ORDER}"],
         last('~exists microop "v", IsAnyWrite v /\\ @EdgesExist [((v, T), (w, T)); ((v, T), (r, S))]')),
-    Row("no-order: one that is meant",
-        model=last('~exists microop "v", IsAnyWrite v /\\ EdgesExist [((w, T), (v, T)); ((v, T), (r, S))]') +
-        "% Lint allows: no-order Last"),
 ]
 SYNC = "(Fence SYNC)"
 COUNTS = [
@@ -272,6 +261,10 @@ QUERIES = [
         query='forall microop "i", IsAnyWrite i => ~IsAnyRead i \\/ EdgeExists ((i, S), (i, T))'),
     Row("a query: what no test says", [f"Q@1: idle: the query asks for nothing: it is False {OF_ALL}"],
         query='@exists microop "i", IsAnyWrite i /\\ IsAnyRead i /\\ EdgeExists ((i, T), (i, S))'),
+    Row("a query: two stages that it names in another way are told as they stand in it",
+        [f"Q@1: two-places: (i, (0, S)) here, and (i, S) in 4 places: {TWO}",
+         f"Q@2: two-places: (i, (0, T)) here, and (i, T) in 2 places: {TWO}"],
+        query='exists microop "i", NodeExists (i, (0, @S)) /\\ NodeExists (i, (0, @T))'),
     Row("a query: ones that are meant, by the model and by the query", model="% Lint allows: unused-variable j",
         query="% Lint allows: unused-variable i\n" 'forall microop "i", exists microop "j", exists microop "k", NodeExists (k, S)'),
     Row("a query: what it asks for is asked for, and what it expands is expanded",
@@ -299,7 +292,7 @@ PARTS = [
     Row("constant-part: the two of a macro in the wrong order", [f"M@1: constant-part: ~ExpandMacro Next j i is True {LEAVES}"],
         NEXT + condition("ProgramOrder i j /\\ ~@ExpandMacro Next j i")),
     Row("constant-part: a ~ that was forgotten", [f"M@1: constant-part: SameMicroop i j is False {LEAVES}"],
-        condition("ProgramOrder i j /\\ @SameMicroop i j \\/ IsAnyRead i /\\ SameCore i j")),
+        condition("ProgramOrder i j /\\ @SameMicroop i j \\/ IsAnyRead i /\\ SameCore i j"), meant="x-y"),
     Row("constant-part: behind an arrow that brackets pulled in front of it",
         [f"M@1: constant-part: SameCore i j is True {LEAVES}"],
         f'Axiom "x": {PAIR}ProgramOrder i j => (@SameCore i j /\\ IsAnyRead i => AddEdge ((i, S), (j, S))).'),
@@ -322,17 +315,21 @@ PARTS = [
         '  exists microop "w", IsAnyWrite w /\\ SamePhysicalAddress w i /\\ SameData w i /\\ SameCore w i /\\ NodeExists (w, S).\n'
         'Axiom "z": forall microops "r", forall microops "w", IsAnyRead r /\\ IsAnyWrite w /\\\n'
         "  SameInstruction r w => NodeExists (r, S)."),
-    Row("constant-part: one that is meant",
-        model=condition("ProgramOrder i j /\\ SameCore i j") + "% Lint allows: constant-part x-y"),
     Row("constant-part: an axiom that asks for nothing is told as that alone", [f'M@1: idle: axiom "never" {NOTHING}'], NEVER),
+]
+# of predicates that the table gets for these cases
+NEW_PREDICATES = [
+    Row("constant-part: a new predicate", [f"M@1: constant-part: OtherCore i j is False {LEAVES}"],
+        condition("ProgramOrder i j /\\ @OtherCore i j \\/ IsAnyRead i /\\ SameCore i j")),
+    Row("constant-part: a new predicate that asks for what no search chooses", model=condition("ProgramOrder i j /\\ Titled i")),
 ]
 ODD = 'StageName 2 "L2".\n' + "".join(
     f'Axiom "a{k}": forall microops "w", AddEdge ((w, {stage}), (w, ({core}, {mark}L2))).\n'
     for k, (stage, core, mark) in enumerate((("S", 0, ""), ("T", 0, ""), ("S", 1, "@"), ("S", 0, "")))
 )
 TEXTS = [
-    Row("odd-place: one of four on another core", ["M@1: odd-place: (w, (1, L2)) here alone, and (w, (0, L2)) in 3 places"], ODD),
-    Row("odd-place: one that is meant", model=ODD.replace("@", "") + "% Lint allows: odd-place L2"),
+    Row("odd-place: one of four on another core", ["M@1: odd-place: (w, (1, L2)) here alone, and (w, (0, L2)) in 3 places"], ODD,
+        meant="L2"),
     Row("odd-place: one of two, and two of four",
         model='StageName 2 "L2".\nStageName 3 "L3".\n'
         'Axiom "a": forall microops "w", NodesExist [(w, (0, L2)); (w, (1, L2))].\n'
@@ -357,7 +354,7 @@ SAME_PAGE = "SamePhysicalAddress i j"
 ADDRESSES = [
     Row("mixed: a virtual and a physical address of one pair",
         ["M@1: mixed: SameVirtualAddress j i stands beside SamePhysicalAddress i j: a virtual and a physical address"],
-        condition(f"{SAME_PAGE} /\\ @SameVirtualAddress j i")),
+        condition(f"{SAME_PAGE} /\\ @SameVirtualAddress j i"), meant="x-y"),
     Row("mixed: tags of one pair, in a macro",
         ["M@1: mixed: SameVirtualTag a b stands beside SamePhysicalTag a b: a virtual and a physical address"],
         'DefineMacro "P" "a" "b": SamePhysicalTag a b /\\ ~@SameVirtualTag a b.\n' + condition("ExpandMacro P i j")),
@@ -369,7 +366,6 @@ ADDRESSES = [
         model=f'Axiom "x": {PAIR}forall microops "k", SameVirtualAddress i j /\\ SamePhysicalAddress j k{THEN}' +
         "".join(condition(f"{SAME_PAGE} /\\ EntryOf {pair} /\\ OnCore {k} i").replace("x y", f"x{k}") for k, pair in
         enumerate(("i j", "j i", "i j", "j i")))),
-    Row("mixed: one that is meant", model=condition(f"{SAME_PAGE} /\\ SameVirtualAddress j i") + "% Lint allows: mixed x-y"),
 ]
 ALONE = "so that it orders nothing"
 START = "is the value of PA 0 0 at the start: a read does not tell which of the two it sees"
@@ -391,9 +387,7 @@ OF_TESTS = [
         "0 0 0 0 (Write (VA 0 0) (PA 0 0) (Data 0))"))),
     Row("nobody's: values of an address that no micro-op has",
         [f"T@1: nobody's: no micro-op is at PA 1 0, {NOBODY}", f"T@2: nobody's: no micro-op is at PA 2 0, {NOBODY}"], FACTS,
-        (ops(f"0 0 0 0 {WRITE}", "@Init (PA 1 0) 7.", "@Final (PA 2 0) 0.", "Final (PA 0 0) 1."),)),
-    Row("nobody's: ones that are meant", model=FACTS,
-        tests=(ops("% Lint allows: nobody's", f"0 0 0 0 {WRITE}", "Init (PA 1 0) 7.", "Final (PA 2 0) 0."),)),
+        (ops(f"0 0 0 0 {WRITE}", "@Init (PA 1 0) 7.", "@Final (PA 2 0) 0.", "Final (PA 0 0) 1."),), meant=""),
 ]
 MORE = [
     Row("more files: what is said of a model alone is said of it beside a test",
@@ -538,15 +532,32 @@ def with_place(line: str, places: dict[str, list[str]]) -> str:
     return f"{name}{'.query' * (name == 'Q')}:{places[name][int(number) - 1]}:{rest}" if mark else line
 
 
+def as_meant(row: Row) -> Row:
+    """The same files, with the comment that says that it is meant: in the model, or in the test where that is usual."""
+    kind = row.name.partition(":")[0]
+    comment = f"\n% Lint allows: {kind} {row.meant}"
+    name = f"{kind}: ones that are meant" if row.lines[1:] else f"{kind}: one that is meant"
+    of_model, of_tests = (comment, "") if row.model else ("", comment)
+    return replace(row, name=name, lines=[], model=row.model + of_model, tests=tuple(it + of_tests for it in row.tests))
+
+
 class Slips(Cases):
     """What lint says of small files."""
 
     def test_slips(self) -> None:
         of_right = (ORDERS, IDLE, NODES, NAMES, PLACES, ARROWS, EDGES, COUNTS, QUERIES, PARTS, TEXTS, ADDRESSES, OF_TESTS, MORE)
         for base, table in [*((RIGHT, it) for it in of_right), ("", WHOLE)]:
-            for row in table:
+            for row in [*table, *map(as_meant, (it for it in table if it.meant is not None))]:
                 if self.is_wanted(row.name):
                     self.judge_row(row, base)
+
+    def test_new_predicates(self) -> None:
+        """Predicates of which lint has no words of its own, and is told by the table what they say."""
+        PREDICATES["OtherCore"] = of_pair(lambda i, j: i.core != j.core)
+        PREDICATES["Titled"] = (MICROOP,), lambda case, i: bool(case.title)
+        for row in NEW_PREDICATES:
+            if self.is_wanted(row.name):
+                self.judge_row(row, RIGHT)
 
     def judge_row(self, row: Row, base: str) -> None:
         texts = {"M": f"{base}{row.model}\n", **dict(zip("TU", row.tests)), **({"Q.query": row.query} if row.query else {})}
@@ -589,6 +600,8 @@ FILES = (
      "bad.uspec:2:12: arity: the predicate takes another number of arguments\n", ""),
     ("a test in place of the model", ["good.test"], 3, "good.test:1:1: syntax: no model can continue with this token\n",
      f"pipecheck: `StageName`, `Axiom` or `DefineMacro` is expected\npipecheck: good.test {IN_PLACE}\n"),
+    ("a test in place of a query", ["good.uspec", "test.query"], 3, "test.query:1:8: syntax: no model can continue with this token\n",
+     "pipecheck: a name, a number, `=>`, `\\/`, `/\\` or the end of the file is expected\n"),
     ("a model alone", ["good.uspec"], 0, "", ""),
     ("a name that is no UTF-8", ["-m", "\udcff"], 1, slip_of("-m", "\udcff"), ""),
     ("names that would break a line are one word of bash", ["a\nm", "a\nt"], 1, slip_of("$'a\\nm'", "$'a\\nt'"), ""),
@@ -647,7 +660,7 @@ class Command(Cases):
             "bad.test": 'Litmus "d".\nMicroop 0 64 0 0 (Fence).\n', "bad.uspec": 'StageName 0 "S".\nAxiom "x": IsAnyRead i 7.\n',
             "good.test": 'Litmus "t".\n', "good.uspec": ALL, "slip.test": slip, "-m": ALL, "--t": slip, "\udcff": slip, "a\nm": ALL,
             "a\nt": slip, "slips.litmus": LISTING, "meant.litmus": LISTING.replace("{ }", MEANT_HERE), "slips.pattern": PATTERN,
-            "slips.test": PATTERN,
+            "slips.test": PATTERN, "test.query": 'Litmus "t".\n',
         }.items():
             write(f"{self.work}/{name}", text)
 
@@ -791,8 +804,8 @@ class Shipped(Cases):
     def says_nothing(self, model: str, tests: Sequence[str], query: str | None = None) -> None:
         read_queries = [read_query_file(it, read(it).encode(), model_of(model)) for it in [query] if it]
         path = " ".join([model, *([query] if query else [])])
-        found = slips(path, read(model).encode(), model_of(model), [test_of(it) for it in tests], read_queries)
-        self.assertEqual([(it.path, it.kind, it.sentence) for it in found], [])
+        linter = Linter(path, read(model).encode(), model_of(model), [test_of(it) for it in tests], read_queries)
+        self.assertEqual([(it.path, it.kind, it.sentence) for it in linter.slips()], [])
 
     def test_models(self) -> None:
         kinds = [("the shipped tests", "tests/*.test"), ("the shipped listings", "x86/*.litmus")]

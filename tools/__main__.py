@@ -13,7 +13,6 @@ TOOLS = {
     "compare": "tools.listings.compare",
     "crates": "tools.pages.crates",
     "definitions": "tools.pages.definitions",
-    "explain": "tools.explain.main",
     "judged": "tools.explain.judged",
     "installer": "tools.install.installer",
     "lint": "tools.lint.main",

@@ -11,7 +11,6 @@ from tools.second.models import Model
 from tools.texts.naming import Names
 from tools.texts.origins import TracedPositions
 from tools.texts.quoting import shown
-from tools.texts.wrapping import width_of_output, within
 
 VERDICTS = {
     "observable": "a run of this model shows the outcome",
@@ -19,24 +18,16 @@ VERDICTS = {
 }
 
 
-def explain(model: Model, case: Case, model_text: bytes, model_name: str, certificate: list[str]) -> Iterator[str]:
-    """The lines that are said of the lines of a certificate, as wide as the output may be."""
-    width = width_of_output()
+def explain(
+    model: Model, case: Case, model_text: bytes, model_name: str, certificate: list[str], width: int
+) -> Iterator[str]:
+    """The lines that are said of the lines of a certificate: the verdict, the key, what places are of, and the rest."""
     names = Names(model, case, model_text)
+    verdict = [f"{certificate[0]}: {VERDICTS[certificate[0]]}", certificate[1], ""]
+    places = ["", f"Places are lines and columns of {shown(model_name)}.", ""]
     # what is too large is so before a line is written
     said = body(model, case, names, certificate, width)
-    return chain(within(heading(case, names, model_name, certificate), width), within(said, width))
-
-
-def heading(case: Case, names: Names, model_name: str, certificate: list[str]) -> Iterator[str]:
-    """The verdict, the key and what places are of."""
-    yield f"{certificate[0]}: {VERDICTS[certificate[0]]}"
-    yield certificate[1]
-    yield ""
-    yield from key(case, names)
-    yield ""
-    yield f"Places are lines and columns of {shown(model_name)}."
-    yield ""
+    return chain(verdict, key(case, names), places, said)
 
 
 def body(model: Model, case: Case, names: Names, certificate: list[str], width: int) -> Iterator[str]:

@@ -1,7 +1,7 @@
 """What clashes at the end of a branch, in words."""
 from collections import Counter
 from dataclasses import dataclass, field
-from typing import Iterable, Iterator
+from typing import Iterator
 
 from tools.second.meaning import Node
 from tools.texts.naming import Fact, Names
@@ -35,10 +35,8 @@ class Closed:
         self.facts = [fact for fact in (facts if is_first else self.facts) if fact in facts]
         self.axioms = [axiom for axiom in dict.fromkeys(axioms if is_first else self.axioms) if axiom in axioms]
 
-    def line(self, names: Names, walk: Iterable[str]) -> Iterator[str]:
-        """Of many branches one line: how they end, and what of that they have in common. A walk adds them before."""
-        for _ in walk:
-            pass
+    def line(self, names: Names) -> Iterator[str]:
+        """Of many branches one line: how they end, and what of that they have in common."""
         count = sum(self.words.values())
         if count <= MOST_BRANCHES:
             return

@@ -8,7 +8,6 @@ from tools.second.models import Axiom, Model
 from tools.texts.answers import Answer, Core, Part, model_of
 from tools.texts.naming import Names, line_and_column
 from tools.texts.quoting import shown
-from tools.texts.wrapping import width_of_output, within
 
 WORDS = {
     "always": "the query holds in all worlds of the model on this test, and there are some",
@@ -42,24 +41,11 @@ class PartNames(Names):
 
 
 def explain_answer(
-    model: Model, case: Case, model_text: bytes, model_name: str, answer: Answer, query: bytes = b"", query_name: str = ""
+    model: Model, case: Case, model_text: bytes, model_name: str, answer: Answer, query: bytes, query_name: str, width: int
 ) -> Iterator[str]:
-    """The lines that are said of an answer, as wide as the output may be. That of `ask` has a query with its name."""
-    width = width_of_output()
+    """The lines that are said of an answer: what it says, the key, what places are of, and each certificate. That of `ask` has a
+    query with its name."""
     names = Names(model, case, model_text)
-    yield from within(heading(model, case, names, model_name, answer, query_name), width)
-    for part in answer.parts:
-        said = model_of(answer, part, model, model_text, query)
-        part_names = PartNames(said.model, case, said.text, said.query_at)
-        lines = [verdict(model, names, answer, part), part.lines[1], ""]
-        yield from within(["", *lines], width)
-        yield from within(body(said.model, case, part_names, part.lines, width), width)
-
-
-def heading(
-    model: Model, case: Case, names: Names, model_name: str, answer: Answer, query_name: str
-) -> Iterator[str]:
-    """What the answer says, the key and what places are of."""
     if isinstance(answer, Core):
         yield from core_heading(model, names, answer)
     else:
@@ -69,21 +55,22 @@ def heading(
     yield ""
     more = f"; a place `query LINE:COLUMN` is one of {shown(query_name)}" if query_name else ""
     yield f"Places are lines and columns of {shown(model_name)}{more}."
+    for part in answer.parts:
+        said = model_of(answer, part, model, model_text, query)
+        yield from ("", verdict(model, names, answer, part), part.lines[1], "")
+        part_names = PartNames(said.model, case, said.text, said.query_at)
+        yield from body(said.model, case, part_names, part.lines, width)
 
 
 def core_heading(model: Model, names: Names, answer: Core) -> Iterator[str]:
-    """The axioms of a core."""
+    """The axioms of a core, by their numbers, titles and places."""
     if answer.kept is None:
         yield "core none: no axioms forbid the outcome, since a run of the model shows it"
         return
     yield f"core {len(answer.kept)}: these axioms alone forbid the outcome, and without any one of them the others allow it"
-    yield from (f"  {numbered(model, names, number)}" for number in answer.kept)
-
-
-def numbered(model: Model, names: Names, number: int) -> str:
-    """An axiom by its number, its title and its place."""
-    axiom = model.axioms[number]
-    return f'axiom {number}: "{axiom.title}" at {names.place(axiom.at)}'
+    for number in answer.kept:
+        axiom = model.axioms[number]
+        yield f'  axiom {number}: "{axiom.title}" at {names.place(axiom.at)}'
 
 
 def verdict(model: Model, names: Names, answer: Answer, part: Part) -> str:

@@ -8,6 +8,7 @@ from tools.second.queries import read_query
 from tools.second.scopes import read_model
 from tools.texts.address_names import case_with_names
 from tools.texts.answers import Answer, Asked, is_answer, model_of, read_answer
+from tools.texts.wrapping import width_of_output, within
 
 
 def contents(path: str) -> bytes:
@@ -19,15 +20,16 @@ def contents(path: str) -> bytes:
 def explain_files(
     model_name: str, model_path: str, test_path: str, certificate_path: str, query_path: str = "", query_name: str = ""
 ) -> Iterator[str]:
-    """The lines that are said of the certificate or answer, which judges have accepted. An answer of `ask` has a query
-    beside it. The model is called by its name, and so is the query where it has one."""
-    text = contents(model_path)
+    """The lines that are said of the certificate or answer, which judges have accepted, as wide as the output may be. An answer
+    of `ask` has a query beside it. The model is called by its name, and so is the query where it has one."""
+    text, data, width = contents(model_path), contents(certificate_path), width_of_output()
     model, case = read_model(text), case_with_names(test_path, contents(test_path))
-    data = contents(certificate_path)
-    if not is_answer(data):
-        return explain(model, case, text, model_name, data.decode("ascii").split("\n")[:-1])
-    query = contents(query_path) if query_path else b""
-    return explain_answer(model, case, text, model_name, read_answer(data, model), query, query_name or query_path)
+    if is_answer(data):
+        query = contents(query_path) if query_path else b""
+        lines = explain_answer(model, case, text, model_name, read_answer(data, model), query, query_name or query_path, width)
+    else:
+        lines = explain(model, case, text, model_name, data.decode("ascii").split("\n")[:-1], width)
+    return within(lines, width)
 
 
 def parts_of(model: Model, text: bytes, answer: Answer, query: bytes) -> Iterator[tuple[int, int, bytes, bytes]]:

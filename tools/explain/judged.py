@@ -11,7 +11,8 @@ import shutil
 import signal
 import sys
 import tempfile
-from typing import Sequence
+from contextlib import contextmanager, suppress
+from typing import Iterator, Sequence
 
 from tools import TOP
 from tools.ending import SIGNALS
@@ -35,6 +36,8 @@ from tools.texts.quoting import quoted
 # how long a model, a test or a query may be, and a certificate
 MOST, MOST_OF_CERTIFICATE = 1_048_576, 67_108_864
 REFUSED, CERTIFICATE_REFUSED = 3, 6
+FORM = "explain MODEL TEST ANSWER QUERY"
+ONLY_ASK = f"only an answer of ask has a query: {FORM}"
 VERDICTS = {0: b"verified observable", 1: b"verified unobservable"}
 
 
@@ -48,20 +51,30 @@ class Unexplained(Exception):
         self.text = text
 
 
+def failed(sentence: str) -> Unexplained:
+    """That there is no verdict to explain, and why."""
+    return Unexplained(FAILED, [f"pipecheck: {sentence}"])
+
+
 def unkept(what: str) -> Unexplained:
     """That a text could not be kept, so that it is judged and explained by nobody."""
     folder = quoted(os.environ.get("TMPDIR") or "/tmp")
-    return Unexplained(
-        FAILED, [f"pipecheck: {what} could not be kept in {folder}, the folder for temporary files; TMPDIR names another one"]
-    )
+    return failed(f"{what} could not be kept in {folder}, the folder for temporary files; TMPDIR names another one")
+
+
+@contextmanager
+def keeping(what: str) -> Iterator[None]:
+    """Tells where the system does not let a text be kept."""
+    try:
+        yield
+    except OSError as error:
+        raise unkept(what) from error
 
 
 def folder_for_texts() -> tempfile.TemporaryDirectory[str]:
     """A new folder for what is kept. Whether there is room in it is seen later."""
-    try:
+    with keeping("the certificate"):
         return tempfile.TemporaryDirectory(dir=os.environ.get("TMPDIR") or "/tmp")
-    except OSError as error:
-        raise unkept("the certificate") from error
 
 
 def meaning(status: int, text: bytes, word: str, paths: Sequence[str]) -> Unexplained:
@@ -74,9 +87,10 @@ def meaning(status: int, text: bytes, word: str, paths: Sequence[str]) -> Unexpl
     return unkept(f"the answer of {word}") if status == UNWRITTEN else Unexplained(status, said, text)
 
 
-def is_verdict(status: int, text: bytes) -> bool:
+def look_for_verdict(status: int, text: bytes) -> None:
     """Whether a judge's answer is a verdict that agrees with its status, as that of any command need not be."""
-    return status in VERDICTS and text.startswith(VERDICTS[status])
+    if not text.startswith(VERDICTS[status]):
+        raise failed(f"no judge: the checker ended with status {status} and not with its verdict")
 
 
 class Judge:
@@ -90,7 +104,7 @@ class Judge:
         if value:
             self.command = command_of(value)
             if shutil.which(self.command[0]) is None:
-                raise Unexplained(FAILED, [f"pipecheck: PIPECHECK is no command: {quoted(value)}"])
+                raise failed(f"PIPECHECK is no command: {quoted(value)}")
         self.kib = memory_limit(os.environ.get("PIPECHECK_MEMORY", ""))
 
     def call(self, word: str, paths: Sequence[str]) -> tuple[int, bytes]:
@@ -111,36 +125,23 @@ class Judge:
         if not os.path.exists(path) or os.path.isfile(path) or os.path.isdir(path) or not os.access(path, os.R_OK):
             return path
         copy = os.path.join(self.folder, name + os.path.splitext(path)[1])
-        try:
-            with open(path, "rb") as source, open(copy, "wb") as target:
-                target.write(source.read(most + 1))
-        except OSError as error:
-            raise unkept(f"the text of {quoted(path)}") from error
+        with keeping(f"the text of {quoted(path)}"), open(path, "rb") as source, open(copy, "wb") as target:
+            target.write(source.read(most + 1))
         return copy
 
     def kept(self, name: str, text: bytes, what: str) -> str:
         """The path of a file with this text."""
         path = os.path.join(self.folder, name)
-        try:
-            with open(path, "wb") as file:
-                file.write(text)
-        except OSError as error:
-            raise unkept(what) from error
+        with keeping(what), open(path, "wb") as file:
+            file.write(text)
         return path
 
 
-def no_judge(status: int) -> Unexplained:
-    """That what was asked is no judge."""
-    return Unexplained(FAILED, [f"pipecheck: no judge: the checker ended with status {status} and not with its verdict"])
-
-
-def is_lifted(path: str) -> bool:
-    """Whether a certificate is a lifted refutation, whose third line says so."""
-    try:
-        with open(path, "rb") as file:
-            return file.read(200).split(b"\n")[2:3] == [b"lifted"]
-    except OSError:
-        return False
+def beginning(path: str) -> bytes | None:
+    """The first bytes of a file, the first three lines of a certificate among them; None where it cannot be read."""
+    with suppress(OSError), open(path, "rb") as file:
+        return file.read(200)
+    return None
 
 
 def judge_answer(judge: Judge, word: str, names: Sequence[str], paths: list[str]) -> int:
@@ -151,8 +152,7 @@ def judge_answer(judge: Judge, word: str, names: Sequence[str], paths: list[str]
         raise meaning(status, text, word, names[:3])
     model_text, data = contents(paths[0]), contents(paths[2])
     if data.startswith(b"ask ") is not (len(paths) == 4):
-        say = "only an answer of ask has a query" if len(paths) == 4 else "an answer of ask is explained beside its query"
-        raise Unexplained(FAILED, [f"pipecheck: {say}: explain MODEL TEST ANSWER QUERY"])
+        raise failed(ONLY_ASK if len(paths) == 4 else f"an answer of ask is explained beside its query: {FORM}")
     model = read_model(model_text)
     try:
         query = contents(paths[3]) if len(paths) == 4 else b""
@@ -178,21 +178,15 @@ def judge_part(judge: Judge, word: str, paths: list[str], at: int, wanted: int) 
     """Has one certificate of an answer judged, which begins at this line of it."""
     status, text = judge.call(word, paths)
     if status == wanted:
-        if not is_verdict(status, text):
-            raise no_judge(status)
-    elif status == REFUSED:
+        look_for_verdict(status, text)
+        return
+    if status == REFUSED:
         said = text.decode("ascii", "replace").rstrip("\n")
-        raise Unexplained(
-            FAILED,
-            [f"pipecheck: the certificate at line {at} of the answer is not judged, since verify does not take its model: {said}"],
-        )
-    elif status == CERTIFICATE_REFUSED:
+        raise failed(f"the certificate at line {at} of the answer is not judged, since verify does not take its model: {said}")
+    if status == CERTIFICATE_REFUSED:
         line = int(text.split()[4])
         raise Unexplained(CERTIFICATE_REFUSED, (), b"answer refused at line %d\n" % (at + max(0, line - 1)))
-    elif status == UNWRITTEN:
-        raise unkept(f"the answer of {word}")
-    else:
-        raise Unexplained(status, ())
+    raise unkept(f"the answer of {word}") if status == UNWRITTEN else Unexplained(status)
 
 
 def explained(judge: Judge, names: Sequence[str]) -> tuple[list[str], int]:
@@ -206,29 +200,20 @@ def explained(judge: Judge, names: Sequence[str]) -> tuple[list[str], int]:
             raise meaning(status, text, check, names)
         more = [judge.kept("certificate", text, "the certificate")]
     paths.append(judge.copied("certificate", more[0], MOST_OF_CERTIFICATE))
-    try:
-        with open(paths[2], "rb") as file:
-            is_of_many, is_readable = is_answer(file.read(5)), True
-    except OSError:
-        is_of_many = is_readable = False
-    if is_of_many:
+    begins = beginning(paths[2])
+    if begins is not None and is_answer(begins):
         paths += [judge.copied("query", path, MOST) for path in more[1:]]
         return paths, judge_answer(judge, verify, [model, test, *more], paths)
     # one that cannot be read is told by the judge
-    if len(more) == 2 and is_readable:
-        raise Unexplained(FAILED, ["pipecheck: only an answer of ask has a query: explain MODEL TEST ANSWER QUERY"])
-    word = "verify-lifted" if verify == "verify" and is_lifted(paths[2]) else verify
+    if begins is not None and len(more) == 2:
+        raise failed(ONLY_ASK)
+    is_lifted = begins is not None and begins.split(b"\n")[2:3] == [b"lifted"]
+    word = "verify-lifted" if verify == "verify" and is_lifted else verify
     status, text = judge.call(word, paths)
     if status > 1:
         raise meaning(status, text, word, [model, test, more[0]])
-    if not is_verdict(status, text):
-        raise no_judge(status)
+    look_for_verdict(status, text)
     return paths, status
-
-
-def write(text: bytes) -> None:
-    """Writes to standard output what the program wrote."""
-    print(text.decode("ascii", "surrogateescape"), end="")
 
 
 def main(program: str, *names: str) -> int:
@@ -241,8 +226,7 @@ def main(program: str, *names: str) -> int:
                 print(line)
             return status
     except Unexplained as unexplained:
-        write(unexplained.text)
-        sys.stdout.flush()
+        print(unexplained.text.decode("ascii", "surrogateescape"), end="", flush=True)
         for line in unexplained.said:
             tell(line)
         return unexplained.status

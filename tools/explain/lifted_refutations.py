@@ -1,9 +1,9 @@
 """A lifted refutation in the words of the model. The text has to be one that a judge accepted."""
-from dataclasses import dataclass, field, replace
-from typing import Iterator
+from dataclasses import dataclass, replace
+from typing import Iterator, Sequence
 
-from tools.explain.branches import branch_ends
-from tools.explain.clashes import MOST_BRANCHES, Closed, clash_heading, clash_reason
+from tools.explain.branches import Branches, Waiting
+from tools.explain.clashes import clash_heading, clash_reason
 from tools.second.cases import Case
 from tools.second.grounding import Literal
 from tools.second.lifted import ADDING, Fact, LiftedJudge, Said
@@ -11,7 +11,7 @@ from tools.second.models import Arg, Binary, Edges, Expand, Formula, Model, Node
 from tools.texts.naming import Fact as NamedFact
 from tools.texts.naming import Names
 from tools.texts.origins import Origin, Taken, first_place
-from tools.texts.wrapping import GAP, indent
+from tools.texts.wrapping import GAP
 
 # how many characters of a formula, and how many members of a list in it, are shown
 MOST_CHARACTERS = 160
@@ -37,18 +37,6 @@ def literal(noted: Noted) -> NamedFact:
 
 
 @dataclass(frozen=True)
-class Waiting:
-    """A right side whose left one is open: where its branch begins, its name, how many facts stand before it, it, the
-    level of the split."""
-
-    step: int
-    name: str
-    count: int
-    side: Noted
-    level: int
-
-
-@dataclass(frozen=True)
 class ClosedBy:
     """A line that closes a branch: its word, and its facts with their numbers."""
 
@@ -56,38 +44,17 @@ class ClosedBy:
     facts: list[tuple[int, Noted]]
 
 
-@dataclass(frozen=True)
-class Closing:
-    """A side of a split with the place of its first step, and the other one with its own; how the side is closed, and
-    why it cannot be."""
-
-    side: Noted
-    at: int
-    other: Noted
-    other_at: int
-    leaves: list[ClosedBy] = field(default_factory=list)
-    reason: str = ""
-
-
-class LiftedRefutation:
+class LiftedRefutation(Branches[Noted]):
     """The lines of a lifted refutation. The facts of the first open branch are kept with where they come from."""
 
     def __init__(self, model: Model, case: Case, names: Names, lines: list[str], width: int) -> None:
+        super().__init__(names, lines, width, ADDING)
         self.model = model
-        self.case = case
-        self.names = names
-        self.steps = lines
-        self.ends = branch_ends(lines, ADDING)
-        self.width = width
         self.rules = LiftedJudge(model, case)
         self.facts = [
             Noted(Said(True, axiom.body, {}), {}, number, Origin(axiom, (), None, first_place(axiom.body)))
             for number, axiom in enumerate(model.axioms)
         ]
-        self.here = 0
-        self.level = 0
-        self.waiting: list[Waiting] = []
-        self.closed = Closed()
 
     def lines(self) -> Iterator[str]:
         """The axioms, and the steps."""
@@ -95,16 +62,9 @@ class LiftedRefutation:
         for number, axiom in enumerate(self.model.axioms):
             yield f"  {number}: {self.names.axiom(axiom)} at {self.names.place(axiom.at)}"
         yield ""
-        if sum(step.split(" ", 1)[0] not in ("split", *ADDING) for step in self.steps) > MOST_BRANCHES:
-            other = LiftedRefutation(self.model, self.case, self.names, self.steps, self.width)
-            yield from other.closed.line(self.names, other.walk())
-        yield "Each line adds a fact, or splits a branch, or closes one by what cannot be:"
-        yield from self.walk()
-        yield "Every branch is closed."
+        yield from self.under("Each line adds a fact, or splits a branch, or closes one by what cannot be:")
 
     def walk(self) -> Iterator[str]:
-        """The steps. Of a split one side of which the test alone makes false, or a clash closes at once, a line says
-        what the other one adds, which goes on there. Of any other one both branches follow, one level further in."""
         while self.here < len(self.steps):
             word, *rest = self.steps[self.here].split(" ")
             if word in ADDING:
@@ -113,10 +73,6 @@ class LiftedRefutation:
                 self.here += 1
             else:
                 yield from self.split() if word == "split" else self.leaf()
-
-    def indent(self) -> str:
-        """What stands before a line."""
-        return indent(self.level, self.width)
 
     # the lines
 
@@ -133,17 +89,26 @@ class LiftedRefutation:
         step = self.steps[self.here]
         above = self.facts[int(step.split(" ")[1])]
         left, right = self.sides(above)
-        left_at, right_at = self.here + 1, self.ends[self.here + 1]
-        closed = self.closed_side([Closing(left, left_at, right, right_at), Closing(right, right_at, left, left_at)])
-        if closed is not None:
-            yield f"{self.indent()}{step}: {self.added(closed.other)}, since {closed.reason}{GAP}{self.origin(above)}"
-            self.here = closed.other_at
+        sides = (left, self.here + 1), (right, self.ends[self.here + 1])
+        leaves = [self.leaves(*side) for side in sides]
+        closed = closed_side(leaves)
+        if closed is None:
+            yield f"{self.indent()}{step}: {self.origin(above)}"
+            yield from self.open_branches(step, left, right, len(self.facts))
             return
-        yield f"{self.indent()}{step}: {self.origin(above)}"
-        self.waiting.append(Waiting(right_at, f"right of {step}", len(self.facts), right, self.level))
-        yield f"{self.indent()}left of {step}: {self.added(left)}"
-        self.level += 1
-        self.here = left_at
+        reason = self.reason(sides[closed][0], leaves[closed])
+        other, other_at = sides[1 - closed]
+        yield f"{self.indent()}{step}: {self.added(other)}, since {reason}{GAP}{self.origin(above)}"
+        self.here = other_at
+
+    def begin(self, name: str, side: Noted) -> Iterator[str]:
+        yield f"{self.indent()}{name}: {self.added(side)}"
+
+    def take_back(self, mark: int) -> None:
+        del self.facts[mark:]
+
+    def split_of(self, waiting: Waiting[Noted]) -> str:
+        return f"split {waiting.mark}"
 
     def sides(self, above: Noted) -> tuple[Noted, Noted]:
         """Both sides of a fact."""
@@ -169,86 +134,46 @@ class LiftedRefutation:
             facts = facts[::-1] if word == "absent" else facts
             yield f"{self.indent()}{step}: {clash_heading(self.names, word, [literal(noted) for noted in facts])}"
             yield from (f"{self.indent()}  {self.plain(noted)}{GAP}{self.origin(noted)}" for noted in facts)
-        if not self.waiting:
-            self.here = len(self.steps)
-            return
-        next_one = self.waiting.pop()
-        del self.facts[next_one.count :]
-        self.level, self.here = next_one.level, next_one.step
-        yield f"{self.indent()}{next_one.name}: {self.added(next_one.side)}"
-        # what splits the right side itself goes on with the choices of one formula
-        if self.steps[self.here] != f"split {next_one.count}":
-            self.level += 1
+        yield from self.next_branch()
 
     # why a side cannot be
 
-    def closed_side(self, sides: list[Closing]) -> Closing | None:
-        """The first of these sides that the test makes false, or else the first that a clash closes; with the
-        reason."""
-        found = [replace(one, leaves=self.leaves(one.side, one.at)) for one in sides]
-        for one in found:
-            if one.leaves and all(leaf.word == "false" for leaf in one.leaves):
-                return replace(one, reason=self.false_reason(one.side, one.leaves))
-        for one in found:
-            clashes = [leaf for leaf in one.leaves if leaf.word != "false"]
-            if len(clashes) == 1:
-                return replace(one, reason=self.clash_reason(clashes[0]))
-        return None
-
     def leaves(self, side: Noted, at: int) -> list[ClosedBy]:
-        """How the branches of a side are closed, whose first step stands there; nothing where more is taken apart in
-        them than the side itself."""
-        if not self.is_alone(at):
-            return []
+        """How the branches of a side are closed, whose first step stands there: by `false` of its parts, but for one clash at
+        most. Nothing where something else closes them, or where another fact is taken apart in them."""
         first = len(self.facts)
         waiting: list[tuple[int, Noted]] = []
         found: list[ClosedBy] = []
-        self.facts.append(side)
-        for place in range(at, self.ends[at]):
-            word, *rest = self.steps[place].split(" ")
-            if word in ADDING:
-                self.facts.append(self.adding(word, rest))
-            elif word == "split":
-                left, right = self.sides(self.facts[int(rest[0])])
-                waiting.append((len(self.facts), right))
-                self.facts.append(left)
-            else:
-                found.append(ClosedBy(word, [(int(number), self.facts[int(number)]) for number in rest]))
-                if waiting:
-                    count, right = waiting.pop()
-                    self.facts[count:] = [right]
-        del self.facts[first:]
-        return found
-
-    def is_alone(self, at: int) -> bool:
-        """Whether the branch that begins there takes apart its own fact and no other one, and is closed by `false` of
-        its parts, but for one clash at most."""
-        first = len(self.facts)
-        # of each fact from that one on whether it is a part of it, and of each right side that waits its place and the
-        # same
-        is_part = [True]
-        waiting: list[tuple[int, bool]] = []
         clashes = 0
-        for place in range(at, self.ends[at]):
-            word, number = self.steps[place].split(" ")[:2]
-            is_of_part = int(number) >= first and is_part[int(number) - first]
-            if word == "split":
-                waiting.append((len(is_part), is_of_part))
-            if word == "split" or word in ADDING:
-                if not is_of_part:
-                    return False
-                is_part.append(True)
-                continue
-            clashes += word != "false"
-            if clashes > 1 or (word == "false" and not is_of_part):
-                return False
-            if waiting:
-                count, is_of_part = waiting.pop()
-                is_part[count:] = [is_of_part]
-        return True
+        self.facts.append(side)
+        try:
+            for place in range(at, self.ends[at]):
+                word, *rest = self.steps[place].split(" ")
+                is_clash = word not in ("split", "false", *ADDING)
+                clashes += is_clash
+                if clashes > 1 or not is_clash and int(rest[0]) < first:
+                    return []
+                if word in ADDING:
+                    self.facts.append(self.adding(word, rest))
+                elif word == "split":
+                    left, right = self.sides(self.facts[int(rest[0])])
+                    waiting.append((len(self.facts), right))
+                    self.facts.append(left)
+                else:
+                    found.append(ClosedBy(word, [(int(number), self.facts[int(number)]) for number in rest]))
+                    if waiting:
+                        count, right = waiting.pop()
+                        self.facts[count:] = [right]
+            return found
+        finally:
+            del self.facts[first:]
 
-    def false_reason(self, side: Noted, leaves: list[ClosedBy]) -> str:
-        """What the test makes false: the one fact that closes the side, or the side where several do."""
+    def reason(self, side: Noted, leaves: list[ClosedBy]) -> str:
+        """Why a side cannot be that is closed so: what clashes with it, or what the test makes false, which is the one fact
+        that closes it, or the side where several do."""
+        for leaf in leaves:
+            if leaf.word != "false":
+                return self.clash_reason(leaf)
         if len(leaves) == 1:
             return self.falsity(leaves[0].facts[0][1])
         assert isinstance(side.fact, Said)
@@ -379,3 +304,9 @@ class LiftedRefutation:
                 parts = [f"{self.term(edge.start, noted)} before {self.term(edge.end, noted)}" for edge in shown]
         more = [".."] if len(members) > MOST_MEMBERS else []
         return parts[0] if len(members) == 1 else f"[{'; '.join(parts + more)}]"
+
+
+def closed_side(leaves: Sequence[list[ClosedBy]]) -> int | None:
+    """Which of two sides the test makes false, or else which one a clash closes: the first such one."""
+    clashes = [sum(leaf.word != "false" for leaf in side) if side else None for side in leaves]
+    return next((clashes.index(count) for count in (0, 1) if count in clashes), None)

@@ -2,13 +2,13 @@
 from dataclasses import dataclass
 from typing import Iterator
 
-from tools.explain.branches import branch_ends
-from tools.explain.clashes import MOST_BRANCHES, Closed, clash_heading, clash_reason, is_long
+from tools.explain.branches import Branches, Waiting
+from tools.explain.clashes import clash_heading, clash_reason, is_long
 from tools.second.judging import VERSION_2
 from tools.second.positions import Inner, Leaf, Signed
 from tools.texts.naming import Fact, Names
 from tools.texts.origins import Origin, TracedPositions
-from tools.texts.wrapping import GAP, indent
+from tools.texts.wrapping import GAP
 
 # how many parts of a side are shown
 MOST_PARTS = 12
@@ -27,18 +27,6 @@ class Source:
 
 
 @dataclass(frozen=True)
-class Waiting:
-    """A right side whose left one is open: where its branch begins, its name, what it asserts, how much of the trail is
-    its own, the level of the split."""
-
-    step: int
-    name: str
-    side: Side
-    mark: int
-    level: int
-
-
-@dataclass(frozen=True)
 class Group:
     """The splits that stand below one heading, the last of them by its name."""
 
@@ -46,61 +34,29 @@ class Group:
     last: str
 
 
-def split_of(position: int, is_denied: bool) -> str:
-    """The step that splits a position."""
-    return f"split {'~' if is_denied else ''}{position}"
-
-
-class Refutation:
+class Refutation(Branches[Side]):
     """The lines of a refutation. What is asserted on the present branch is kept with what asserted it."""
 
     def __init__(self, names: Names, positions: TracedPositions, lines: list[str], width: int) -> None:
-        self.names = names
-        self.positions = positions
-        self.width = width
         self.has_signs = lines[:1] == [VERSION_2]
-        self.written = lines
-        self.steps = lines[1:] if self.has_signs else lines
-        self.ends = branch_ends(self.steps)
+        super().__init__(names, lines[1:] if self.has_signs else lines, width)
+        self.positions = positions
+        # the facts in the order in which they came
         self.facts: dict[Fact, Source] = {}
-        # the facts in the order in which they came, to be taken back
-        self.trail: list[Fact] = []
-        self.here = 0
-        self.level = 0
-        self.waiting: list[Waiting] = []
         # where the last line was of a split one of whose sides closes at once
         self.group: Group | None = None
-        self.closed = Closed()
 
     def lines(self) -> Iterator[str]:
         """What the refutation is, and its steps."""
-        if self.branches > MOST_BRANCHES:
-            other = Refutation(self.names, self.positions, self.written, self.width)
-            yield from other.closed.line(self.names, other.walk())
         if any(step.startswith("split ") for step in self.steps):
-            yield "Each split is a choice that the model leaves, and each branch ends in what cannot be:"
-        else:
-            yield "The model leaves no choice, and what it asks for cannot be:"
-        yield from self.walk()
-        yield "Every branch is closed."
+            return self.under("Each split is a choice that the model leaves, and each branch ends in what cannot be:")
+        return self.under("The model leaves no choice, and what it asks for cannot be:")
 
     def walk(self) -> Iterator[str]:
-        """The steps. Of a split one of whose sides closes at once a line says what the other one gives, which goes on
-        there. Of any other one both branches follow, one level further in."""
         if self.positions.constant is None:
             self.add([(0, False)], "")
         while self.here < len(self.steps):
             yield from self.split() if self.steps[self.here].startswith("split ") else self.leaf()
-
-    @property
-    def branches(self) -> int:
-        """How many branches there are: one more for each split both sides of which go on."""
-        splits = [place for place, step in enumerate(self.steps) if step.startswith("split ")]
-        return 1 + sum(self.closed_side(place + 1, self.ends[place + 1]) is None for place in splits)
-
-    def indent(self) -> str:
-        """What stands before a line."""
-        return indent(self.level, self.width)
 
     # the steps
 
@@ -118,10 +74,7 @@ class Refutation:
             self.here = left_at
         else:
             yield f"{self.indent()}{step}: {self.names.origin(self.origin_of(step))}"
-            self.waiting.append(Waiting(right_at, f"right of {step}", right, len(self.trail), self.level))
-            yield from self.begin(f"left of {step}", left)
-            self.level += 1
-            self.here = left_at
+            yield from self.open_branches(step, left, right, len(self.facts))
 
     def closed_side(self, left_at: int, right_at: int) -> str | None:
         """The side of a split that is closed by its first step. Where both are it is the one that is closed by fewer
@@ -144,29 +97,26 @@ class Refutation:
         self.add(other, step)
 
     def begin(self, name: str, side: Side) -> Iterator[str]:
-        """The first line of a branch that is a side of a split by this name."""
         yield f"{self.indent()}{name}: {self.said_of(side)}"
         self.group = None
         self.add(side, name)
 
     def leaf(self) -> Iterator[str]:
-        """What clashes at the end of a branch, each fact with where it comes from. Then the branch that waited last
-        goes on."""
+        """What clashes at the end of a branch, each fact with where it comes from. Then the next branch goes on."""
         word, *written = self.steps[self.here].split(" ")
         facts = [] if word == "false" else self.clash(word, written)
         origins = (self.positions.origins[self.facts[fact].position] for fact in facts)
         self.closed.add(word, facts, [self.names.axiom(origin.axiom) for origin in origins if origin is not None])
-        yield from (self.indent() + line for line in self.clash_lines(word, written))
-        if not self.waiting:
-            self.here = len(self.steps)
-            return
-        next_one = self.waiting.pop()
-        self.take_back(next_one.mark)
-        self.level, self.here = next_one.level, next_one.step
-        yield from self.begin(next_one.name, next_one.side)
-        # what splits the right side itself goes on with the choices of one formula
-        if self.steps[self.here] != split_of(*next_one.side[-1]):
-            self.level += 1
+        if word == "false":
+            yield f"{self.indent()}false: the constants of the axioms alone make them false for this test"
+        else:
+            yield f"{self.indent()}{word}: {clash_heading(self.names, word, facts)}"
+        yield from (f"{self.indent()}  {self.fact_line(fact)}" for fact in facts)
+        yield from self.next_branch()
+
+    def split_of(self, waiting: Waiting[Side]) -> str:
+        position, is_denied = waiting.side[-1]
+        return f"split {'~' if is_denied else ''}{position}"
 
     def origin_of(self, step: str) -> Origin | None:
         """Where the position that a step splits comes from."""
@@ -190,17 +140,13 @@ class Refutation:
             row = self.positions.rows[here]
             if isinstance(row, Leaf):
                 fact = self.fact(row, is_denied)
-                if fact not in self.facts:
-                    self.facts[fact] = Source(here, name)
-                    self.trail.append(fact)
+                self.facts.setdefault(fact, Source(here, name))
             elif row.is_disjunction is is_denied:
                 waiting += [(row.right, is_denied), (row.left, is_denied)]
 
     def take_back(self, mark: int) -> None:
-        """Forgets what came after a mark."""
-        for fact in self.trail[mark:]:
-            del self.facts[fact]
-        del self.trail[mark:]
+        while len(self.facts) > mark:
+            self.facts.popitem()
 
     def fact(self, row: Leaf, is_denied: bool) -> Fact:
         """What a literal says, or its opposite."""
@@ -264,12 +210,12 @@ class Refutation:
         in one line, or each in its own where they are many. What the line above gives, which is of the split of this
         name, needs no word."""
         word, *written = self.steps[at].split(" ")
-        mark = len(self.trail)
+        mark = len(self.facts)
         self.add(side, "")
         facts = self.clash(word, written)
-        new = [fact for fact in facts if fact in self.trail[mark:]]
-        known = [fact for fact in facts if fact not in new]
         self.take_back(mark)
+        known = [fact for fact in facts if fact in self.facts]
+        new = [fact for fact in facts if fact not in self.facts]
         text = clash_reason(self.names, word, facts, new)
         if is_long(facts):
             return [f"{text}:", *map(self.fact_line, known)]
@@ -280,12 +226,3 @@ class Refutation:
     def fact_line(self, fact: Fact) -> str:
         """A fact with where it comes from."""
         return f"{self.names.fact(fact)}{GAP}{self.source(fact)}"
-
-    def clash_lines(self, word: str, written: list[str]) -> Iterator[str]:
-        """What clashes, and each of its facts with where it comes from."""
-        if word == "false":
-            yield "false: the constants of the axioms alone make them false for this test"
-            return
-        facts = self.clash(word, written)
-        yield f"{word}: {clash_heading(self.names, word, facts)}"
-        yield from (f"  {self.fact_line(fact)}" for fact in facts)

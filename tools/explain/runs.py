@@ -1,5 +1,6 @@
 """A graph in the words of the model: one order of the run, as a table, and the edges that carry values."""
 import heapq
+from collections import Counter
 from typing import Callable, Iterable, Iterator, Sequence
 
 from tools.second.cases import Case
@@ -100,18 +101,16 @@ class Run:
     def order(self) -> list[Node]:
         """The nodes in an order that all edges keep; of several that could come next the first listed."""
         numbers = {node: number for number, node in enumerate(self.nodes)}
-        before = [0] * len(self.nodes)
-        for _, end in self.edges:
-            before[numbers[end]] += 1
-        ready = [number for number, count in enumerate(before) if count == 0]
+        before = Counter(end for _, end in self.edges)
+        ready = [number for number, node in enumerate(self.nodes) if before[node] == 0]
         found: list[Node] = []
         while ready:
             node = self.nodes[heapq.heappop(ready)]
             found.append(node)
-            for number in (numbers[end] for end in self.after[node]):
-                before[number] -= 1
-                if before[number] == 0:
-                    heapq.heappush(ready, number)
+            for end in self.after[node]:
+                before[end] -= 1
+                if before[end] == 0:
+                    heapq.heappush(ready, numbers[end])
         return found
 
     def value(self, op: int, asked_for: Sequence[Asked]) -> str:

@@ -1,10 +1,10 @@
 """Names of types, kinds of dependencies and values: what the axioms ask of a test, and what the tests have of it."""
 from typing import Iterator, Sequence
 
+from tools.lint.formulas import reached
 from tools.lint.slips import Meant, Slip, TestFile, allowed, unless_meant
 from tools.second.cases import DependencyItem, Entry, OpItem, ValueItem
-from tools.second.models import Expand, Formula, Model, Number, Static
-from tools.second.scopes import parts
+from tools.second.models import Formula, Model, Number, Static
 from tools.texts.quoting import shown
 
 
@@ -15,38 +15,30 @@ class Asked:
     def __init__(self, model: Model, queries: Sequence[Formula] = ()) -> None:
         self.macros = model.macros
         self.expanded: set[str] = set()
-        # the axioms and the macros that are expanded, each once
-        self.bodies: list[Formula] = []
         self.predicates: set[str] = set()
         self.types: dict[str, int] = {}
         self.kinds: dict[str, int] = {}
         self.cores: set[int] = set()
         for axiom in model.axioms:
-            self.enter(axiom.body)
+            self.follow(axiom.body)
         # where the model asks for them; a query has places of its own
         self.type_places = dict(self.types)
         self.kind_places = dict(self.kinds)
         for formula in queries:
             self.follow(formula)
-
-    def enter(self, body: Formula) -> None:
-        """Takes in a whole axiom or macro."""
-        self.bodies.append(body)
-        self.follow(body)
+        # the axioms and the macros that are expanded, each once
+        expanded = (macro.body for name, macro in self.macros.items() if name in self.expanded)
+        self.bodies: list[Formula] = [*(axiom.body for axiom in model.axioms), *expanded]
 
     def follow(self, formula: Formula) -> None:
         """Takes in a formula; each macro is followed once."""
-        if isinstance(formula, Expand) and formula.macro.name not in self.expanded:
-            self.expanded.add(formula.macro.name)
-            self.enter(self.macros[formula.macro.name].body)
-        elif isinstance(formula, Static):
-            self.predicates.add(formula.predicate.name)
-            for name, table in (("AccessType", self.types), ("HasDependency", self.kinds)):
-                if formula.predicate.name == name and not isinstance(formula.args[0], Number):
-                    table.setdefault(formula.args[0].name, formula.args[0].at)
-            self.cores.update(arg.value for arg in formula.args if isinstance(arg, Number))
-        for part in parts(formula):
-            self.follow(part)
+        for part in reached(formula, self.macros, self.expanded):
+            if isinstance(part, Static):
+                self.predicates.add(part.predicate.name)
+                for name, table in (("AccessType", self.types), ("HasDependency", self.kinds)):
+                    if part.predicate.name == name and not isinstance(part.args[0], Number):
+                        table.setdefault(part.args[0].name, part.args[0].at)
+                self.cores.update(arg.value for arg in part.args if isinstance(arg, Number))
 
 
 def missing_names(path: str, asked: Asked, tests: list[TestFile], meant: Meant) -> Iterator[Slip]:
@@ -55,9 +47,7 @@ def missing_names(path: str, asked: Asked, tests: list[TestFile], meant: Meant) 
     ops = [op for test in tests for op in test.case.ops]
     types = {name for op in ops for name in op.types}
     kinds = {kind for test in tests for kind, _, _ in test.case.dependencies}
-    spare = {
-        slip.name for test in tests for slip in unless_meant(meant | allowed(test.text), not_asked(path, asked, test))
-    }
+    spare = {slip.name for test in tests for slip in unless_meant(meant | allowed(test.text), not_asked(path, asked, test))}
     if spare & types or any(op.access == "Fence" and not op.types for op in ops):
         for name in sorted(asked.type_places.keys() - types):
             sentence = f"axioms ask for type {name}, and no micro-op of the tests has it"

@@ -1,9 +1,7 @@
 """Bound names: ones that nothing uses, ones that are bound again, and an `exists` over an implication."""
-from typing import Iterable
-
-from tools.lint.slips import Slip, word_of
-from tools.second.models import Arg, Axiom, Binary, Edges, Expand, Formula, Model, NodeTerm, Nodes, Quantified, Static, Word
-from tools.second.predicates import PLAIN, PREDICATES
+from tools.lint.formulas import names_of
+from tools.lint.slips import Slip, owner
+from tools.second.models import Axiom, Binary, Expand, Formula, Model, Quantified
 from tools.second.scopes import parts
 
 
@@ -16,25 +14,17 @@ class Bindings:
         # which names a macro's body has from outside, by the macro's name
         self.from_outside: dict[str, frozenset[str]] = {}
         self.found: list[Slip] = []
-        self.owner = ""
-        for item in model.items:
-            if isinstance(item, Axiom):
-                continue
-            self.owner = item.name.name
-            parameters = frozenset(parameter.name for parameter in item.parameters)
-            used = self.used_names(item.body, parameters)
-            self.from_outside[self.owner] = used - parameters
-            for parameter in item.parameters:
-                if parameter.name not in used:
-                    self.say(parameter.at, "unused-variable", parameter.name, f"the body does not use {parameter.name}")
-        for axiom in model.axioms:
-            self.owner = word_of(axiom.title)
-            self.used_names(axiom.body, frozenset())
-        self.found_in_model = self.found
-
-    def model_slips(self) -> list[Slip]:
-        """What is said of the model, in the order of its text."""
-        return sorted(self.found_in_model, key=lambda slip: slip.at)
+        # an axiom may expand a macro that stands behind it
+        for item in sorted(model.items, key=lambda item: isinstance(item, Axiom)):
+            self.owner = owner(item)
+            parameters = {} if isinstance(item, Axiom) else {word.name: word.at for word in item.parameters}
+            used = self.used_names(item.body, frozenset(parameters))
+            if not isinstance(item, Axiom):
+                self.from_outside[item.name.name] = used - parameters.keys()
+            for name in parameters.keys() - used:
+                self.say(parameters[name], "unused-variable", name, f"the body does not use {name}")
+        # in the order of the text
+        self.model_slips = sorted(self.found, key=lambda slip: slip.at)
 
     def query_slips(self, path: str, formula: Formula) -> list[Slip]:
         """What is said of a query beside the model, in the order of its text."""
@@ -50,18 +40,9 @@ class Bindings:
         """The names that a formula has from outside, where these are bound around it."""
         if isinstance(formula, Quantified):
             return self.used_by_quantified(formula, bound)
-        if isinstance(formula, Static):
-            takes = PREDICATES[formula.predicate.name][0] if formula.predicate.name in PREDICATES else ()
-            # a macro that nothing expands may be ill-formed: then each argument counts
-            fits = len(takes) == len(formula.args)
-            return names_of(arg for k, arg in enumerate(formula.args) if not fits or takes[k] != PLAIN)
         if isinstance(formula, Expand):
-            return names_of(formula.args) | self.from_outside[formula.macro.name]
-        if isinstance(formula, Nodes):
-            return names_of(arg for node in formula.members for arg in args_of(node))
-        if isinstance(formula, Edges):
-            return names_of(arg for edge in formula.members for node in (edge.start, edge.end) for arg in args_of(node))
-        return frozenset().union(*(self.used_names(part, bound) for part in parts(formula)))
+            return names_of(formula) | self.from_outside[formula.macro.name]
+        return names_of(formula).union(*(self.used_names(part, bound) for part in parts(formula)))
 
     def used_by_quantified(
         self, formula: Quantified, bound: frozenset[str], chain: frozenset[str] = frozenset()
@@ -76,27 +57,14 @@ class Bindings:
         if isinstance(body, Quantified):
             used = self.used_by_quantified(body, inside, chain)
         elif isinstance(body, Binary) and body.connective == "=>":
-            premise = self.used_names(body.left, inside)
-            if chain & premise:
-                self.say_loose(formula.at, name if name in premise else min(chain & premise))
-            used = premise | self.used_names(body.right, inside)
+            used = self.used_names(body.left, inside)
+            if chain & used:
+                weak = name if name in used else min(chain & used)
+                sentence = f"the arrow is the weakest connective: a {weak} of which its left side is False is enough"
+                self.say(formula.at, "loose-exists", self.owner, sentence)
+            used |= self.used_names(body.right, inside)
         else:
             used = self.used_names(body, inside)
         if name not in used:
             self.say(formula.at, "unused-variable", name, f"the body does not use {name}")
         return used - {name}
-
-    def say_loose(self, at: int, name: str) -> None:
-        """An `exists` whose body is an implication that speaks of its name left of the arrow."""
-        sentence = f"the arrow is the weakest connective: a {name} of which its left side is False is enough"
-        self.say(at, "loose-exists", self.owner, sentence)
-
-
-def args_of(node: NodeTerm) -> list[Arg]:
-    """The micro-op of a node, and its core where it is named."""
-    return [node.op] if node.core is None else [node.op, node.core]
-
-
-def names_of(args: Iterable[Arg]) -> frozenset[str]:
-    """The names among arguments."""
-    return frozenset(arg.name for arg in args if isinstance(arg, Word))

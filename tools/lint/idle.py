@@ -1,10 +1,12 @@
 """Axioms that ask for nothing, or for what no world has, by what the tests say alone."""
+from contextlib import suppress
 from dataclasses import replace
 from typing import Iterator
 
+from tools.lint.formulas import ByForm
 from tools.lint.slips import QueryFile, Slip, TestFile, word_of
-from tools.lint.truth import OutOfSteps, Settling, Steps, Truth
-from tools.second.cases import Case, OpItem
+from tools.lint.truth import OutOfSteps, Steps, Truth
+from tools.second.cases import Case
 from tools.second.guards import Guards
 from tools.second.models import Axiom, Binary, Formula, Model, Quantified, Static, Word
 from tools.texts.quoting import shown
@@ -23,48 +25,42 @@ class Idle:
         self.macros = model.macros
         self.guards = Guards()
         self.axioms = axioms
-        settling = Settling(self.macros)
-        self.may_be_true = [axiom for axiom in self.axioms if settling.may_be_sure(axiom.body, True)]
-        self.may_be_false = [axiom for axiom in self.axioms if settling.may_be_sure(axiom.body, False)]
+        # most axioms are not looked at again for each test
+        self.by_form = ByForm(self.macros)
         self.steps = {True: Steps(STEPS), False: Steps(STEPS)}
+
+    def truths(self, cases: list[Case], steps: Steps) -> list[Truth]:
+        """What each case decides."""
+        return [Truth(self.macros, self.guards, case, steps) for case in cases]
 
     def true_slips(self, made: list[Case], given: list[Case]) -> Iterator[Slip]:
         """Axioms that are true of each case by what it says: first of those that are made, which no test changes, and
         then of the others."""
-        steps = self.steps[True], Steps(STEPS)
-        truths = [Truth(self.macros, self.guards, case, steps[0]) for case in made]
-        truths += [Truth(self.macros, self.guards, case, steps[1]) for case in given]
-        try:
-            for axiom in self.may_be_true:
-                if all(truth.is_sure(axiom.body, {}, True) for truth in truths):
+        truths = [*self.truths(made, self.steps[True]), *self.truths(given, Steps(STEPS))]
+        with suppress(OutOfSteps):
+            for axiom in self.axioms:
+                if self.by_form.is_sure(axiom.body, True) and all(truth.is_sure(axiom.body, {}, True) for truth in truths):
                     yield self.slip(axiom, f"asks for nothing: it is True {OF_ALL}")
-        except OutOfSteps:
-            return
 
     def false_slips(self, test: TestFile) -> Iterator[Slip]:
         """Axioms that are false of a test by what it says. A read that a pattern leaves open says nothing."""
-        if any(isinstance(item, OpItem) and item.is_open for item in test.items):
+        if any(item.is_open for item in test.op_items):
             return
         truth = Truth(self.macros, self.guards, test.case, self.steps[False])
-        try:
-            for axiom in self.may_be_false if test.case.ops else self.axioms:
-                if truth.is_sure(axiom.body, {}, False):
+        with suppress(OutOfSteps):
+            for axiom in self.axioms:
+                may_be = not test.case.ops or self.by_form.is_sure(axiom.body, False)
+                if may_be and truth.is_sure(axiom.body, {}, False):
                     yield self.slip(axiom, f"is False by what the test says alone, of {shown(test.path)}")
-        except OutOfSteps:
-            return
 
     def query_slips(self, query: QueryFile, cases: list[Case]) -> Iterator[Slip]:
         """A query whose premise is false of each case by what it says, or that is false itself."""
         asked = ((without_conclusion(query.formula), True, "its premise"), (query.formula, False, "it"))
-        try:
+        with suppress(OutOfSteps):
             for formula, wanted, what in asked:
-                truths = (Truth(self.macros, self.guards, case, self.steps[wanted]) for case in cases)
-                if all(truth.is_sure(formula, {}, wanted) for truth in truths):
-                    yield Slip(
-                        query.path, query.at, "idle", "query", f"the query asks for nothing: {what} is False {OF_ALL}"
-                    )
-        except OutOfSteps:
-            return
+                if all(truth.is_sure(formula, {}, wanted) for truth in self.truths(cases, self.steps[wanted])):
+                    sentence = f"the query asks for nothing: {what} is False {OF_ALL}"
+                    yield Slip(query.path, query.at, "idle", "query", sentence)
 
     def slip(self, axiom: Axiom, sentence: str) -> Slip:
         """One line about an axiom."""

@@ -1,26 +1,24 @@
 """Slips in a model, in tests and in queries that no fault word tells, since what the files say is well-formed.
 
 A slip changes the question without a word: a type name that no axiom asks for orders nothing, and a value that nothing
-writes is never read. docs/lint.md has a row for each kind, and so has KINDS. A comment `Lint allows: KIND NAME..` in the
-model, or in the test or query, says that a kind, or these names of it, are meant.
+writes is never read. docs/lint.md has a row for each kind. A comment `Lint allows: KIND NAME..` in the model, or in the
+test or query, says that a kind, or these names of it, are meant.
 """
-from dataclasses import replace
-from typing import Callable, Iterator, Sequence
+from typing import Callable, Iterable, Iterator
 
 from tools.lint.asked import Asked, missing_names, not_asked
 from tools.lint.bindings import Bindings
-from tools.lint.constants import Constants, constant_slips
 from tools.lint.edges import edge_slips, query_edge_slips
+from tools.lint.formulas import Constants
 from tools.lint.idle import Idle
-from tools.lint.kinds import KINDS
 from tools.lint.made import ENTRY_PREDICATES, made_tests
 from tools.lint.mixed import mixed_slips
 from tools.lint.nodes import FreeNodes
 from tools.lint.order import fence_slips, order_slips, thread_slips
 from tools.lint.parts import Parts
-from tools.lint.slips import QueryFile, Slip, TestFile, allowed, counted, unless_meant
+from tools.lint.slips import QueryFile, Slip, TestFile, allowed, counted, grouped, unless_meant
 from tools.lint.stages import query_stage_slips, stage_slips
-from tools.lint.titles import swallowed_slips, title_slips
+from tools.lint.titles import constant_slips, swallowed_slips, title_slips
 from tools.lint.unexpanded import unexpanded_slips
 from tools.lint.values import address_slips, initial_write_slips, page_slips, value_slips
 from tools.second.listings import read_file_items
@@ -28,7 +26,10 @@ from tools.second.models import Axiom, Model
 from tools.second.queries import read_query
 from tools.second.tokens import tokens
 
-__all__ = ["KINDS", "Asked", "QueryFile", "Slip", "TestFile", "read_query_file", "read_test", "slips"]
+# what is said of a test by itself
+OF_TEST: tuple[Callable[[TestFile], Iterator[Slip]], ...] = (
+    order_slips, thread_slips, fence_slips, value_slips, initial_write_slips, address_slips, page_slips
+)
 
 
 def read_test(path: str, text: bytes) -> TestFile:
@@ -41,19 +42,10 @@ def read_query_file(path: str, text: bytes, model: Model) -> QueryFile:
     return QueryFile(path, text, read_query(text, model), tokens(text)[0].at)
 
 
-def slips(
-    path: str, text: bytes, model: Model, tests: list[TestFile], queries: Sequence[QueryFile] = ()
-) -> Iterator[Slip]:
-    """All slips of a model and of tests and queries that are to be asked of it, those that are meant left out."""
-    return Linter(path, text, model, tests, queries).slips()
-
-
 class Linter:
     """Goes through the files: the model, each test, each query. What is said of several tests alike is one line."""
 
-    def __init__(
-        self, path: str, text: bytes, model: Model, tests: list[TestFile], queries: Sequence[QueryFile]
-    ) -> None:
+    def __init__(self, path: str, text: bytes, model: Model, tests: list[TestFile], queries: list[QueryFile]) -> None:
         self.path = path
         self.text = text
         self.model = model
@@ -64,7 +56,7 @@ class Linter:
         self.cases = [test.case for test in tests]
         self.made = made_tests(self.asked)
         self.has_entries = bool(self.asked.predicates & ENTRY_PREDICATES)
-        self.constants = Constants(model)
+        self.constants = Constants(model.macros)
         self.bindings = Bindings(path, model)
         # what constants decide is told as that
         self.axioms = [axiom for axiom in model.axioms if self.constants.of(axiom.body) is None]
@@ -72,13 +64,17 @@ class Linter:
         self.free_nodes = FreeNodes(path, model, self.axioms, self.bindings.from_outside)
 
     def slips(self) -> Iterator[Slip]:
-        """The lines in their order."""
+        """All slips in their order, those that are meant left out."""
         yield from unless_meant(self.meant, self.model_slips())
-        for test in self.tests:
-            yield from unless_meant(self.meant | allowed(test.text), test_slips(test))
+        yield from self.of_tests(lambda test: (slip for kind in OF_TEST for slip in kind(test)))
         yield from self.shared_slips()
         for query in self.queries:
             yield from unless_meant(self.meant | allowed(query.text), self.query_slips(query))
+
+    def of_tests(self, find: Callable[[TestFile], Iterable[Slip]]) -> Iterator[Slip]:
+        """What is found of each test, and not meant there."""
+        for test in self.tests:
+            yield from unless_meant(self.meant | allowed(test.text), find(test))
 
     def model_slips(self) -> Iterator[Slip]:
         """What is said of the model, by itself and beside all tests."""
@@ -87,7 +83,7 @@ class Linter:
         yield from swallowed_slips(self.path, self.text)
         yield from unexpanded_slips(self.path, self.model, self.asked)
         yield from edge_slips(self.path, self.model)
-        yield from self.bindings.model_slips()
+        yield from self.bindings.model_slips
         yield from stage_slips(self.path, self.model, self.asked.bodies)
         yield from mixed_slips(self.path, self.model, self.asked.bodies, self.has_entries)
         yield from missing_names(self.path, self.asked, self.tests, self.meant)
@@ -112,29 +108,23 @@ class Linter:
 
     def shared_slips(self) -> Iterator[Slip]:
         """What is said of a test beside the model, and in other words of other tests: one line each."""
-        asked: dict[str, list[Slip]] = {}
-        false: dict[int, list[Slip]] = {}
-        free: dict[str, list[Slip]] = {}
-        for test in self.tests:
-            meant = self.meant | allowed(test.text)
-            for slip in unless_meant(meant, not_asked(self.path, self.asked, test)):
-                asked.setdefault(slip.sentence, []).append(slip)
-            # a read that nothing writes makes an axiom on reads false, and is told as it is
-            if not any(slip.kind == "unwritten" for slip in value_slips(test)):
-                for slip in unless_meant(meant, self.idle.false_slips(test)):
-                    false.setdefault(slip.at, []).append(slip)
-            for slip in unless_meant(meant, self.free_nodes.of_test(test)):
-                free.setdefault(slip.name, []).append(slip)
-        for group in asked.values():
-            yield with_more(group, lambda more: f", here and in {counted(more, 'more place')}")
-        for group in false.values():
-            yield with_more(group, lambda more: f" and {counted(more, 'more test')}")
-        for group in free.values():
-            yield with_more(group, lambda more: f", and {more} more of them")
+        asked = self.of_tests(lambda test: not_asked(self.path, self.asked, test))
+        yield from grouped(asked, lambda slip: slip.sentence, lambda more: f", here and in {counted(more, 'more place')}")
+        yield from grouped(
+            self.of_tests(self.false_slips), lambda slip: slip.at, lambda more: f" and {counted(more, 'more test')}"
+        )
+        free = list(self.of_tests(self.free_nodes.of_test))
+        yield from grouped(free, lambda slip: slip.name, lambda more: f", and {more} more of them")
         if self.tests:
             # what is said of a model alone is said of it beside tests, too
-            of_made = (slip for slip in self.free_nodes.of_made(self.made) if slip.name not in free)
+            told = {slip.name for slip in free}
+            of_made = (slip for slip in self.free_nodes.of_made(self.made) if slip.name not in told)
             yield from unless_meant(self.meant, of_made)
+
+    def false_slips(self, test: TestFile) -> Iterable[Slip]:
+        """Axioms that are false of a test. A read that nothing writes makes an axiom on reads false, and is told as it is."""
+        is_unwritten = any(slip.kind == "unwritten" for slip in value_slips(test))
+        return () if is_unwritten else self.idle.false_slips(test)
 
     def query_slips(self, query: QueryFile) -> Iterator[Slip]:
         """What is said of a query beside the model."""
@@ -143,20 +133,3 @@ class Linter:
         yield from query_stage_slips(query.path, query.formula, self.asked.bodies)
         if self.made:
             yield from self.idle.query_slips(query, [*self.cases, *self.made])
-
-
-def test_slips(test: TestFile) -> Iterator[Slip]:
-    """What is said of a test by itself."""
-    yield from order_slips(test)
-    yield from thread_slips(test)
-    yield from fence_slips(test)
-    yield from value_slips(test)
-    yield from initial_write_slips(test)
-    yield from address_slips(test)
-    yield from page_slips(test)
-
-
-def with_more(group: list[Slip], tail: Callable[[int], str]) -> Slip:
-    """The first of several slips, with how many more there are."""
-    more = len(group) - 1
-    return replace(group[0], sentence=group[0].sentence + tail(more)) if more else group[0]

@@ -43,15 +43,16 @@ def made_tests(asked: Asked) -> list[Case]:
         return []
     source = random.Random(0)
     types = type_sets(asked)
-    singles = [(Part(access, names),) for access in ("Read", "Write", "Fence") for names in types]
-    several = list(read_and_write(types))
+    singles: list[Instruction] = [(Part(access, names),) for access in ("Read", "Write", "Fence") for names in types]
+    # what reads and writes one address
+    several: list[Instruction] = [(Part("Read", first), Part("Write", second)) for first, second in pairs(types)]
     plain = [(Part("Read", PLAIN),), (Part("Write", PLAIN),)]
     if asked.predicates & ENTRY_PREDICATES:
         several.extend(walks(types))
         plain.append((Part("Write", PLAIN, True),))
-    decks = Deck(singles, source), Deck(singles, source), Deck(several, source)
+    decks = [dealt(singles, source), dealt(singles, source), dealt(several, source)]
     count = max(FEWEST, 2 * len(singles), 2 * len(several))
-    return [Maker(asked, source).case([*plain, *(deck.take() for deck in decks)]) for _ in range(count)]
+    return [Maker(asked, source).case([*plain, *(next(deck) for deck in decks)]) for _ in range(count)]
 
 
 def type_sets(asked: Asked) -> list[Types]:
@@ -70,11 +71,6 @@ def pairs(types: list[Types]) -> list[tuple[Types, Types]]:
     return [(first, second) for first, second in every if first == second or PLAIN in (first, second)]
 
 
-def read_and_write(types: list[Types]) -> Iterator[Instruction]:
-    """Instructions that read and write one address."""
-    return ((Part("Read", first), Part("Write", second)) for first, second in pairs(types))
-
-
 def walks(types: list[Types]) -> Iterator[Instruction]:
     """Accesses behind the walk of their page, with a mark and without one."""
     for access in ("Read", "Write"):
@@ -85,19 +81,10 @@ def walks(types: list[Types]) -> Iterator[Instruction]:
             yield Part("Read", names, True), plain
 
 
-class Deck:
-    """Deals choices in mixed order, each once before one comes again."""
-
-    def __init__(self, choices: Sequence[Instruction], source: random.Random) -> None:
-        self.choices = choices
-        self.source = source
-        self.left: list[Instruction] = []
-
-    def take(self) -> Instruction:
-        """The next one."""
-        if not self.left:
-            self.left = mixed(self.choices, self.source)
-        return self.left.pop()
+def dealt(choices: Sequence[Choice], source: random.Random) -> Iterator[Choice]:
+    """The choices in mixed order, each once before one comes again."""
+    while True:
+        yield from reversed(mixed(choices, source))
 
 
 def mixed(choices: Sequence[Choice], source: random.Random) -> list[Choice]:

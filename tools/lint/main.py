@@ -9,11 +9,12 @@ read, 5 where standard output could not be written, and 125 where this program f
 import re
 import sys
 from functools import partial
+from typing import Callable, Iterable, TypeVar
 
 from tools import TOP
 from tools.lint.lines import line_of
-from tools.lint.linting import QueryFile, TestFile, read_query_file, read_test, slips
-from tools.second.models import Model
+from tools.lint.linting import Linter, read_query_file, read_test
+from tools.lint.slips import Slip
 from tools.second.queries import InModel
 from tools.second.scopes import read_model
 from tools.second.standard_output import UNREAD, status_of
@@ -25,6 +26,7 @@ from tools.texts.quoting import shown
 
 # how the name of a query ends; any other file is a test, a listing or a pattern
 QUERY = ".query"
+Read = TypeVar("Read")
 
 
 def is_test(text: bytes) -> bool:
@@ -33,28 +35,20 @@ def is_test(text: bytes) -> bool:
 
 
 class Files:
-    """The files that are read, by their paths; and whether one was refused."""
+    """The files that are read, by their paths, beside a model; and whether one was refused."""
 
-    def __init__(self) -> None:
+    def __init__(self, model_path: str) -> None:
+        self.model_path = model_path
         self.texts: dict[str, bytes] = {}
         self.is_refused = False
 
-    def read(self, kind: str, path: str) -> Model | TestFile | None:
-        """A model or a test; None where it is refused, which is told."""
-        text = self.texts[path] = contents(path)
+    def read(self, kind: str, path: str, reader: Callable[[bytes], Read]) -> Read | None:
+        """What is read; None where it is refused, which is told: of the model where the fault of a query is there."""
+        self.texts[path] = contents(path)
         try:
-            return read_within(read_model, text) if kind == "model" else read_within(partial(read_test, path), text)
+            return read_within(reader, self.texts[path])
         except Fault as fault:
-            self.tell(kind, path, fault)
-            return None
-
-    def read_query(self, path: str, model_path: str, model: Model) -> QueryFile | None:
-        """A query beside its model; None where it is refused, which is told: of the model where the fault is there."""
-        text = self.texts[path] = contents(path)
-        try:
-            return read_within(lambda it: read_query_file(path, it, model), text)
-        except Fault as fault:
-            self.tell("model", model_path if isinstance(fault, InModel) else path, fault)
+            self.tell(kind, self.model_path if isinstance(fault, InModel) else path, fault)
             return None
 
     def tell(self, kind: str, path: str, fault: Fault) -> None:
@@ -64,29 +58,31 @@ class Files:
         expected = sentence_of(fault)
         if expected:
             print(f"pipecheck: {expected}", file=sys.stderr)
-        if fault.word == "syntax" and kind == "model" and is_test(self.texts[path]):
+        if fault.word == "syntax" and path == self.model_path and is_test(self.texts[path]):
             print(f"pipecheck: {shown(path)} is a test, and stands for the model: lint MODEL [TEST..] [QUERY..]", file=sys.stderr)
 
 
 def main(model_path: str, *paths: str) -> int:
     """Writes the lines and answers the exit status."""
-    files = Files()
+    files = Files(model_path)
+    found: Iterable[Slip] = ()
+    asked = [path for path in paths if path.endswith(QUERY)]
     try:
-        model = files.read("model", model_path)
-        found = [files.read("test", path) for path in paths if not path.endswith(QUERY)]
-        tests = [test for test in found if isinstance(test, TestFile)]
-        asked = [path for path in paths if path.endswith(QUERY)]
-        read = [files.read_query(path, model_path, model) for path in asked] if isinstance(model, Model) else []
-        queries = [query for query in read if query is not None]
+        model = files.read("model", model_path, read_model)
+        tests = [files.read("test", path, partial(read_test, path)) for path in paths if path not in asked]
+        if model is not None:
+            # what the page says of a word in a model it says of a query, too
+            queries = [files.read("model", path, partial(read_query_file, path, model=model)) for path in asked]
+            text = files.texts[model_path]
+            found = Linter(model_path, text, model, [it for it in tests if it], [it for it in queries if it]).slips()
     except Unreadable:
         for line in unreadable([model_path, *paths]):
             print(line, file=sys.stderr)
         return UNREAD
     count = 0
-    if isinstance(model, Model):
-        for slip in slips(model_path, files.texts[model_path], model, tests, queries):
-            print(line_of(slip.path, files.texts[slip.path], slip.at, f"{slip.kind}: {slip.sentence}"))
-            count += 1
+    for slip in found:
+        print(line_of(slip.path, files.texts[slip.path], slip.at, f"{slip.kind}: {slip.sentence}"))
+        count += 1
     if files.is_refused:
         return 3
     return 1 if count else 0

@@ -6,15 +6,15 @@ order do not make true. A node that some axiom asks for, none gives and none den
 it likes.
 """
 from dataclasses import dataclass
-from typing import Iterator
+from typing import Iterable, Iterator
 
-from tools.lint.places import ANY, OWN, Place, Places
+from tools.lint.formulas import nodes_of, reached
 from tools.lint.slips import Slip, TestFile
-from tools.lint.truth import OutOfSteps, Steps
+from tools.lint.truth import OutOfSteps, Steps, Walk
 from tools.second.cases import Case, Op
-from tools.second.meaning import Environment, holds, value
+from tools.second.meaning import Environment, value
 from tools.second.guards import Guards
-from tools.second.models import Axiom, Binary, Edges, Expand, Formula, Model, NodeTerm, Nodes, Not, Quantified, Static
+from tools.second.models import Axiom, Binary, EdgeTerm, Expand, Formula, Model, NodeTerm, Nodes, Not, Quantified, Static
 from tools.texts.quoting import shown
 
 Node = tuple[int, int, int]
@@ -32,8 +32,9 @@ class FreeNodes:
         self.macros = model.macros
         self.stages = {stage.name.name: stage.number.value for stage in model.stages}
         self.from_outside = from_outside
-        places = Places(self.macros, from_outside)
-        self.places = [places.of(axiom.body, {}) for axiom in axioms]
+        # the stages of the nodes that each axiom names; None for a node at another core than the micro-op's own
+        named = [[node for part in reached(axiom.body, self.macros, set()) for node in nodes_of(part)] for axiom in axioms]
+        self.stages_named = [{node.stage.name if node.core is None else None for node in nodes} for nodes in named]
         self.guards = Guards()
         self.steps = Steps(STEPS)
 
@@ -63,8 +64,7 @@ class FreeNodes:
         """One line about a node."""
         stage = term.stage.name
         free = "none denies it: a run has this node or not, as it likes"
-        sentence = f"no axiom gives stage {stage} to {micro_op}, and {free}"
-        return Slip(self.path, term.stage.at, "free-node", stage, sentence)
+        return Slip(self.path, term.stage.at, "free-node", stage, f"no axiom gives stage {stage} to {micro_op}, and {free}")
 
 
 @dataclass(frozen=True)
@@ -105,46 +105,36 @@ def either(left: Use, right: Use) -> Use:
     return Use(left.given & right.given, left.asked | right.asked, denied, 0, priced, is_positive)
 
 
-class NodeUses:
+class NodeUses(Walk):
     """The uses of nodes by a model in one test. A node is known by a number, and by the term that named it first."""
 
     def __init__(self, model: FreeNodes, case: Case, steps: Steps) -> None:
+        super().__init__(model.guards, case, steps)
         self.model = model
-        self.case = case
-        self.steps = steps
         self.numbers: dict[Node, int] = {}
         self.terms: list[NodeTerm] = []
         # expansions of one macro with the same values
         self.known: dict[tuple[object, ...], Use | bool] = {}
-        # places whose nodes are given
-        self.full: set[Place] = set()
 
     def free_nodes(self) -> list[tuple[Op, NodeTerm]]:
         """The micro-ops of the nodes that are free in this test, each with the first term that names the node."""
         whole = Use()
-        for axiom, places in zip(self.model.axioms, self.model.places):
-            # what names no other node than those that axioms before it give makes none free
-            if places <= self.full or all(self.is_full(place, whole.given) for place in places):
-                continue
-            # one that the test makes True or False asks for no node
-            use = self.use(axiom.body, {}, True, False)
+        # stages that are given to each micro-op
+        full: set[str | None] = set()
+        for axiom, stages in zip(self.model.axioms, self.model.stages_named):
+            # what names no other nodes makes none free, and one that the test makes True or False asks for no node
+            use = True if stages <= full else self.use(axiom.body, {}, True, False)
             if isinstance(use, Use):
                 whole = both(whole, use)
+                full |= {stage for stage in stages if stage is not None and self.is_full(stage, whole.given)}
         free = whole.asked & ~(whole.given | whole.bare | whole.denied)
         nodes = ((node, number) for node, number in self.numbers.items() if free >> number & 1)
         return [(self.case.ops[op], self.terms[number]) for (op, _, _), number in nodes]
 
-    def is_full(self, place: Place, given: int) -> bool:
-        """Whether each node at a place is among those that are given."""
-        if place not in self.full:
-            for number, op in enumerate(self.case.ops):
-                cores = [op.core] if place.core == OWN else self.case.cores if place.core == ANY else [place.core]
-                for core in cores if op.access == place.access else ():
-                    node = number, core, self.model.stages[place.stage]
-                    if node not in self.numbers or not given >> self.numbers[node] & 1:
-                        return False
-            self.full.add(place)
-        return True
+    def is_full(self, stage: str, given: int) -> bool:
+        """Whether each micro-op has a node at a stage, on its own core, that is among those that are given."""
+        nodes = ((number, op.core, self.model.stages[stage]) for number, op in enumerate(self.case.ops))
+        return all(node in self.numbers and given >> self.numbers[node] & 1 for node in nodes)
 
     def use(self, formula: Formula, env: Environment, wanted: bool, in_premise: bool) -> Use | bool:
         """The use of a formula, or of its denial where it is not wanted; its truth where the test decides it. A premise
@@ -158,42 +148,17 @@ class NodeUses:
             is_conjunction = (formula.connective == "/\\") is wanted
             is_implication = formula.connective == "=>"
             left = self.use(formula.left, env, wanted is not is_implication, in_premise or is_implication)
-            if left is not is_conjunction and isinstance(left, bool):
+            if left is (not is_conjunction):
                 return left
-            return joined(is_conjunction, left, self.use(formula.right, env, wanted, in_premise))
+            return joined(is_conjunction, [left, self.use(formula.right, env, wanted, in_premise)])
         if isinstance(formula, Quantified):
-            return self.quantified(formula, env, wanted, in_premise)
+            bodies = (self.use(formula.body, inside, wanted, in_premise) for inside in self.open_values(formula, env))
+            return joined(formula.universal is wanted, bodies)
         if isinstance(formula, Expand):
             return self.expansion(formula, env, wanted, in_premise)
         if isinstance(formula, Nodes):
-            uses = [self.node_use(term, env, wanted, in_premise) for term in formula.members]
-        else:
-            uses = [self.edge_use(edge.start, edge.end, env, wanted) for edge in formula.members]
-        whole: Use | bool = wanted
-        for use in uses:
-            whole = joined(wanted, whole, use)
-        return whole
-
-    def holds(self, formula: Static, env: Environment) -> bool:
-        """Whether a predicate holds."""
-        self.steps.take()
-        return holds(self.case, formula, env)
-
-    def quantified(self, formula: Quantified, env: Environment, wanted: bool, in_premise: bool) -> Use | bool:
-        """The use of the bodies for all values that no guard settles."""
-        is_conjunction = formula.universal is wanted
-        whole: Use | bool = is_conjunction
-        guards = self.model.guards.of(formula)
-        # what is found for one value is found before the next one takes its place
-        inside = dict(env)
-        for number in range(len(self.case.ops)) if formula.over_microops else self.case.cores:
-            inside[formula.name] = number
-            if any(self.holds(guard.predicate, inside) is guard.value for guard in guards):
-                continue
-            whole = joined(is_conjunction, whole, self.use(formula.body, inside, wanted, in_premise))
-            if whole is (not is_conjunction):
-                break
-        return whole
+            return joined(wanted, (self.node_use(term, env, wanted, in_premise) for term in formula.members))
+        return joined(wanted, (self.edge_use(edge, env, wanted) for edge in formula.members))
 
     def expansion(self, formula: Expand, env: Environment, wanted: bool, in_premise: bool) -> Use | bool:
         """The use of a macro's body, found once for the same values."""
@@ -215,9 +180,9 @@ class NodeUses:
             return Use(asked=bit, bare=bit, is_positive=False)
         return Use(asked=bit, denied=bit, is_positive=False)
 
-    def edge_use(self, start: NodeTerm, end: NodeTerm, env: Environment, wanted: bool) -> Use:
+    def edge_use(self, edge: EdgeTerm, env: Environment, wanted: bool) -> Use:
         """The use of one edge. The absence of an edge denies none of its nodes."""
-        bits = self.bit_of(start, env) | self.bit_of(end, env)
+        bits = self.bit_of(edge.start, env) | self.bit_of(edge.end, env)
         return Use(given=bits, asked=bits) if wanted else Use(asked=bits, is_positive=False)
 
     def bit_of(self, term: NodeTerm, env: Environment) -> int:
@@ -231,10 +196,15 @@ class NodeUses:
         return 1 << self.numbers[node]
 
 
-def joined(is_conjunction: bool, left: Use | bool, right: Use | bool) -> Use | bool:
-    """Two uses as one, with constants folded."""
-    if isinstance(left, bool):
-        return right if left is is_conjunction else left
-    if isinstance(right, bool):
-        return left if right is is_conjunction else right
-    return both(left, right) if is_conjunction else either(left, right)
+def joined(is_conjunction: bool, uses: Iterable[Use | bool]) -> Use | bool:
+    """Several uses as one, with constants folded: no more are asked for than decide it."""
+    whole: Use | bool = is_conjunction
+    for use in uses:
+        if isinstance(use, bool):
+            if use is not is_conjunction:
+                return use
+        elif isinstance(whole, bool):
+            whole = use
+        else:
+            whole = both(whole, use) if is_conjunction else either(whole, use)
+    return whole

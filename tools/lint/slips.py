@@ -1,10 +1,10 @@
 """What lint says: a slip of a file, and the comments that say what is meant."""
 import re
-from dataclasses import dataclass
-from typing import Iterable, Iterator
+from dataclasses import dataclass, replace
+from typing import Callable, Iterable, Iterator
 
-from tools.second.cases import Case, Item
-from tools.second.models import Formula
+from tools.second.cases import Case, Item, OpItem
+from tools.second.models import Axiom, Formula, Macro
 
 ALLOWS = re.compile(rb"(?:%|//|\(\*)[ \t]*Lint allows:[ \t]*([a-z'-]+)([^\r\n*]*)", re.IGNORECASE)
 # of a name, that every name of the kind is meant
@@ -34,6 +34,11 @@ class TestFile:
     case: Case
     items: list[Item]
 
+    @property
+    def op_items(self) -> list[OpItem]:
+        """The micro-ops as they are written."""
+        return [item for item in self.items if isinstance(item, OpItem)]
+
 
 @dataclass(frozen=True)
 class QueryFile:
@@ -59,9 +64,23 @@ def unless_meant(meant: Meant, found: Iterable[Slip]) -> Iterator[Slip]:
     return (slip for slip in found if (slip.kind, slip.name) not in meant and (slip.kind, ALL) not in meant)
 
 
+def grouped(found: Iterable[Slip], key: Callable[[Slip], object], more: Callable[[int], str]) -> Iterator[Slip]:
+    """The first of those slips that are alike in this, with how many more there are."""
+    groups: dict[object, list[Slip]] = {}
+    for slip in found:
+        groups.setdefault(key(slip), []).append(slip)
+    for first, *others in groups.values():
+        yield replace(first, sentence=first.sentence + more(len(others))) if others else first
+
+
 def word_of(title: str) -> str:
     """The title of an axiom as one word of a comment."""
     return re.sub("[ ,*]", "-", title)
+
+
+def owner(item: Axiom | Macro) -> str:
+    """The name of what is said of an axiom or a macro."""
+    return word_of(item.title) if isinstance(item, Axiom) else item.name.name
 
 
 def counted(count: int, noun: str) -> str:

@@ -1,15 +1,17 @@
 """Whether some small case makes static formulas hold or not: a search over what micro-ops may be.
 
-A choice is made where a predicate asks for it: the core of a micro-op, whether it is a read, and so on. So the search goes
-over no more than the formulas tell apart. Up to four micro-ops are looked at, and a formula over nodes, edges or
-quantifiers, which no such choice decides, may be either.
+The table of predicates is asked of a case whose parts are chosen where it looks at them: the core of a micro-op, whether it is a
+read, and so on. So the search goes over no more than the formulas tell apart. Up to four micro-ops are looked at, and a formula
+over nodes, edges or quantifiers, which no such choice decides, may be either.
 """
 from dataclasses import dataclass, field
-from typing import Callable, Iterable
+from typing import Any, Callable, Iterable
 
+from tools.lint.formulas import written
 from tools.lint.truth import OutOfSteps, Steps
+from tools.second.cases import Address, Entry, EntryAddress, Page
 from tools.second.models import Arg, Binary, Expand, Formula, Macro, Not, Number, Static
-from tools.second.predicates import PLAIN
+from tools.second.predicates import MICROOP, PLAIN, PREDICATES
 
 MOST_MICROOPS = 4
 ACCESSES = ("Read", "Write", "Fence")
@@ -39,6 +41,10 @@ class Search:
     steps: Steps
     chosen: dict[Key, object] = field(default_factory=dict)
 
+    def __post_init__(self) -> None:
+        self.ops = [self.some_op(number) for number in range(MOST_MICROOPS)]
+        self.case = self.some_case()
+
     def is_possible(self, wanted: list[Wanted]) -> bool:
         """Whether some choices make each of these formulas as it is wanted."""
         self.steps.take()
@@ -63,17 +69,36 @@ class Search:
             raise Open(key, choices)
         return self.chosen[key]
 
-    def counted(self, kind: str, *rest: object) -> int:
+    def counted(self, kind: str, *rest: object) -> object:
         """A number that matters by which others of its kind are the same: one that is there, or the next one."""
-        if (kind, *rest) not in self.chosen:
-            known = [number for key, number in self.chosen.items() if key[0] == kind]
-            most = max((number for number in known if isinstance(number, int)), default=-1) + 1
-            raise Open((kind, *rest), range(most + 1))
-        number = self.chosen[kind, *rest]
-        assert isinstance(number, int)
-        return number
+        key = kind, *rest
+        if key not in self.chosen:
+            known = [number for other, number in self.chosen.items() if other[0] == kind and isinstance(number, int)]
+            raise Open(key, range(max(known, default=-1) + 2))
+        return self.chosen[key]
 
-    # formulas
+    def is_sound(self, key: Key) -> bool:
+        """Whether the choice for a key fits to the others: numbers of cores differ, and so do micro-ops."""
+        if key[:2] == ("core", "named"):
+            return not isinstance(key[2], int) or all(
+                self.chosen[key] != core
+                for other, core in self.chosen.items()
+                if other[:2] == ("core", "named") and other != key and isinstance(other[2], int)
+            )
+        if key[0] not in ("core", "thread", "instruction", "intra"):
+            return True
+        ops = [one[-1] for one in self.chosen if one[0] == "instruction"]
+        return not any(self.is_split(one, other) for k, one in enumerate(ops) for other in ops[:k])
+
+    def is_split(self, one: object, other: object) -> bool:
+        """Whether two micro-ops of one instruction have two cores, two threads or one number."""
+        def same(*kind: object) -> bool | None:
+            keys = (*kind, one), (*kind, other)
+            return None if any(key not in self.chosen for key in keys) else self.chosen[keys[0]] == self.chosen[keys[1]]
+
+        if same("instruction") is not True:
+            return False
+        return same("core", "of") is False or same("thread") is False or same("intra") is True
 
     def truth(self, formula: Formula, names: Names) -> bool:
         """The truth of a formula by what is chosen."""
@@ -82,12 +107,9 @@ class Search:
         if isinstance(formula, Not):
             return not self.truth(formula.operand, names)
         if isinstance(formula, Binary):
-            left = self.truth(formula.left, names)
-            if formula.connective == "=>":
-                return not left or self.truth(formula.right, names)
-            return (left or self.truth(formula.right, names)) if formula.connective == "\\/" else (
-                left and self.truth(formula.right, names)
-            )
+            left = self.truth(formula.left, names) is not (formula.connective == "=>")
+            decides = formula.connective != "/\\"
+            return left if left is decides else self.truth(formula.right, names)
         if isinstance(formula, Expand):
             macro = self.macros[formula.macro.name]
             values = [self.value(arg, names) for arg in formula.args]
@@ -102,167 +124,101 @@ class Search:
 
     def static(self, formula: Static, names: Names) -> bool:
         """The truth of a predicate."""
-        name = formula.predicate.name
-        if name in ("True", "False"):
-            return name == "True"
-        plain = name in ("AccessType", "HasDependency")
-        word = formula.args[0].name if plain and not isinstance(formula.args[0], Number) else PLAIN
-        values = [self.value(arg, names) for arg in (formula.args[1:] if plain else formula.args)]
-        if name == "OnCore":
-            return self.core(self.microop(values[1])) == self.named_core(values[0])
-        ops = [self.microop(one) for one in values]
-        if name == "AccessType":
-            return bool(self.choice(("type", word, ops[0]), (True, False)))
-        if name == "HasDependency":
-            return bool(self.choice(("dependency", word, *ops), (True, False)))
-        return OF_ONE[name](self, ops[0]) if name in OF_ONE else OF_TWO[name](self, ops[0], ops[1])
+        takes, holds = PREDICATES[formula.predicate.name]
+        args: list[object] = []
+        for kind, arg in zip(takes, formula.args):
+            if kind == PLAIN:
+                args.append(written(arg))
+            elif kind == MICROOP:
+                # one of those that there are, or the next one
+                args.append(self.counted("microop", self.value(arg, names)))
+            else:
+                # the same for two numbers that are the same
+                args.append(self.counted("core", "named", self.value(arg, names)))
+        return holds(self.case, *args)
 
-    # what micro-ops are
+    # what predicates look at
 
-    def microop(self, variable: Value) -> int:
-        """The micro-op of a variable: one of those that there are, or the next one."""
-        return self.counted("microop", variable)
+    def some_case(self) -> "Some":
+        """A case."""
+        return Some(
+            ops=lambda: self.ops,
+            dependencies=lambda: SomeKeys(self, "dependency"),
+            initial_at=lambda: lambda address: self.datum("initial", str(address)),
+            final=lambda: SomeKeys(self, "final"),
+        )
 
-    def core(self, op: int) -> int:
-        """The core of a micro-op."""
-        return self.counted("core", "of", op)
+    def some_op(self, op: int) -> "Some":
+        """A micro-op by its number."""
+        return Some(
+            core=lambda: self.counted("core", "of", op),
+            thread=lambda: self.counted("thread", op),
+            g=lambda: self.choice(("instruction", op), range(MOST_MICROOPS)),
+            n=lambda: self.counted("intra", op),
+            access=lambda: self.choice(("access", op), ACCESSES),
+            types=lambda: SomeKeys(self, "type", op),
+            va=lambda: None if self.is_fence(op) else self.page("virtual", op),
+            pa=lambda: None if self.is_fence(op) else self.physical_address(op),
+            value=lambda: None if self.is_fence(op) else self.datum("of", op),
+        )
 
-    def named_core(self, value: Value) -> int:
-        """The core of a variable or of a number, which are the same for two numbers that are the same."""
-        return self.counted("core", "named", value)
+    def is_fence(self, op: int) -> bool:
+        """Whether a micro-op is at no address."""
+        return self.choice(("access", op), ACCESSES) == "Fence"
 
-    def is_sound(self, key: Key) -> bool:
-        """Whether the choice for a key fits to the others: numbers of cores differ, and so do micro-ops."""
-        if key[:2] == ("core", "named"):
-            return not isinstance(key[2], int) or all(
-                self.chosen[key] != core
-                for other, core in self.chosen.items()
-                if other[:2] == ("core", "named") and other != key and isinstance(other[2], int)
-            )
-        if key[0] not in ("core", "thread", "instruction", "intra"):
-            return True
-        ops = {one[-1] for one in self.chosen if one[0] == "instruction"}
-        return not any(self.is_split(one, other) for one in ops for other in ops if repr(one) < repr(other))
+    def page(self, *of: object) -> "SomePage":
+        """A virtual or a physical page."""
+        return SomePage(tag=lambda: self.counted("tag", *of), index=lambda: self.counted("index", *of))
 
-    def is_split(self, one: object, other: object) -> bool:
-        """Whether two micro-ops of one instruction have two cores, two threads or one number."""
-        def same(kind: Key) -> bool | None:
-            keys = (*kind, one), (*kind, other)
-            return None if any(key not in self.chosen for key in keys) else self.chosen[keys[0]] == self.chosen[keys[1]]
+    def physical_address(self, op: int) -> Address:
+        """The physical address of an access: that of a page-table entry or of a page."""
+        if self.has_entries and self.choice(("entry", op), (False, True)):
+            tag = self.counted("tag", "physical", op)
+            assert isinstance(tag, int)
+            return EntryAddress(tag)
+        return self.page("physical", op)
 
-        if same(("instruction",)) is not True:
-            return False
-        return same(("core", "of")) is False or same(("thread",)) is False or same(("intra",)) is True
-
-    def access(self, op: int) -> object:
-        """Whether a micro-op is a read, a write or a fence."""
-        return self.choice(("access", op), ACCESSES)
-
-    def is_access(self, op: int) -> bool:
-        """Whether a micro-op is at an address."""
-        return self.access(op) != "Fence"
-
-    def order(self, op: int) -> int:
-        """The number of a micro-op's instruction, which makes the program order."""
-        number = self.choice(("instruction", op), range(MOST_MICROOPS))
-        assert isinstance(number, int)
-        return number
-
-    def is_at_entry(self, op: int) -> bool:
-        """Whether an access is at a page-table entry."""
-        return self.has_entries and bool(self.choice(("entry", op), (False, True)))
-
-    def address(self, op: int) -> Key:
-        """The physical address of an access."""
-        if self.is_at_entry(op):
-            return ("Entry", self.counted("tag", "physical", op))
-        return ("Page", self.counted("tag", "physical", op), self.counted("index", "physical", op))
-
-    def virtual(self, op: int) -> Key:
-        """The virtual address of an access."""
-        return self.counted("tag", "virtual", op), self.counted("index", "virtual", op)
-
-    def data(self, op: int) -> Key:
-        """The value of an access."""
-        return self.entry_or_number("of", op)
-
-    def entry_or_number(self, *of: object) -> Key:
-        """A value: a page-table entry with its marks, or a number."""
-        if self.has_entries and self.choice(("maps", *of), (False, True)):
-            marks = (bool(self.choice((mark, *of), (False, True))) for mark in ("accessed", "dirty"))
-            return ("Maps", self.counted("tag", "mapped", *of), *marks)
-        return ("Data", self.counted("value", *of))
-
-    def is_stated(self, op: int, word: str) -> bool:
-        """Whether the value of an access is the one that the case states of its address at the start or at the end."""
-        if not self.is_access(op):
-            return False
-        address = self.address(op)
-        if word == "Final" and not self.choice(("final", address), (True, False)):
-            return False
-        return self.data(op) == self.entry_or_number(word, address)
-
-    def is_marked(self, op: int, mark: str) -> bool:
-        """Whether the value of an access is an entry with this mark."""
-        maps = self.has_entries and self.is_access(op) and self.choice(("maps", "of", op), (False, True))
-        return bool(maps) and bool(self.choice((mark, "of", op), (False, True)))
+    def datum(self, *of: object) -> object:
+        """A value: a page-table entry or a number."""
+        if not (self.has_entries and self.choice(("maps", *of), (False, True))):
+            return self.counted("value", *of)
+        return SomeEntry(
+            tag=lambda: self.counted("tag", "mapped", *of),
+            accessed=lambda: self.choice(("accessed", *of), (0, 1)),
+            dirty=lambda: self.choice(("dirty", *of), (0, 1)),
+        )
 
 
-def of_accesses(part: Callable[[Search, int], object]) -> Callable[[Search, int, int], bool]:
-    """Two accesses are alike in this part of them."""
-    return lambda search, i, j: search.is_access(i) and search.is_access(j) and part(search, i) == part(search, j)
+class Some:
+    """What has parts of these names, each of which is chosen where a predicate looks at it."""
+
+    def __init__(self, **parts: Callable[[], object]) -> None:
+        self.parts = parts
+
+    def __getattr__(self, name: str) -> Any:
+        # of anything else no choices are known, so that the search is given up
+        if name not in self.parts:
+            raise OutOfSteps
+        return self.parts[name]()
 
 
-def program_order(search: Search, i: int, j: int) -> bool:
-    """i is before j in program order."""
-    is_same = i != j and search.core(i) == search.core(j) and search.counted("thread", i) == search.counted("thread", j)
-    return is_same and search.order(i) < search.order(j)
+class SomePage(Some, Page):
+    """A page."""
 
 
-def same_physical_tag(search: Search, i: int, j: int) -> bool:
-    """Both are at pages, of one tag."""
-    if not all(search.is_access(op) and not search.is_at_entry(op) for op in (i, j)):
-        return False
-    return search.counted("tag", "physical", i) == search.counted("tag", "physical", j)
+class SomeEntry(Some, Entry):
+    """A page-table entry."""
 
 
-def entry_of(search: Search, i: int, j: int) -> bool:
-    """i is at the page-table entry of j's virtual tag."""
-    if not (search.is_access(i) and search.is_access(j) and search.is_at_entry(i)):
-        return False
-    return search.counted("tag", "physical", i) == search.counted("tag", "virtual", j)
+class SomeKeys:
+    """Types, dependencies, or final values by their addresses: whether one is there, and which value it has."""
 
+    def __init__(self, search: Search, *of: object) -> None:
+        self.search = search
+        self.of = of
 
-def maps_tag_of(search: Search, i: int, j: int) -> bool:
-    """i's value is an entry that maps to the tag of j's page."""
-    if not (search.has_entries and search.is_access(i) and search.is_access(j) and not search.is_at_entry(j)):
-        return False
-    value = search.data(i)
-    return value[0] == "Maps" and value[1] == search.counted("tag", "physical", j)
+    def __contains__(self, key: object) -> bool:
+        return bool(self.search.choice((*self.of, str(key)), (True, False)))
 
-
-OF_ONE: dict[str, Callable[[Search, int], bool]] = {
-    "IsAnyRead": lambda search, i: search.access(i) == "Read",
-    "IsAnyWrite": lambda search, i: search.access(i) == "Write",
-    "IsAnyFence": lambda search, i: search.access(i) == "Fence",
-    "DataFromInitialStateAtPA": lambda search, i: search.is_stated(i, "Init"),
-    "DataFromFinalStateAtPA": lambda search, i: search.is_stated(i, "Final"),
-    "MarkedAccessed": lambda search, i: search.is_marked(i, "accessed"),
-    "MarkedDirty": lambda search, i: search.is_marked(i, "dirty"),
-}
-OF_TWO: dict[str, Callable[[Search, int, int], bool]] = {
-    "SameCore": lambda search, i, j: search.core(i) == search.core(j),
-    "SameThread": lambda search, i, j: search.counted("thread", i) == search.counted("thread", j),
-    "SameMicroop": lambda search, i, j: i == j,
-    "SameInstruction": lambda search, i, j: search.order(i) == search.order(j),
-    "SameIntra": lambda search, i, j: search.counted("intra", i) == search.counted("intra", j),
-    "ProgramOrder": program_order,
-    "SameVirtualAddress": of_accesses(Search.virtual),
-    "SamePhysicalAddress": of_accesses(Search.address),
-    "SameVirtualTag": of_accesses(lambda search, i: search.counted("tag", "virtual", i)),
-    "SamePhysicalTag": same_physical_tag,
-    "SameIndex": of_accesses(lambda search, i: search.counted("index", "virtual", i)),
-    "SameData": of_accesses(Search.data),
-    "EntryOf": entry_of,
-    "MapsTagOf": maps_tag_of,
-}
+    def __getitem__(self, key: object) -> object:
+        return self.search.datum(*self.of, str(key))

@@ -2,9 +2,9 @@
 from dataclasses import dataclass, field
 from typing import Iterable, Iterator
 
+from tools.lint.formulas import below, nodes_of, written
 from tools.lint.slips import Slip, counted
-from tools.second.models import Edges, Formula, Model, NodeTerm, Nodes, Number
-from tools.second.scopes import parts
+from tools.second.models import Formula, Model, NodeTerm, Number
 
 # where a stage stands so often on one core, and once on another, this one may be a slip
 MANY = 3
@@ -21,16 +21,10 @@ class Mentions:
 def mentions_in(formulas: Iterable[Formula]) -> dict[str, Mentions]:
     """The mentions of each stage in formulas, macros not followed."""
     found: dict[str, Mentions] = {}
-    waiting = list(formulas)
-    while waiting:
-        formula = waiting.pop()
-        for node in nodes_of(formula):
-            mentions = found.setdefault(node.stage.name, Mentions())
-            (mentions.own if node.core is None else mentions.named).append(node)
-        waiting.extend(parts(formula))
-    for mentions in found.values():
-        for nodes in (mentions.own, mentions.named):
-            nodes.sort(key=lambda node: node.stage.at)
+    nodes = [node for formula in formulas for part in below(formula) for node in nodes_of(part)]
+    for node in sorted(nodes, key=lambda node: node.stage.at):
+        mentions = found.setdefault(node.stage.name, Mentions())
+        (mentions.own if node.core is None else mentions.named).append(node)
     return found
 
 
@@ -80,21 +74,3 @@ def two_places(path: str, here: list[NodeTerm], others: list[NodeTerm]) -> Slip:
     there = f"{written(others[0])} in {counted(len(others), 'place')}"
     sentence = f"{written(here[0])} here{more}, and {there}: where the core is another, these are two nodes"
     return Slip(path, stage.at, "two-places", stage.name, sentence)
-
-
-def written(node: NodeTerm) -> str:
-    """A node as it stands in the text."""
-    if node.core is None:
-        return f"({node.op.name}, {node.stage.name})"
-    core = node.core.value if isinstance(node.core, Number) else node.core.name
-    return f"({node.op.name}, ({core}, {node.stage.name}))"
-
-
-def nodes_of(formula: Formula) -> Iterator[NodeTerm]:
-    """The nodes that stand in a list."""
-    if isinstance(formula, Nodes):
-        yield from formula.members
-    elif isinstance(formula, Edges):
-        for edge in formula.members:
-            yield edge.start
-            yield edge.end

@@ -8,25 +8,20 @@ from tools.second.cases import Address, EntryAddress, OpItem, Page, Value, Value
 
 def value_slips(test: TestFile) -> Iterator[Slip]:
     """Values that nothing writes, and values that are written twice."""
-    writes: dict[tuple[Address, Value], int] = {}
-    pages: set[Address] = set()
-    for op in test.case.ops:
-        if op.access == "Write" and op.pa is not None and op.value is not None:
-            writes[op.pa, op.value] = 0
-            pages.add(op.pa)
+    writes = {(op.pa, op.value) for op in test.case.ops if op.access == "Write"}
+    pages = {pa for pa, _ in writes}
+    seen: set[tuple[Address, Value]] = set()
     for item in test.items:
         if isinstance(item, OpItem) and item.op.pa is not None and item.op.value is not None:
-            key = item.op.pa, item.op.value
-            address = str(key[0])
+            pa, value = item.op.pa, item.op.value
             if item.op.access == "Write":
-                writes[key] += 1
-                if writes[key] > 1:
-                    twice = f"{key[1]} is written to {address} a second time"
-                    sentence = f"{twice}: a read does not tell which of the two it sees"
+                if (pa, value) in seen:
+                    sentence = f"{value} is written to {pa} a second time: a read does not tell which of the two it sees"
                     yield Slip(test.path, item.value_at, "same-value", "", sentence)
-            elif not item.is_open and key not in writes and test.case.initial_at(key[0]) != key[1]:
-                other = f"which is not the value of {address} at the start, and nothing writes it there"
-                yield Slip(test.path, item.value_at, "unwritten", "", f"the read gets {key[1]}, {other}")
+                seen.add((pa, value))
+            elif not item.is_open and (pa, value) not in writes and test.case.initial_at(pa) != value:
+                other = f"which is not the value of {pa} at the start, and nothing writes it there"
+                yield Slip(test.path, item.value_at, "unwritten", "", f"the read gets {value}, {other}")
         elif isinstance(item, ValueItem) and item.word == "Final" and (item.pa, item.value) not in writes:
             # without a write the value at the start stays
             if item.pa in pages or test.case.initial_at(item.pa) != item.value:
@@ -37,10 +32,9 @@ def value_slips(test: TestFile) -> Iterator[Slip]:
 def initial_write_slips(test: TestFile) -> Iterator[Slip]:
     """Writes of the value at the start, where no earlier write of the core made it another one."""
     changed: set[tuple[Address, int, int]] = set()
-    items = (item for item in test.items if isinstance(item, OpItem) and item.op.access == "Write")
-    for item in sorted(items, key=lambda one: (one.op.g, one.op.n)):
+    for item in sorted(test.op_items, key=lambda one: (one.op.g, one.op.n)):
         op = item.op
-        if op.pa is None:
+        if op.access != "Write" or op.pa is None:
             continue
         if op.value != test.case.initial_at(op.pa):
             changed.add((op.pa, op.core, op.thread))
@@ -63,8 +57,8 @@ def page_slips(test: TestFile) -> Iterator[Slip]:
     what the test is about."""
     first: dict[Page, Page] = {}
     spoken = {*test.case.initial, *(op.pa for op in test.case.ops)}
-    for item in test.items:
-        if isinstance(item, OpItem) and item.op.va is not None and isinstance(item.op.pa, Page):
+    for item in test.op_items:
+        if item.op.va is not None and isinstance(item.op.pa, Page):
             known = first.setdefault(item.op.va, item.op.pa)
             if known != item.op.pa and EntryAddress(item.op.va.tag) not in spoken:
                 sentence = f"VA {item.op.va.tag} {item.op.va.index} stands beside {known} in an earlier micro-op"

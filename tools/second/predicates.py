@@ -73,7 +73,7 @@ PREDICATES: dict[str, Row] = {
     "SameMicroop": of_pair(lambda i, j: (i.g, i.n) == (j.g, j.n)),
     "SameInstruction": of_pair(lambda i, j: i.g == j.g),
     "SameIntra": of_pair(lambda i, j: i.n == j.n),
-    "ProgramOrder": of_pair(lambda i, j: (i.core, i.thread) == (j.core, j.thread) and i.g < j.g),
+    "ProgramOrder": of_pair(lambda i, j: i.core == j.core and i.thread == j.thread and i.g < j.g),
     "SameVirtualAddress": of_accesses(virtual),
     "SamePhysicalAddress": of_accesses(lambda op: op.pa),
     "SameVirtualTag": of_accesses(lambda op: virtual(op).tag),

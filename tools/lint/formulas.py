@@ -1,0 +1,126 @@
+"""What kinds of slips share: what stands in a formula, how it is written, and what its form alone decides."""
+from dataclasses import fields, is_dataclass
+from typing import Iterator
+
+from tools.second.models import Arg, Binary, Edges, Expand, Formula, Macro, NodeTerm, Nodes, Not, Number, Quantified, Static, Word
+from tools.second.predicates import PLAIN, PREDICATES
+from tools.second.scopes import parts
+
+
+def below(formula: Formula) -> Iterator[Formula]:
+    """A formula and what stands in it, from left to right, macros not followed."""
+    waiting = [formula]
+    while waiting:
+        here = waiting.pop()
+        yield here
+        waiting += reversed(parts(here))
+
+
+def reached(formula: Formula, macros: dict[str, Macro], expanded: set[str]) -> Iterator[Formula]:
+    """The same, and in its place what stands in each macro that is expanded there and was not before."""
+    waiting = [formula]
+    while waiting:
+        here = waiting.pop()
+        yield here
+        waiting += reversed(parts(here))
+        if isinstance(here, Expand) and here.macro.name not in expanded:
+            expanded.add(here.macro.name)
+            waiting.append(macros[here.macro.name].body)
+
+
+def nodes_of(formula: Formula) -> list[NodeTerm]:
+    """The nodes of a list, as they stand in it."""
+    if isinstance(formula, Edges):
+        return [node for edge in formula.members for node in (edge.start, edge.end)]
+    return list(formula.members) if isinstance(formula, Nodes) else []
+
+
+def names_of(formula: Formula) -> frozenset[str]:
+    """The names of micro-ops and cores that a formula has as arguments."""
+    args: list[Arg | None] = [arg for node in nodes_of(formula) for arg in (node.op, node.core)]
+    if isinstance(formula, Expand):
+        args += formula.args
+    elif isinstance(formula, Static):
+        takes, _ = PREDICATES.get(formula.predicate.name, ((), None))
+        # a macro that nothing expands may be ill-formed: then each argument counts
+        fits = len(takes) == len(formula.args)
+        args += [arg for k, arg in enumerate(formula.args) if not fits or takes[k] != PLAIN]
+    return frozenset(arg.name for arg in args if isinstance(arg, Word))
+
+
+def shape(part: object) -> object:
+    """A formula, or what it is made of, without places and labels."""
+    if isinstance(part, tuple):
+        return tuple(map(shape, part))
+    if not is_dataclass(part):
+        return part
+    return type(part), *(shape(getattr(part, field.name)) for field in fields(part) if field.name not in ("at", "label"))
+
+
+def written(part: Arg | NodeTerm | Static | Expand) -> str:
+    """A part of a formula as it stands in the text."""
+    match part:
+        case Number(value):
+            return str(value)
+        case Word(name):
+            return name
+        case NodeTerm(op, None, stage):
+            return f"({op.name}, {stage.name})"
+        case NodeTerm(op, Number() | Word() as core, stage):
+            return f"({op.name}, ({written(core)}, {stage.name}))"
+        case Static(predicate, args):
+            return " ".join(map(written, (predicate, *args)))
+        case Expand(_, macro, args):
+            return " ".join(["ExpandMacro", *map(written, (macro, *args))])
+    raise AssertionError(f"no part of a formula: {part}")
+
+
+class ByForm:
+    """What the form of a formula decides, whatever nodes and edges a world has: here, whether some test with a micro-op may
+    decide it."""
+
+    def __init__(self, macros: dict[str, Macro]) -> None:
+        self.macros = macros
+        self.known: dict[tuple[str, bool], bool] = {}
+
+    def is_sure(self, formula: Formula, wanted: bool) -> bool:
+        """Whether it is true, or false where it is not wanted."""
+        if isinstance(formula, Static):
+            return self.is_static_sure(formula, wanted)
+        if isinstance(formula, Not):
+            return self.is_sure(formula.operand, not wanted)
+        if isinstance(formula, Binary):
+            left = self.is_sure(formula.left, wanted is not (formula.connective == "=>"))
+            right = self.is_sure(formula.right, wanted)
+            return left and right if (formula.connective == "/\\") is wanted else left or right
+        if isinstance(formula, Quantified):
+            return self.is_quantified_sure(formula, wanted)
+        if isinstance(formula, Expand):
+            key = formula.macro.name, wanted
+            if key not in self.known:
+                self.known[key] = self.is_sure(self.macros[formula.macro.name].body, wanted)
+            return self.known[key]
+        return wanted and not formula.members
+
+    def is_static_sure(self, _: Static, __: bool) -> bool:
+        """The same of a predicate."""
+        return True
+
+    def is_quantified_sure(self, formula: Quantified, wanted: bool) -> bool:
+        """The same of a quantifier."""
+        return self.is_sure(formula.body, wanted)
+
+
+class Constants(ByForm):
+    """What True, False and empty lists decide alone, in every test."""
+
+    def of(self, formula: Formula) -> bool | None:
+        """The truth of a formula; None where they do not decide it."""
+        return next((truth for truth in (True, False) if self.is_sure(formula, truth)), None)
+
+    def is_static_sure(self, formula: Static, wanted: bool) -> bool:
+        return formula.predicate.name == str(wanted)
+
+    def is_quantified_sure(self, formula: Quantified, wanted: bool) -> bool:
+        # over nothing `forall` is true and `exists` is false, whatever the body
+        return formula.universal is wanted and self.is_sure(formula.body, wanted)
