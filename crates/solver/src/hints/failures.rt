@@ -208,12 +208,11 @@ impl Failures {
         }
     }
 
-    /// Notes the levels of all literals that the graph has.
+    /// Notes the literals of all levels but that of the side at hand, which is in each conflict set anyway.
     fn note_literals(&mut self, graph: &OrderGraph) {
-        for level in 0..self.forks.len() {
+        for level in self.literals.noted..self.forks.len() {
             self.literals.note(graph, self.forks[level].literals, level);
         }
-        self.literals.note(graph, graph.len(), self.forks.len());
     }
 
     /// Puts the level at which this was said into the conflict set.

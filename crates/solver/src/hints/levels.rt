@@ -28,6 +28,8 @@ pub(crate) struct Levels {
     levels: HashMap<Said, usize>,
     /// How many of the graph's literals were noted.
     known: usize,
+    /// How many levels have all their literals noted.
+    pub(crate) noted: usize,
     /// Whether memory was refused to one.
     pub(crate) is_refused: bool,
 }
@@ -38,6 +40,7 @@ impl Levels {
         Levels {
             levels: HashMap::new(alloc),
             known: 0,
+            noted: 0,
             is_refused: false,
         }
     }
@@ -47,7 +50,7 @@ impl Levels {
         self.levels.get(&said).copied().unwrap_or(0)
     }
 
-    /// Notes the graph's literals up to the first `end`, which are of this level where they are not noted.
+    /// Notes the graph's literals up to the first `end`, which end this level: they are of it where they are not noted.
     pub(crate) fn note(&mut self, graph: &OrderGraph, end: usize, level: usize) {
         for k in self.known..end {
             if k < graph.len() {
@@ -57,6 +60,7 @@ impl Levels {
             }
         }
         self.known = self.known.max(end);
+        self.noted = level.saturating_add(1);
     }
 
     fn put(&mut self, said: Said, level: usize) {
@@ -77,5 +81,6 @@ impl Levels {
             }
         }
         self.known = self.known.min(count);
+        self.noted = self.noted.min(level);
     }
 }
