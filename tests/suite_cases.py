@@ -47,7 +47,20 @@ MP    ok
 SB    ok
 2 pairs: 2 ok, 0 BUG, 0 stricter, 0 time, 0 faults, in N s
 """
+# what the last line counts, some of it where there is any
+COUNTED, SOMETIMES = ("ok", "BUG", "stricter", "unstated", "not taken", "time", "faults"), ("unstated", "not taken")
 LINTING = threading.Lock()
+
+
+def tabled(models: str, rows: str, counts: str, *below: str) -> str:
+    """The table of these models, with rows of a test and its cells; the lines below it; and the last line, of which all other
+    counts are 0."""
+    cells = [["test", *models.split()], *(row.split() for row in rows.split(", "))]
+    widths = [max(map(len, column)) for column in zip(*cells, strict=True)]
+    lines = ["  ".join(map(str.ljust, row, widths)).rstrip() for row in cells]
+    found = {word: int(number) for number, word in (it.split(" ", 1) for it in counts.split(", "))}
+    said = ", ".join(f"{found.get(it, 0)} {it}" for it in COUNTED if it in found or it not in SOMETIMES)
+    return "".join(f"{line}\n" for line in (*lines, *below, f"{sum(found.values())} pairs: {said}, in N s"))
 
 
 def lint_here(self: Lint, model: File) -> list[str]:

@@ -11,7 +11,7 @@ from xml.etree import ElementTree
 
 from tests.cases import TOP, program, read, write
 from tests.suite_cases import BUFFER, CORR, EARLY, GOOD, MP, NO_FAULTS, SB, SC, TSO, TUTORIAL, SuiteCases, of_suite
-from tests.suite_cases import without_first_line
+from tests.suite_cases import tabled, without_first_line
 
 from tools.second.cores import without
 from tools.second.scopes import read_model
@@ -49,78 +49,53 @@ class OwnTests(SuiteCases):
         self.copy("tests", MP)
         self.put("tests/broken.test", BROKEN)
         self.put("axiom.uspec", "Axiom\n")
-        self.table("a refused test and a refused model beside others", 2, """\
-test    sc-inorder   axiom
-MP      ok           model:syntax
-broken  test:syntax  model:syntax
-WORK/tests/broken.test:1:16: syntax: no test can continue with this token
-WORK/axiom.uspec:2:1: syntax: no model can continue with this token
-4 pairs: 1 ok, 0 BUG, 0 stricter, 0 time, 3 faults, in N s
-""", SC, "WORK/axiom.uspec")
+        self.table("a refused test and a refused model beside others", 2,
+                   tabled("sc-inorder axiom", "MP ok model:syntax, broken test:syntax model:syntax", "1 ok, 3 faults",
+                          "WORK/tests/broken.test:1:16: syntax: no test can continue with this token",
+                          "WORK/axiom.uspec:2:1: syntax: no model can continue with this token"), SC, "WORK/axiom.uspec")
         for name in "ab":
             self.put(f"refused/{name}.litmus", read("examples/x86/SB.litmus").replace("\nexists", "\nforall"))
         forall = (
             "left-out: a test states one outcome: write a listing with ~exists for each that must not come; beside a log, "
             "compare answers forall"
         )
-        self.table("what to do about a refused listing", 2, f"""\
-test      sc-inorder   tutorial-early
-a.litmus  test:syntax  test:syntax
-b.litmus  test:syntax  test:syntax
-WORK/refused/a.litmus:10:1: syntax: no test can continue with this token
-WORK/refused/a.litmus:10:1: {forall}
-WORK/refused/b.litmus:10:1: syntax: no test can continue with this token
-WORK/refused/b.litmus:10:1: {forall}
-4 pairs: 0 ok, 0 BUG, 0 stricter, 0 time, 4 faults, in N s
-""", SC, EARLY, SUITE_TESTS="WORK/refused")
+        self.table("what to do about a refused listing", 2,
+                   tabled("sc-inorder tutorial-early", "a.litmus test:syntax test:syntax, b.litmus test:syntax test:syntax",
+                          "4 faults", "WORK/refused/a.litmus:10:1: syntax: no test can continue with this token",
+                          f"WORK/refused/a.litmus:10:1: {forall}",
+                          "WORK/refused/b.litmus:10:1: syntax: no test can continue with this token",
+                          f"WORK/refused/b.litmus:10:1: {forall}"), SC, EARLY, SUITE_TESTS="WORK/refused")
 
     def test_stated(self) -> None:
         for state in ("Forbidden", "Permitted"):
             self.put(f"tests/{state}.test", f"{UNSTATED_MP}{state}.\n")
         self.put("tests/unstated.test", UNSTATED_MP)
-        self.table("where the table has no row the test decides", 1, f"""\
-test       sc-inorder    tutorial-early
-Forbidden  ok            BUG
-Permitted  stricter      ok
-unstated   unobservable  observable
-WORK/tests/Permitted.test: the test says permitted, and the machine of sc forbidden
-WORK/tests/Permitted.test: the test says permitted, and {TSO} forbidden
-WORK/tests/unstated.test: tutorial-early says observable, and {TSO} unobservable
-6 pairs: 2 ok, 1 BUG, 1 stricter, 2 unstated, 0 time, 0 faults, in N s
-""", SC, EARLY)
+        self.table("where the table has no row the test decides", 1,
+                   tabled("sc-inorder tutorial-early",
+                          "Forbidden ok BUG, Permitted stricter ok, unstated unobservable observable",
+                          "2 ok, 1 BUG, 1 stricter, 2 unstated",
+                          "WORK/tests/Permitted.test: the test says permitted, and the machine of sc forbidden",
+                          f"WORK/tests/Permitted.test: the test says permitted, and {TSO} forbidden",
+                          f"WORK/tests/unstated.test: tutorial-early says observable, and {TSO} unobservable"), SC, EARLY)
         self.put("nameless.uspec", without_first_line(EARLY))
         line = (
             "WORK/nameless.uspec:1:1: unnamed: the model names no memory model; known are NAMES, named once by a comment "
             "% Memory model: NAME"
         )
-        self.table("without a memory model the word of a test of one's own decides", 1, f"""\
-test       nameless
-Forbidden  BUG
-Permitted  ok
-{line}
-2 pairs: 1 ok, 1 BUG, 0 stricter, 0 time, 0 faults, in N s
-""", "WORK/nameless.uspec", "WORK/tests/Forbidden.test", "WORK/tests/Permitted.test")
-        self.table("without a memory model the word of a shipped test does not", 2, f"""\
-test       nameless
-MP         unnamed
-Permitted  ok
-{line}
-2 pairs: 1 ok, 0 BUG, 0 stricter, 0 time, 1 faults, in N s
-""", "WORK/nameless.uspec", "WORK/tests/Permitted.test", MP)
+        self.table("without a memory model the word of a test of one's own decides", 1,
+                   tabled("nameless", "Forbidden BUG, Permitted ok", "1 ok, 1 BUG", line), "WORK/nameless.uspec",
+                   "WORK/tests/Forbidden.test", "WORK/tests/Permitted.test")
+        self.table("without a memory model the word of a shipped test does not", 2,
+                   tabled("nameless", "MP unnamed, Permitted ok", "1 ok, 1 faults", line), "WORK/nameless.uspec",
+                   "WORK/tests/Permitted.test", MP)
 
     def test_memory_models(self) -> None:
         self.put("tests/unstated.test", UNSTATED_MP)
-        self.table("no expectation is no fault", 0, f"""\
-test      tutorial-early
-unstated  observable
-WORK/tests/unstated.test: tutorial-early says observable, and {TSO} unobservable
-1 pairs: 0 ok, 0 BUG, 0 stricter, 1 unstated, 0 time, 0 faults, in N s
-""", EARLY)
+        self.table("no expectation is no fault", 0,
+                   tabled("tutorial-early", "unstated observable", "1 unstated",
+                          f"WORK/tests/unstated.test: tutorial-early says observable, and {TSO} unobservable"), EARLY)
         table = self.put("table.tsv", "memory model\ttest\tallowed\tsource\nTSO\tunstated\tno\tmine\n")
-        self.table("a table of one's own", 1, f"""\
-test      tutorial-early
-unstated  BUG
-1 pairs: 0 ok, 1 BUG, {NO_FAULTS}""", EARLY, SUITE_TABLE=table)
+        self.table("a table of one's own", 1, tabled("tutorial-early", "unstated BUG", "1 BUG"), EARLY, SUITE_TABLE=table)
         self.refuses("a table that is not there", "the table WORK/gone cannot be read", EARLY, SUITE_TABLE="WORK/gone")
         self.put("maybe.tsv", "memory model\ttest\tallowed\nTSO\tunstated\tmaybe\n")
         line = r"the table WORK/maybe.tsv has a row without yes or no: $'TSO\tunstated\tmaybe'"
@@ -128,10 +103,8 @@ unstated  BUG
         self.put("nameless.uspec", without_first_line(EARLY))
         for end, shown in ((" ", " "), ("\r", r"\r"), (" \t\r", r" \t\r")):
             self.put("mine.uspec", f"% Memory Model: TSO{end}\n{without_first_line(EARLY)}")
-            self.table(f"a memory model in capitals, and '{shown}' after it", 1, f"""\
-test      mine
-unstated  BUG
-1 pairs: 0 ok, 1 BUG, {NO_FAULTS}""", "WORK/mine.uspec", SUITE_TABLE=table)
+            self.table(f"a memory model in capitals, and '{shown}' after it", 1, tabled("mine", "unstated BUG", "1 BUG"),
+                       "WORK/mine.uspec", SUITE_TABLE=table)
         known = self.called("WORK/nameless.uspec", SUITE_TABLE=table).out.partition("known are ")[2].partition(", named")[0]
         for name in ("nmca", "pso", "sc", "tlb", "tso", "weak"):
             self.same(f"the memory models that are known have {name}", name in known.replace(" and ", ", ").split(", "))
@@ -150,23 +123,15 @@ WORK/mine.uspec:{place}: unnamed: {sentence}; known are NAMES, named once by a c
         self.put("named/SB.litmus", read("examples/x86/SB.litmus").replace("\nexists", "\n~exists"))
         self.copy("named", MP)
         self.put("named/LB.test", read(MP).replace("(Data 0)", "(Data 1)"))
-        self.table("tests of one's own with the names of shipped ones", 1, f"""\
-test       tutorial
-LB         BUG
-MP         ok
-SB         BUG
-SB.litmus  BUG
-WORK/named/LB.test: the test says forbidden, and {TSO} permitted
-WORK/named/SB.litmus: the test says forbidden, and {TSO} permitted
-WORK/named/SB.test: the test says forbidden, and {TSO} permitted
-4 pairs: 1 ok, 3 BUG, {NO_FAULTS}""", TUTORIAL, SUITE_TESTS="WORK/named")
-        self.table("tests with the names of shipped ones go by the rows of a table that is named", 1, f"""\
-test       tutorial
-LB         BUG
-MP         ok
-SB         ok
-SB.litmus  ok
-4 pairs: 3 ok, 1 BUG, {NO_FAULTS}""", TUTORIAL, SUITE_TESTS="WORK/named", SUITE_TABLE="examples/memory-models.tsv")
+        self.table("tests of one's own with the names of shipped ones", 1,
+                   tabled("tutorial", "LB BUG, MP ok, SB BUG, SB.litmus BUG", "1 ok, 3 BUG",
+                          f"WORK/named/LB.test: the test says forbidden, and {TSO} permitted",
+                          f"WORK/named/SB.litmus: the test says forbidden, and {TSO} permitted",
+                          f"WORK/named/SB.test: the test says forbidden, and {TSO} permitted"), TUTORIAL,
+                   SUITE_TESTS="WORK/named")
+        self.table("tests with the names of shipped ones go by the rows of a table that is named", 1,
+                   tabled("tutorial", "LB BUG, MP ok, SB ok, SB.litmus ok", "3 ok, 1 BUG"), TUTORIAL, SUITE_TESTS="WORK/named",
+                   SUITE_TABLE="examples/memory-models.tsv")
 
 
 class Words(SuiteCases):
@@ -174,10 +139,8 @@ class Words(SuiteCases):
 
     def test_options(self) -> None:
         self.copy("tests", MP, SB)
-        self.writes("--differ shows the tests on which models differ", self.called("--differ", TUTORIAL, EARLY), 1, f"""\
-test  tutorial  tutorial-early
-MP    ok        BUG
-4 pairs: 3 ok, 1 BUG, {NO_FAULTS}""")
+        self.writes("--differ shows the tests on which models differ", self.called("--differ", TUTORIAL, EARLY), 1,
+                    tabled("tutorial tutorial-early", "MP ok BUG", "3 ok, 1 BUG"))
         self.same("a certificate has the whole name of its test", self.is_kept("tutorial-early/MP.test"))
         self.same("the rows of a table are kept", read(f"{self.work}/kept/cells"), """\
 tutorial\tMP\tok
@@ -185,10 +148,8 @@ tutorial\tSB\tok
 tutorial-early\tMP\tBUG
 tutorial-early\tSB\tok
 """)
-        self.table("--bad shows the tests that are not ok", 1, f"""\
-test  tutorial-early  tutorial
-MP    BUG             ok
-4 pairs: 3 ok, 1 BUG, {NO_FAULTS}""", "--bad", EARLY, TUTORIAL)
+        self.table("--bad shows the tests that are not ok", 1, tabled("tutorial-early tutorial", "MP BUG ok", "3 ok, 1 BUG"),
+                   "--bad", EARLY, TUTORIAL)
         self.table("--bad shows no test where all are ok", 0, f"""\
 test  tutorial
 2 pairs: 2 ok, 0 BUG, {NO_FAULTS}""", "--bad", TUTORIAL)
@@ -213,17 +174,11 @@ WORK/tests/typo.test:7:47: unwritten: the read gets 7, which is not the value of
         self.put("both/mine.litmus", listing)
         self.put("both/never.litmus", listing.replace("\nexists", "\n~exists"))
         self.put("both/open.litmus", listing.replace(" /\\ 1:EAX=0", ""))
-        self.writes("tests and listings in one folder", self.called(TUTORIAL, SUITE_TESTS="WORK/both"), 2, f"""\
-test          tutorial
-SB            ok
-SB.litmus     ok
-mine.litmus   observable
-never.litmus  BUG
-open.litmus   test:x86-open
-WORK/both/never.litmus: the test says forbidden, and {TSO} permitted
-WORK/both/open.litmus:9:20: x86-open: the condition gives this register no value
-5 pairs: 2 ok, 1 BUG, 0 stricter, 1 unstated, 0 time, 1 faults, in N s
-""")
+        self.writes("tests and listings in one folder", self.called(TUTORIAL, SUITE_TESTS="WORK/both"), 2,
+                    tabled("tutorial", "SB ok, SB.litmus ok, mine.litmus observable, never.litmus BUG, open.litmus test:x86-open",
+                           "2 ok, 1 BUG, 1 unstated, 1 faults",
+                           f"WORK/both/never.litmus: the test says forbidden, and {TSO} permitted",
+                           "WORK/both/open.litmus:9:20: x86-open: the condition gives this register no value"))
         self.same("the certificate of a listing has the whole name of it", self.is_kept("tutorial/SB.litmus"))
         self.same("the certificate of a listing stands beside that of the test", self.is_kept("tutorial/SB.test"))
         self.same("nothing is kept of a refused listing", self.is_kept("tutorial/open.litmus"), False)
@@ -249,30 +204,25 @@ WORK/patterns/MP.pattern: tutorial-early: shown though tso does not allow it: 1 
         self.table("such words behind --, beside a folder of tests that no word names", 1, table, "--", first, *rest)
         bad = "".join(it for it in table.splitlines(keepends=True) if not it.endswith(" ok\n"))
         self.table("an option among such words", 1, bad, first, "--bad", *rest)
-        self.table("a test before its model", 0, f"""\
-test  sc-inorder
-MP    ok
-1 pairs: 1 ok, 0 BUG, {NO_FAULTS}""", MP, SC)
+        self.table("a test before its model", 0, tabled("sc-inorder", "MP ok", "1 ok"), MP, SC)
 
     def test_what_machines_see(self) -> None:
         """Bytes that are no ASCII, values at the start, addresses that no micro-op names, memory models of one's own."""
         self.put("latin.pattern", b"% by M\303\274ller\n" + read("examples/patterns/MP.pattern").encode("ascii"))
-        self.table("a pattern with a comment that is not ASCII", 1, f"""\
-test           tutorial-early
-latin.pattern  BUG
-WORK/latin.pattern: tutorial-early: shown though tso does not allow it: 1 0
-1 pairs: 0 ok, 1 BUG, {NO_FAULTS}""", "WORK/latin.pattern", EARLY)
+        self.table("a pattern with a comment that is not ASCII", 1,
+                   tabled("tutorial-early", "latin.pattern BUG", "1 BUG",
+                          "WORK/latin.pattern: tutorial-early: shown though tso does not allow it: 1 0"), "WORK/latin.pattern",
+                   EARLY)
         self.put("untouched.pattern", """\
 Litmus "f".
 Microop 0 0 0 0 (Write (VA 0 0) (PA 0 0) (Data 1)).
 Microop 1 0 0 0 (Read (VA 0 0) (PA 0 0) (Data Any)).
 Final (PA 9 0) 0.
 """)
-        self.table("a final value of an address that no micro-op names", 0, f"""\
-test               sc-inorder
-untouched.pattern  ok
-WORK/untouched.pattern:4:1: nobody's: no micro-op is at PA 9 0, so that no axiom can see this
-1 pairs: 1 ok, 0 BUG, {NO_FAULTS}""", "WORK/untouched.pattern", SC)
+        self.table("a final value of an address that no micro-op names", 0,
+                   tabled("sc-inorder", "untouched.pattern ok", "1 ok",
+                          "WORK/untouched.pattern:4:1: nobody's: no micro-op is at PA 9 0, so that no axiom can see this"),
+                   "WORK/untouched.pattern", SC)
         # the machines take the rest of the first line for a comment, as of the longer test below, whose reads then get what
         # nothing writes; nothing is said of that
         self.put("percent.test", """\
@@ -280,28 +230,20 @@ Litmus "100%". Init (PA 0 0) 5.
 Microop 0 0 0 0 (Read (VA 0 0) (PA 0 0) (Data 5)).
 Permitted.
 """)
-        self.table("a value at the start that the machines do not read", 0, f"""\
-test     sc-inorder
-percent  ok
-1 pairs: 1 ok, 0 BUG, {NO_FAULTS}""", "WORK/percent.test", SC)
+        self.table("a value at the start that the machines do not read", 0, tabled("sc-inorder", "percent ok", "1 ok"),
+                   "WORK/percent.test", SC)
         self.put("large.test", """\
 Litmus "100%". Microop 0 0 0 0 (Write (VA 0 0) (PA 0 0) (Data 1)). Microop 1 0 0 0 (Write (VA 1 0) (PA 1 0) (Data 1)).
 Microop 2 1 1 0 (Read (VA 1 0) (PA 1 0) (Data 1)). Microop 3 1 1 0 (Read (VA 0 0) (PA 0 0) (Data 1)). Permitted.
 """)
-        self.table("a test that the machines read otherwise than the program", 0, f"""\
-test   tutorial-early
-large  ok
-1 pairs: 1 ok, 0 BUG, {NO_FAULTS}""", "WORK/large.test", EARLY)
+        self.table("a test that the machines read otherwise than the program", 0, tabled("tutorial-early", "large ok", "1 ok"),
+                   "WORK/large.test", EARLY)
         self.put("table.tsv", "mine\tMP\tno\n")
         self.put("mine.uspec", "% Memory model: mine\n" + without_first_line(EARLY))
         pattern = "examples/patterns/MP.pattern"
-        self.table("a pattern whose memory model has rows and no machine", 1, """\
-test        mine
-MP          BUG
-MP.pattern  swept
-SB          BUG
-3 pairs: 0 ok, 2 BUG, 0 stricter, 1 unstated, 0 time, 0 faults, in N s
-""", "WORK/mine.uspec", pattern, MP, SB, SUITE_TABLE="WORK/table.tsv")
+        self.table("a pattern whose memory model has rows and no machine", 1,
+                   tabled("mine", "MP BUG, MP.pattern swept, SB BUG", "2 BUG, 1 unstated"), "WORK/mine.uspec", pattern, MP, SB,
+                   SUITE_TABLE="WORK/table.tsv")
 
     def test_locked(self) -> None:
         """A model that asks for the type of locked instructions, and one that does not."""
@@ -316,11 +258,10 @@ more places
 """, BUFFER, "examples/models/tso-ooo.uspec", "examples/locked/SB+xchgs.test", "examples/patterns/SB+xchgs.pattern",
                    "examples/tests/SB+fences.test")
         buggy = (f"examples/buggy/tso-buffer-{it}.uspec" for it in ("newest-alone", "merges-older"))
-        self.table("two store buffers, each with a test that alone tells it", 1, f"""\
-test        tso-buffer  tso-buffer-newest-alone  tso-buffer-merges-older
-CoWR+other  ok          BUG                      ok
-MP+merge    ok          ok                       BUG
-6 pairs: 4 ok, 2 BUG, {NO_FAULTS}""", BUFFER, *buggy, "examples/tests/CoWR+other.test", "examples/tests/MP+merge.test")
+        self.table("two store buffers, each with a test that alone tells it", 1,
+                   tabled("tso-buffer tso-buffer-newest-alone tso-buffer-merges-older",
+                          "CoWR+other ok BUG ok, MP+merge ok ok BUG", "4 ok, 2 BUG"), BUFFER, *buggy,
+                   "examples/tests/CoWR+other.test", "examples/tests/MP+merge.test")
 
 
 class Beside(SuiteCases):
@@ -335,12 +276,7 @@ class Beside(SuiteCases):
 
     def test_status(self) -> None:
         """The status parts what is lost from what is too much."""
-        self.table("what is lost alone", 3, """\
-test  strict
-MP    ok
-SB    stricter
-2 pairs: 1 ok, 0 BUG, 1 stricter, 0 time, 0 faults, in N s
-""", "WORK/strict.uspec")
+        self.table("what is lost alone", 3, tabled("strict", "MP ok, SB stricter", "1 ok, 1 stricter"), "WORK/strict.uspec")
         self.table("what is lost, and too much beside it", 1, f"{STRICT_ROWS}{STRICT_COUNT}", "WORK/strict.uspec", EARLY)
 
     def test_baselines(self) -> None:
@@ -355,24 +291,15 @@ tutorial-early\tSB\tok
 {STRICT_ROWS}nothing is new beside WORK/cells
 {STRICT_COUNT}""")
         self.same("a baseline is what a suite keeps", read(f"{self.work}/kept/cells"), read(cells))
-        self.table("a BUG and a fault are new", 2, """\
-test    strict       tutorial-early
-CoRR    ok           BUG
-MP      ok           BUG
-SB      stricter     ok
-broken  test:syntax  test:syntax
-WORK/broken.test:1:16: syntax: no test can continue with this token
-1 new BUG: tutorial-early CoRR
-2 new test:syntax: strict broken, tutorial-early broken
-8 pairs: 3 ok, 2 BUG, 1 stricter, 0 time, 2 faults, in N s
-""", "--baseline", cells, *both, "WORK/tests", CORR, "WORK/broken.test")
-        self.table("a BUG is new", 1, f"""\
-test  tutorial-early
-CoRR  BUG
-MP    BUG
-1 new BUG: tutorial-early CoRR
-2 gone: model strict, test SB
-2 pairs: 0 ok, 2 BUG, {NO_FAULTS}""", EARLY, MP, CORR, "--baseline", cells)
+        self.table("a BUG and a fault are new", 2,
+                   tabled("strict tutorial-early", "CoRR ok BUG, MP ok BUG, SB stricter ok, broken test:syntax test:syntax",
+                          "3 ok, 2 BUG, 1 stricter, 2 faults",
+                          "WORK/broken.test:1:16: syntax: no test can continue with this token", "1 new BUG: tutorial-early CoRR",
+                          "2 new test:syntax: strict broken, tutorial-early broken"), "--baseline", cells, *both, "WORK/tests",
+                   CORR, "WORK/broken.test")
+        self.table("a BUG is new", 1,
+                   tabled("tutorial-early", "CoRR BUG, MP BUG", "2 BUG", "1 new BUG: tutorial-early CoRR",
+                          "2 gone: model strict, test SB"), EARLY, MP, CORR, "--baseline", cells)
         write(cells, read(cells).replace("stricter", "ok").replace("strict\tMP\tok", "strict\tMP\tBUG"))
         self.table("what was ok and is lost is new, and a BUG that is mended is gone", 3, f"""\
 {STRICT_ROWS}1 new stricter: strict SB

@@ -23,7 +23,6 @@ class Lint:
         self.seconds = max(LINT_SECONDS, seconds)
 
     def lines(self, model: File) -> list[str]:
-        """What lint says of a model and the tests."""
         with tempfile.TemporaryFile() as out:
             command = [*self.lint, model.path, *self.paths]
             try:

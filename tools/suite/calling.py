@@ -60,7 +60,6 @@ def free_memory() -> int | None:
 
 
 def standing_limit(kind: int) -> float:
-    """The limit of this kind that stands already."""
     soft, _ = resource.getrlimit(kind)
     return math.inf if soft == resource.RLIM_INFINITY else soft
 
@@ -118,7 +117,6 @@ class Calls:
         return status if status >= 0 else 128 - status
 
     def end_late(self, process: Process) -> None:
-        """Ends a call that is not done in time."""
         with self.lock:
             if process in self.running:
                 self.late.add(process)

@@ -29,7 +29,6 @@ class Case:
 
 
 def cases_of(run: Suite, result: Result, baseline: Baseline) -> Iterator[Case]:
-    """The pairs, model by model."""
     for model, test in run.pairs:
         names = (model.name, test.name)
         cell = result.cells[names]
