@@ -38,8 +38,6 @@ MP = "examples/tests/MP.test"
 SB = "examples/tests/SB.test"
 CORR = "examples/tests/CoRR.test"
 TSO = "the machine of tso"
-# how the last line of many tables ends
-NO_FAULTS = "0 stricter, 0 time, 0 faults, in N s\n"
 # the table of message passing and store buffering on the in-order pipeline, which many calls are asked for
 GOOD = """\
 test  sc-inorder
@@ -53,9 +51,9 @@ LINTING = threading.Lock()
 
 
 def tabled(models: str, rows: str, counts: str, *below: str) -> str:
-    """The table of these models, with rows of a test and its cells; the lines below it; and the last line, of which all other
-    counts are 0."""
-    cells = [["test", *models.split()], *(row.split() for row in rows.split(", "))]
+    """The table of these models, with rows of a test and its cells, in which `_` stands for a blank; the lines below it; and the
+    last line, of which all other counts are 0."""
+    cells = [[it.replace("_", " ") for it in row.split()] for row in (f"test {models}", *filter(None, rows.split(", ")))]
     widths = [max(map(len, column)) for column in zip(*cells, strict=True)]
     lines = ["  ".join(map(str.ljust, row, widths)).rstrip() for row in cells]
     found = {word: int(number) for number, word in (it.split(" ", 1) for it in counts.split(", "))}

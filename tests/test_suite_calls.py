@@ -25,7 +25,7 @@ from tests.cases import (
     PATIENCE, TOP, Done, apart, call, comes, files_below, program, read, replaced, signal_unseen, text_of, tool, within,
     without_output, write
 )
-from tests.suite_cases import CORR, EARLY, GOOD, MP, NO_FAULTS, SB, SC, TUTORIAL, SuiteCases, no_lint, of_suite, tabled
+from tests.suite_cases import CORR, EARLY, GOOD, MP, SB, SC, TUTORIAL, SuiteCases, no_lint, of_suite, tabled
 
 from tools.ending import SIGNALS as RECEIVED, Interrupted
 from tools.texts.memory_models import memory_model_of
@@ -41,16 +41,9 @@ from tools.suite.refusing import Refusal
 from tools.suite.tables import table_of_models
 
 PATTERN = "examples/patterns/MP.pattern"
-BAD_PATTERN = f"""\
-test        tutorial-early
-MP.pattern  BUG
-{PATTERN}: tutorial-early: shown though tso does not allow it: 1 0
-1 pairs: 0 ok, 1 BUG, {NO_FAULTS}"""
-BAD_PAIR = f"""\
-test  tutorial-early
-MP    BUG
-SB    ok
-2 pairs: 1 ok, 1 BUG, {NO_FAULTS}"""
+BAD_ROW = f"{PATTERN}: tutorial-early: shown though tso does not allow it: 1 0"
+BAD_PATTERN = tabled("tutorial-early", "MP.pattern BUG", "1 BUG", BAD_ROW)
+BAD_PAIR = tabled("tutorial-early", "MP BUG, SB ok", "1 ok, 1 BUG")
 # those that end a process without a fault of its own
 SIGNALS = (
     signal.SIGTERM, signal.SIGHUP, signal.SIGINT, signal.SIGQUIT, signal.SIGUSR1, signal.SIGUSR2, signal.SIGALRM,
@@ -173,12 +166,9 @@ class Checkers(SuiteCases):
             ("a checker that a signal ends", "kill -9 $$", "exit 1", "status:137"),
             ("a judge that a signal ends", said, "kill -9 $$", "certificate"),
         ):
-            self.table(name, 2, f"""\
-test  sc-inorder
-MP    {cell}
-SB    {cell}
-2 pairs: 0 ok, 0 BUG, 0 stricter, {"2 time, 0 faults" if cell == "time" else "0 time, 2 faults"}, in N s
-""", SC, PIPECHECK=self.liar(checks, verifies), **({"SUITE_SECONDS": "10"} if "late" in name else {}))
+            text = tabled("sc-inorder", f"MP {cell}, SB {cell}", "2 time" if cell == "time" else "2 faults")
+            limit = {"SUITE_SECONDS": "10"} if "late" in name else {}
+            self.table(name, 2, text, SC, PIPECHECK=self.liar(checks, verifies), **limit)
         leaving = self.liar(f"sleep 600 & {said}", "sleep 600 & echo verified unobservable; exit 1")
         self.table("a checker that leaves something running", 0, GOOD, SC, PIPECHECK=leaving)
 

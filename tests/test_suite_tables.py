@@ -10,8 +10,8 @@ from typing import Any, Iterator
 from xml.etree import ElementTree
 
 from tests.cases import TOP, program, read, write
-from tests.suite_cases import BUFFER, CORR, EARLY, GOOD, MP, NO_FAULTS, SB, SC, TSO, TUTORIAL, SuiteCases, of_suite
-from tests.suite_cases import tabled, without_first_line
+from tests.suite_cases import BUFFER, CORR, EARLY, GOOD, MP, SB, SC, TSO, TUTORIAL, SuiteCases, of_suite, tabled
+from tests.suite_cases import without_first_line
 
 from tools.second.cores import without
 from tools.second.scopes import read_model
@@ -34,12 +34,7 @@ UNNAMED = (
 )
 # the in-order pipeline as a model of TSO, which it is too strict for, and its table beside one that shows too much
 STRICT = "% Memory model: tso\n" + without_first_line(SC)
-STRICT_ROWS = """\
-test  strict    tutorial-early
-MP    ok        BUG
-SB    stricter  ok
-"""
-STRICT_COUNT = "4 pairs: 2 ok, 1 BUG, 1 stricter, 0 time, 0 faults, in N s\n"
+STRICT_TABLE = "strict tutorial-early", "MP ok BUG, SB stricter ok", "2 ok, 1 BUG, 1 stricter"
 
 
 class OwnTests(SuiteCases):
@@ -110,12 +105,8 @@ class OwnTests(SuiteCases):
             self.same(f"the memory models that are known have {name}", name in known.replace(" and ", ", ").split(", "))
         for name, place, sentence, head in UNNAMED:
             self.put("mine.uspec", f"{head}\n{without_first_line(EARLY)}")
-            self.table(name, 2, f"""\
-test      mine
-unstated  unnamed
-WORK/mine.uspec:{place}: unnamed: {sentence}; known are NAMES, named once by a comment % Memory model: NAME
-1 pairs: 0 ok, 0 BUG, 0 stricter, 0 time, 1 faults, in N s
-""", "WORK/mine.uspec", SUITE_TABLE=table)
+            line = f"WORK/mine.uspec:{place}: unnamed: {sentence}; known are NAMES, named once by a comment % Memory model: NAME"
+            self.table(name, 2, tabled("mine", "unstated unnamed", "1 faults", line), "WORK/mine.uspec", SUITE_TABLE=table)
 
     def test_names_of_shipped_ones(self) -> None:
         """A row of the table of memory models is for the shipped test, and not for another one of its name."""
@@ -142,27 +133,18 @@ class Words(SuiteCases):
         self.writes("--differ shows the tests on which models differ", self.called("--differ", TUTORIAL, EARLY), 1,
                     tabled("tutorial tutorial-early", "MP ok BUG", "3 ok, 1 BUG"))
         self.same("a certificate has the whole name of its test", self.is_kept("tutorial-early/MP.test"))
-        self.same("the rows of a table are kept", read(f"{self.work}/kept/cells"), """\
-tutorial\tMP\tok
-tutorial\tSB\tok
-tutorial-early\tMP\tBUG
-tutorial-early\tSB\tok
-""")
+        kept = "tutorial\tMP\tok\ntutorial\tSB\tok\ntutorial-early\tMP\tBUG\ntutorial-early\tSB\tok\n"
+        self.same("the rows of a table are kept", read(f"{self.work}/kept/cells"), kept)
         self.table("--bad shows the tests that are not ok", 1, tabled("tutorial-early tutorial", "MP BUG ok", "3 ok, 1 BUG"),
                    "--bad", EARLY, TUTORIAL)
-        self.table("--bad shows no test where all are ok", 0, f"""\
-test  tutorial
-2 pairs: 2 ok, 0 BUG, {NO_FAULTS}""", "--bad", TUTORIAL)
+        self.table("--bad shows no test where all are ok", 0, tabled("tutorial", "", "2 ok"), "--bad", TUTORIAL)
         twice = (SC, f"{TOP}/{SC}", "WORK/tests", "WORK/tests/../tests/MP.test")
         self.table("a file that is named twice is taken once", 0, GOOD, *twice)
         self.put("tests/typo.test", read(MP).replace("(Data 0)", "(Data 7)"))
-        self.table("what lint says comes once, for all models and tests", 1, f"""\
-test  sc-inorder  tutorial-early
-MP    ok          BUG
-SB    ok          ok
-typo  ok          ok
-WORK/tests/typo.test:7:47: unwritten: the read gets 7, which is not the value of PA 0 0 at the start, and nothing writes it there
-6 pairs: 5 ok, 1 BUG, {NO_FAULTS}""", SC, EARLY)
+        said = "unwritten: the read gets 7, which is not the value of PA 0 0 at the start, and nothing writes it there"
+        self.table("what lint says comes once, for all models and tests", 1,
+                   tabled("sc-inorder tutorial-early", "MP ok BUG, SB ok ok, typo ok ok", "5 ok, 1 BUG",
+                          f"WORK/tests/typo.test:7:47: {said}"), SC, EARLY)
 
     def is_kept(self, pair: str) -> bool:
         """Whether there is a certificate of a pair."""
@@ -190,15 +172,8 @@ WORK/tests/typo.test:7:47: unwritten: the read gets 7, which is not the value of
         """The endings of words say what they are."""
         self.copy("tests", MP, SB)
         self.copy("patterns", "examples/patterns/MP.pattern")
-        table = f"""\
-test        tutorial  tutorial-early
-CoRR        ok        BUG
-MP          ok        BUG
-MP.pattern  ok        BUG
-SB          ok        ok
-SB.litmus   ok        ok
-WORK/patterns/MP.pattern: tutorial-early: shown though tso does not allow it: 1 0
-10 pairs: 7 ok, 3 BUG, {NO_FAULTS}"""
+        table = tabled("tutorial tutorial-early", "CoRR ok BUG, MP ok BUG, MP.pattern ok BUG, SB ok ok, SB.litmus ok ok",
+                       "7 ok, 3 BUG", "WORK/patterns/MP.pattern: tutorial-early: shown though tso does not allow it: 1 0")
         first, *rest = ("examples/x86/SB.litmus", "WORK/patterns", TUTORIAL, "WORK/tests", EARLY, CORR)
         self.table("a listing, a folder of patterns, a model, a folder of tests, a model, a test", 1, table, first, *rest)
         self.table("such words behind --, beside a folder of tests that no word names", 1, table, "--", first, *rest)
@@ -247,15 +222,11 @@ Microop 2 1 1 0 (Read (VA 1 0) (PA 1 0) (Data 1)). Microop 3 1 1 0 (Read (VA 0 0
 
     def test_locked(self) -> None:
         """A model that asks for the type of locked instructions, and one that does not."""
-        self.table("a model without locked instructions takes no test that has some", 0, """\
-test              tso-buffer  tso-ooo
-SB+fences         ok          ok
-SB+xchgs          ok          not taken
-SB+xchgs.pattern  ok          not taken
-examples/locked/SB+xchgs.test:4:23: not-asked: type Locked: no axiom of examples/models/tso-ooo.uspec asks for it, here and in 7 \
-more places
-6 pairs: 4 ok, 0 BUG, 0 stricter, 2 not taken, 0 time, 0 faults, in N s
-""", BUFFER, "examples/models/tso-ooo.uspec", "examples/locked/SB+xchgs.test", "examples/patterns/SB+xchgs.pattern",
+        said = "type Locked: no axiom of examples/models/tso-ooo.uspec asks for it, here and in 7 more places"
+        self.table("a model without locked instructions takes no test that has some", 0,
+                   tabled("tso-buffer tso-ooo", "SB+fences ok ok, SB+xchgs ok not_taken, SB+xchgs.pattern ok not_taken",
+                          "4 ok, 2 not taken", f"examples/locked/SB+xchgs.test:4:23: not-asked: {said}"), BUFFER,
+                   "examples/models/tso-ooo.uspec", "examples/locked/SB+xchgs.test", "examples/patterns/SB+xchgs.pattern",
                    "examples/tests/SB+fences.test")
         buggy = (f"examples/buggy/tso-buffer-{it}.uspec" for it in ("newest-alone", "merges-older"))
         self.table("two store buffers, each with a test that alone tells it", 1,
@@ -277,19 +248,13 @@ class Beside(SuiteCases):
     def test_status(self) -> None:
         """The status parts what is lost from what is too much."""
         self.table("what is lost alone", 3, tabled("strict", "MP ok, SB stricter", "1 ok, 1 stricter"), "WORK/strict.uspec")
-        self.table("what is lost, and too much beside it", 1, f"{STRICT_ROWS}{STRICT_COUNT}", "WORK/strict.uspec", EARLY)
+        self.table("what is lost, and too much beside it", 1, tabled(*STRICT_TABLE), "WORK/strict.uspec", EARLY)
 
     def test_baselines(self) -> None:
-        cells = self.put("cells", """\
-strict\tMP\tok
-strict\tSB\tstricter
-tutorial-early\tMP\tBUG
-tutorial-early\tSB\tok
-""")
+        cells = self.put("cells", "strict\tMP\tok\nstrict\tSB\tstricter\ntutorial-early\tMP\tBUG\ntutorial-early\tSB\tok\n")
         both = ("WORK/strict.uspec", EARLY)
-        self.writes("nothing is new", self.called("--baseline", cells, *both), 0, f"""\
-{STRICT_ROWS}nothing is new beside WORK/cells
-{STRICT_COUNT}""")
+        text = tabled(*STRICT_TABLE, "nothing is new beside WORK/cells")
+        self.writes("nothing is new", self.called("--baseline", cells, *both), 0, text)
         self.same("a baseline is what a suite keeps", read(f"{self.work}/kept/cells"), read(cells))
         self.table("a BUG and a fault are new", 2,
                    tabled("strict tutorial-early", "CoRR ok BUG, MP ok BUG, SB stricter ok, broken test:syntax test:syntax",
@@ -301,10 +266,8 @@ tutorial-early\tSB\tok
                    tabled("tutorial-early", "CoRR BUG, MP BUG", "2 BUG", "1 new BUG: tutorial-early CoRR",
                           "2 gone: model strict, test SB"), EARLY, MP, CORR, "--baseline", cells)
         write(cells, read(cells).replace("stricter", "ok").replace("strict\tMP\tok", "strict\tMP\tBUG"))
-        self.table("what was ok and is lost is new, and a BUG that is mended is gone", 3, f"""\
-{STRICT_ROWS}1 new stricter: strict SB
-1 gone: strict MP (BUG)
-{STRICT_COUNT}""", "--baseline", cells, *both)
+        text = tabled(*STRICT_TABLE, "1 new stricter: strict SB", "1 gone: strict MP (BUG)")
+        self.table("what was ok and is lost is new, and a BUG that is mended is gone", 3, text, "--baseline", cells, *both)
         write(cells, "MP ok\n")
         gone = "the baseline WORK/gone cannot be read: No such file or directory"
         none = r"the baseline WORK/cells has a line that is no model, test and cell: MP\ ok"
@@ -354,7 +317,6 @@ warning unwritten unwritten slip.test 7 47""")
         reader.join()
         self.same("a report goes into a pipe", "\n</testsuites>\n" in got[0])
         self.same("a pipe that gets a report stays one", stat.S_ISFIFO(os.stat(pipe).st_mode))
-
 
 
 class Keeping(SuiteCases):
@@ -433,18 +395,12 @@ exists microop "i", exists microop "j",
         # it says nothing of a test, and is passed over
         other = f"{self.work}/queries/other.query"
         write(other, read(other).partition("\n")[2])
+        text = tabled("tutorial", "commits.query ok, none.query query:stage-unknown, overtakes.query ok, wrong.query BUG_(never)",
+                      "2 ok, 1 BUG, 1 faults", "WORK/queries/none.query:4:69: stage-unknown: no stage has the name")
         for name, said in (
             ("a query is a row", ""), ("the answer to a query is kept", "suite: 3 pairs stand from WORK/store\n"),
         ):
-            self.writes(name, self.called("WORK/queries", TUTORIAL, SUITE_KEPT=self.store), 2, """\
-test             tutorial
-commits.query    ok
-none.query       query:stage-unknown
-overtakes.query  ok
-wrong.query      BUG (never)
-WORK/queries/none.query:4:69: stage-unknown: no stage has the name
-4 pairs: 2 ok, 1 BUG, 0 stricter, 0 time, 1 faults, in N s
-""", said)
+            self.writes(name, self.called("WORK/queries", TUTORIAL, SUITE_KEPT=self.store), 2, text, said)
         form = "% Expect: always, sometimes or never, and % Test: NAME"
         line = f"WORK/queries/other.query is no row of a table: it says so by one comment each, {form}"
         self.refuses("a query that does not say what it is asked of", line, other, SC)
