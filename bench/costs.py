@@ -32,15 +32,11 @@ import tempfile
 import time
 
 from costing import PROGRAM, Cost, Tree, kit, measure_all, simulate, total
+from counting import TOP, Misused
 
-TOP = os.path.dirname(os.path.dirname(os.path.realpath(__file__)))
 SLOWEST = 10
 LANES = (2, 4, 8)
 USAGE = "bench/costs.py [--between OLD NEW [--gate]] [--into FOLDER] [--minutes N] [--processors N] [NAME ..]"
-
-
-class Misused(Exception):
-    """Words that mean nothing here: what is wrong."""
 
 
 def commit_of(name: str) -> str:
