@@ -49,6 +49,30 @@ LISTINGS = {
     "again": "X86 again\n{ }\n P0 | P1 ;\n MOV [x],$1 | MOV EAX,[x] ;\n | MOV EAX,[x] ;\nexists (1:EAX=0)\n",
 }
 
+# what is said of a state, by a word
+WORDS = {
+    "both": "shown by both",
+    "unseen": "shown by the model and not seen",
+    "BUG": "BUG: the machine does what the model forbids",
+    "model": "the model shows what herd forbids",
+    "herd": "herd allows what the model forbids",
+}
+
+
+def lines(names: str, states: str, condition: str) -> str:
+    """What is said of a test with these variables: its states, by their values, with how often each came, and its condition in
+    the model and in the log."""
+    title, _, variables = names.partition(": ")
+    found = ""
+    for state in states.split(", "):
+        values, word, times = re.fullmatch(r"([\d ]+) (\w+)(?: (\d+))?", state).groups()  # type: ignore[union-attr]
+        count = f", {times} time{'' if times == '1' else 's'}" if times else ""
+        shown = " ".join(f"{it}={value};" for it, value in zip(variables.split(), values.split(), strict=True))
+        found += f"{title}: {shown}  {WORDS[word]}{count}\n"
+    form, model, log = condition.split()
+    return f"{found}{title}: {form}: {model} in the model, {log} in the log\n"
+
+
 SB_MACHINE = """Test SB Allowed
 Histogram (4 states)
 34    *>0:EAX=0; 1:EAX=0;
@@ -86,12 +110,7 @@ Hash=8a9c0f9f3b1d6c4b6f6a6d3c0e6f7a11
 Observation R Sometimes 8 4
 Time R 0.10
 """
-R_BOTH = """R: 1:EAX=0; [y]=1;  shown by both, 1 time
-R: 1:EAX=0; [y]=2;  shown by both, 8 times
-R: 1:EAX=1; [y]=1;  shown by both, 3 times
-R: 1:EAX=1; [y]=2;  shown by the model and not seen
-R: exists: Ok in the model, Ok in the log
-"""
+R_BOTH = lines("R: 1:EAX [y]", "0 1 both 1, 0 2 both 8, 1 1 both 3, 1 2 unseen", "exists Ok Ok")
 FRAME = """%%%%%%%%%%%%%%%%%%%%%%%%%
 % Results for SB.litmus %
 %%%%%%%%%%%%%%%%%%%%%%%%%
@@ -132,12 +151,7 @@ Time SB 0.00
 Hash=7dbd6b8e6dd4abc2ef3d48b0376fb2e3
 
 """
-SB_LISTED = """SB: 0:EAX=0; 1:EAX=0;  shown by both
-SB: 0:EAX=0; 1:EAX=1;  shown by both
-SB: 0:EAX=1; 1:EAX=0;  shown by both
-SB: 0:EAX=1; 1:EAX=1;  shown by both
-SB: exists: Ok in the model, Ok in the log
-"""
+SB_LISTED = lines("SB: 0:EAX 1:EAX", "0 0 both, 0 1 both, 1 0 both, 1 1 both", "exists Ok Ok")
 R_HERD = """Test R Allowed
 States 3
 1:EAX=0; y=1;
@@ -152,12 +166,7 @@ Time R 0.01
 Hash=8a9c0f9f3b1d6c4b6f6a6d3c0e6f7a11
 
 """
-R_LISTED = """R: 1:EAX=0; y=1;  shown by both
-R: 1:EAX=0; y=2;  shown by both
-R: 1:EAX=1; y=1;  shown by both
-R: 1:EAX=1; y=2;  the model shows what herd forbids
-R: exists: Ok in the model, Ok in the log
-"""
+R_LISTED = lines("R: 1:EAX y", "0 1 both, 0 2 both, 1 1 both, 1 2 model", "exists Ok Ok")
 
 
 @dataclass(frozen=True)
@@ -171,30 +180,6 @@ class Case:
     told: str = ""
     tests: tuple[str, ...] = ("SB",)
     model: str = BUFFERS
-
-
-# what is said of a state, by a word
-WORDS = {
-    "both": "shown by both",
-    "unseen": "shown by the model and not seen",
-    "BUG": "BUG: the machine does what the model forbids",
-    "model": "the model shows what herd forbids",
-    "herd": "herd allows what the model forbids",
-}
-
-
-def lines(names: str, states: str, condition: str) -> str:
-    """What is said of a test with these variables: its states, by their values, with how often each came, and its condition in
-    the model and in the log."""
-    title, _, variables = names.partition(": ")
-    found = ""
-    for state in states.split(", "):
-        values, word, times = re.fullmatch(r"([\d ]+) (\w+)(?: (\d+))?", state).groups()  # type: ignore[union-attr]
-        count = f", {times} time{'' if times == '1' else 's'}" if times else ""
-        shown = " ".join(f"{it}={value};" for it, value in zip(variables.split(), values.split(), strict=True))
-        found += f"{title}: {shown}  {WORDS[word]}{count}\n"
-    form, model, log = condition.split()
-    return f"{found}{title}: {form}: {model} in the model, {log} in the log\n"
 
 
 def counted(both: int, log_alone: int = 0, model_alone: int = 0, tests: int = 1, of: int = 1) -> str:
