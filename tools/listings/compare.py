@@ -169,7 +169,6 @@ def ask(answer: Answer, comparisons: Sequence[Comparison], checker: Checker, mod
     waiting: list[tuple[Comparison, Sweep]] = []
     for comparison in comparisons:
         try:
-            comparison.question.judge()
             waiting += [(comparison, sweep) for sweep in comparison.question.sweeps()]
             done.append(comparison)
         except Unasked as problem:

@@ -122,18 +122,12 @@ class Calls:
                 self.late.add(process)
                 end_group(process, signal.SIGKILL)
 
-    def stop(self) -> None:
-        """Ends all calls, and has none begin any more."""
+    def stop(self, is_forced: bool = False) -> None:
+        """Ends all calls, and has none begin any more; by force what has not ended though it was asked to."""
         with self.lock:
             self.is_stopped = True
             for process, ending in self.running.items():
-                end_group(process, ending)
-
-    def end_all(self) -> None:
-        """Ends what has not ended though it was asked to."""
-        with self.lock:
-            for process in self.running:
-                end_group(process, signal.SIGKILL)
+                end_group(process, signal.SIGKILL if is_forced else ending)
 
 
 def limited(command: Sequence[str], kib: int | None, seconds: float | None) -> list[str]:
@@ -191,7 +185,7 @@ def side_by_side(
     except BaseException:
         calls.stop()
         join(threads, GRACE)
-        calls.end_all()
+        calls.stop(is_forced=True)
         raise
     finally:
         join(threads, None)
