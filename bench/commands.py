@@ -49,7 +49,6 @@ def chosen(names: Words, there: list[str]) -> list[str]:
 
 
 def ask(*models: str) -> bool:
-    """A line for each question, and the greatest ratio."""
     rows = [line.split("\t") for line in Path(*of_examples("queries/answers.tsv")).read_text("ascii").splitlines()[1:]]
     ratios, known = [], chosen(models, sorted({row[1] for row in rows}))
     for query, model, test, word in rows:
@@ -64,7 +63,6 @@ def ask(*models: str) -> bool:
 
 
 def core(*models: str) -> bool:
-    """A line for each pair, and the greatest ratio."""
     ratios = []
     for model, test in product(chosen(models, names_of("models")), ("MP", "SB", "IRIW")):
         paths = shipped("models", model) + shipped("tests", test)
@@ -140,7 +138,6 @@ def lift_of(pair: Words) -> tuple[float, int, int] | None:
 
 
 def lift(which: str = "") -> bool:
-    """What lifting takes, on all shipped models with all tests, or with every tenth one."""
     if which not in ("", "all"):
         raise Misused(f"commands: lift takes all tests by `all`, and no {which}")
     tests = names_of("tests")[:: 1 if which else 10]
@@ -183,7 +180,6 @@ def graph(count: int, has_edges: bool) -> str:
 
 
 def verify() -> bool:
-    """What judging takes over finding, how it grows with the text, and its memory."""
     def judged(files: list[str], text: str) -> int:
         return instructions("verify", *files, *saved(text), says="verified ")
 
@@ -290,7 +286,6 @@ def long_text(count: int) -> str:
 
 
 def verify_lifted() -> bool:
-    """What judging a lifted refutation takes."""
     says, four = "verified unobservable\n", four_text()
     assert four.count("\n") == LINES
     full = heap_peak("verify-lifted", *saved(FOUR, fences_apart(64), four), says=says)

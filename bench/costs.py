@@ -40,7 +40,6 @@ USAGE = "bench/costs.py [--between OLD NEW [--gate]] [--into FOLDER] [--minutes 
 
 
 def commit_of(name: str) -> str:
-    """The whole name of a commit."""
     found = subprocess.run(
         ["git", "-C", TOP, "rev-parse", "--verify", "--quiet", f"{name}^{{commit}}"],
         capture_output=True, text=True, check=False,
@@ -62,7 +61,6 @@ def lay_out(commit: str, kept: str) -> Tree:
 
 
 def numbers(cost: Cost) -> str:
-    """The cells of a crate."""
     return "".join(f"{it:8.0f}" for it in (*cost[:4], cost.whole()))
 
 
@@ -121,7 +119,6 @@ def answer(asked: argparse.Namespace, kept: str) -> int:
 
 
 def main() -> int:
-    """Answers one call."""
     parser = argparse.ArgumentParser(usage=USAGE)
     parser.add_argument("--between", nargs=2, metavar=("OLD", "NEW"))
     parser.add_argument("--gate", action="store_true")

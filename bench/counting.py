@@ -172,7 +172,6 @@ def counted(*words: str, says: str = "") -> Counted:
 
 
 def instructions(*words: str, says: str = "") -> int:
-    """How many instructions the program takes."""
     return counted(*words, says=says).instructions
 
 

@@ -119,7 +119,6 @@ def tell_all(found: list[Asked]) -> bool:
 
 
 def main(words: list[str]) -> int:
-    """The tables, or one text."""
     if len(words) == 2 and words[0] in FAMILIES and words[1].isdecimal():
         print(drawn(words[0], int(words[1])), end="")
         return 0

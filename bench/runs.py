@@ -113,7 +113,6 @@ def tell_solver(name: str, found: solvers.Answered | None, verdicts: set[bool | 
 
 
 def tell_sweep(paths: list[str]) -> None:
-    """One line of `sweep`, of a pattern."""
     took = timed(LIMIT, os.devnull, program(), "sweep", *paths, calls=CALLS)
     count = counted("sweep", *paths)
     rows = [line for line in count.text.split("\n") if line.startswith("row ")]
@@ -159,7 +158,6 @@ def ask_many(count: int) -> None:
 
 
 def main(words: list[str]) -> int:
-    """The lines of the questions, or those of many runs."""
     if words[:1] == ["--many"] and all(word.isdecimal() for word in words[1:2]) and len(words) <= 2:
         ask_many(int(words[1]) if words[1:] else MANY)
         return 0

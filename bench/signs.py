@@ -93,7 +93,6 @@ def first_pairs() -> bool:
 
 
 def main(words: list[str]) -> int:
-    """The questions, and then the shipped pairs; or one question."""
     if len(words) not in (0, 2) or not all(word.isdecimal() for word in words):
         raise SystemExit(__doc__)
     if words:

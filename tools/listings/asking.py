@@ -75,7 +75,6 @@ class Question:
             yield tuple(self.value(variable, reads, sweep.finals) for variable in self.variables)
 
     def value(self, variable: Variable, reads: Mapping[int, int], finals: Mapping[Location, int]) -> int:
-        """The value of a variable at the end."""
         if variable.thread is None:
             location = self.program.locations[variable.name]
             return finals.get(location, self.program.initial.get(location, 0))

@@ -86,7 +86,6 @@ class Result:
         return "" if PASSED.fullmatch(line) else no_line(line)
 
     def take(self, found: list[tuple[str, Variable, int]], times: int) -> str:
-        """Takes in a state."""
         self.there += 1
         self.times += times
         spelled, variables, state = zip(*found)

@@ -99,7 +99,6 @@ class Program:
                 raise Fault("x86-column", end.at)
 
     def make(self, column: int, one: Instruction) -> None:
-        """Makes the micro-ops of an instruction."""
         target, source = one.target, one.source
         if target is None or source is None:
             self.add(column, "Fence", "MFENCE", types=("MFENCE",))

@@ -116,7 +116,6 @@ class Checker:
 
 
 def fault_of(status: int | None, first: bytes) -> Found:
-    """The fault of a call that gave no verdict."""
     refused = REFUSED.fullmatch(first)
     if status is None:
         return Found(fault=TIME)
