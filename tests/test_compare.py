@@ -11,7 +11,6 @@ import os
 import re
 import signal
 import subprocess
-import sys
 from contextlib import redirect_stderr
 from dataclasses import dataclass
 from functools import cache
