@@ -152,13 +152,10 @@ class Checkers(SuiteCases):
         return self.script("liar", f'case $1 in "") exit 2 ;; check) {checks} ;; verify) {verifies} ;; esac')
 
     def test_liars(self) -> None:
-        said = "echo unobservable; echo test forbidden: ok; exit 1"
+        said, judged = "echo unobservable; echo test forbidden: ok; exit 1", "echo verified unobservable; exit 1"
         for name, checks, verifies, cell in (
-            ("a status without its verdict", "exit 1", "echo verified unobservable; exit 1", "status:1"),
-            (
-                "a status with another verdict", "echo observable; echo test forbidden: BUG; exit 1",
-                "echo verified unobservable; exit 1", "status:1",
-            ),
+            ("a status without its verdict", "exit 1", judged, "status:1"),
+            ("a status with another verdict", "echo observable; echo test forbidden: BUG; exit 1", judged, "status:1"),
             ("a judge that is late", said, "sleep 600", "time"),
             ("a checker that is late", "sleep 600", "exit 1", "time"),
             ("a judge without its line", said, "exit 1", "certificate"),
@@ -169,7 +166,7 @@ class Checkers(SuiteCases):
             text = tabled("sc-inorder", f"MP {cell}, SB {cell}", "2 time" if cell == "time" else "2 faults")
             limit = {"SUITE_SECONDS": "10"} if "late" in name else {}
             self.table(name, 2, text, SC, PIPECHECK=self.liar(checks, verifies), **limit)
-        leaving = self.liar(f"sleep 600 & {said}", "sleep 600 & echo verified unobservable; exit 1")
+        leaving = self.liar(f"sleep 600 & {said}", f"sleep 600 & {judged}")
         self.table("a checker that leaves something running", 0, GOOD, SC, PIPECHECK=leaving)
 
     def test_memory(self) -> None:

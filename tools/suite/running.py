@@ -239,11 +239,6 @@ class Suite:
             elif found.stated == UNSTATED and found.verdict != verdict:
                 yield f"{shown(test.path)}: {model.name} says {found.verdict}, and the machine of {name} {verdict}"
 
-    def lines_of_fault(self, model: File, test: File, below: Sequence[str]) -> list[str]:
-        """The lines below the table that speak of the files of a pair without a verdict."""
-        paths = tuple(f"{shown(file.path)}:" for file in (model, test))
-        return [line for line in below if line.startswith(paths)] if self.found[model, test].fault else []
-
     def table(self, cells: Mapping[tuple[str, str], str], width: int | None) -> list[str]:
         """The table, with the rows that the options ask for."""
         models = [model.name for model in self.words.models]
