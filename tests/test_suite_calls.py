@@ -31,7 +31,7 @@ from tools.ending import SIGNALS as RECEIVED, Interrupted
 from tools.texts.memory_models import memory_model_of
 from tools.texts.quoting import quoted
 from tools.suite import kept
-from tools.suite.beside import Lint
+from tools.suite.beside import lint_lines
 from tools.suite.calling import Calls, side_by_side
 from tools.suite.files import File, model_file, test_file
 from tools.suite.keeping import Folder, State, write_anew
@@ -246,7 +246,7 @@ check) echo unobservable; echo test forbidden: ok ;;
 verify) echo verified unobservable ;;
 esac
 exit 1""")
-        self.lint_lines = Lint.lines
+        self.lint_lines = lint_lines
         for name, word in (
             ("a b", r"a\ b"), ("a\nb", r"$'a\nb'"), ("a&b", r"a\&b"), ("a\\b", r"a\\b"), ("a'b", r"a\'b"), ('a"b', r"a\"b"),
             ("a;b", r"a\;b"), ("a*", r"a\*"),

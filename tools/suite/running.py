@@ -8,7 +8,7 @@ from functools import partial
 from typing import Iterator, Mapping, Sequence
 
 from tools.suite.allowing import Machines, Rows, line_of_unnamed
-from tools.suite.beside import Lint
+from tools.suite.beside import lint_lines
 from tools.suite.calling import side_by_side
 from tools.suite.counting import Progress
 from tools.suite.files import Copies, File, in_order
@@ -92,9 +92,9 @@ class Suite:
         begun = time.monotonic()
         self.check_pairs(jobs)
         self.ask_machines(jobs, seconds)
-        lint = Lint(self.top, self.words.tests, self.checker.calls, seconds)
-        linted = side_by_side(self.checker.calls, jobs, [partial(lint.lines, model) for model in self.words.models])
-        below = self.lines_below(linted)
+        calls = self.checker.calls
+        lint = [partial(lint_lines, self.top, self.words.tests, calls, seconds, model) for model in self.words.models]
+        below = self.lines_below(side_by_side(calls, jobs, lint))
         cells = {(model.name, test.name): self.cell(model, test) for model, test in self.pairs}
         return Result(cells, self.table(cells, width), below, time.monotonic() - begun)
 
