@@ -6,7 +6,7 @@ clash by themselves are struck out. A last member left is asserted; with none le
 open, the least world is the witness.
 """
 from copy import copy
-from dataclasses import dataclass, replace
+from dataclasses import replace
 from typing import Callable
 
 from tools.second.cases import Case
@@ -18,20 +18,14 @@ from tools.second.orders import Order
 from tools.second.positions import Leaf
 
 Edge = tuple[Node, Node]
-
-
-@dataclass(frozen=True)
-class Witness:
-    """The nodes of a world, and the edges whose chains are its order."""
-
-    nodes: list[Node]
-    edges: list[Edge]
+# the nodes of a world, and the edges whose chains are its order
+Witness = tuple[list[Node], list[Edge]]
 
 
 def is_observable(model: Model, case: Case) -> bool:
     """Whether some world makes every axiom true; the witness is judged again by the written axioms."""
     witness = search(ground(model, case))
-    if witness is not None and false_axioms(model, case, witness.nodes, witness.edges):
+    if witness is not None and false_axioms(model, case, *witness):
         raise AssertionError("the witness makes an axiom false")
     return witness is not None
 
@@ -42,7 +36,7 @@ def search(tree: Tree) -> Witness | None:
     done = explore(branch) if branch.assert_tree(tree) else None
     if done is None:
         return None
-    return Witness([node for node, k in done.number.items() if done.order.present >> k & 1], list(done.edges))
+    return [node for node, k in done.number.items() if done.order.present >> k & 1], list(done.edges)
 
 
 def explore(branch: "Branch") -> "Branch | None":
