@@ -11,7 +11,7 @@ from typing import Callable
 
 from tools.second.cases import Case
 from tools.second.evaluating import false_axioms
-from tools.second.grounding import Conjunction, Disjunction, Literal, Tree, ground, nodes_of
+from tools.second.grounding import Group, Literal, Tree, ground, nodes_of
 from tools.second.meaning import Node
 from tools.second.models import Model
 from tools.second.orders import Order
@@ -67,7 +67,7 @@ class Branch:
         self.number = {node: k for k, node in enumerate(nodes)}
         self.order = Order(len(nodes))
         self.edges: dict[Edge, None] = {}
-        self.disjunctions: list[Disjunction] = []
+        self.disjunctions: list[Group] = []
 
     def copy(self) -> "Branch":
         other = copy(self)
@@ -82,9 +82,9 @@ class Branch:
         """Asserts a tree; False where the branch clashes, and is then of no further use."""
         if isinstance(tree, bool):
             return tree
-        if isinstance(tree, Conjunction):
+        if isinstance(tree, Group) and tree.is_conjunction:
             return all(self.assert_tree(member) for member in tree.members)
-        if isinstance(tree, Disjunction):
+        if isinstance(tree, Group):
             self.disjunctions.append(tree)
             return True
         leaf = self.leaf(tree)
@@ -102,13 +102,13 @@ class Branch:
         if isinstance(tree, Literal):
             return is_true(self.leaf(tree))
         found = (self.holds(member, is_true) for member in tree.members)
-        return all(found) if isinstance(tree, Conjunction) else any(found)
+        return all(found) if tree.is_conjunction else any(found)
 
-    def members_left(self, disjunction: Disjunction) -> list[Tree]:
+    def members_left(self, disjunction: Group) -> list[Tree]:
         """The members that are not struck out: those that do not close the branch by one literal alone."""
         return [it for it in disjunction.members if self.holds(it, lambda leaf: not self.order.would_clash(leaf))]
 
-    def open_disjunctions(self) -> list[Disjunction]:
+    def open_disjunctions(self) -> list[Group]:
         """The disjunctions that the least world does not make true."""
         return [it for it in self.disjunctions if not self.holds(it, self.order.is_true)]
 

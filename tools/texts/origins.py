@@ -3,7 +3,7 @@ took, the macro, and the label of an edge."""
 from dataclasses import dataclass
 
 from tools.second.cases import Case
-from tools.second.grounding import Conjunction, Disjunction, Grounder, Literal, Tree, nested
+from tools.second.grounding import Grounder, Group, Literal, Tree, nested
 from tools.second.meaning import Environment
 from tools.second.models import Axiom, Binary, Edges, Expand, Formula, Model, Nodes, Not, Quantified, Static
 from tools.second.positions import Positions
@@ -132,6 +132,6 @@ class TracedPositions(Positions):
             here, above = waiting.pop()
             origin = grounder.origins[id(here)][1] if id(here) in grounder.origins else above
             self.origins.append(origin)
-            if isinstance(here, (Conjunction, Disjunction)):
+            if isinstance(here, Group):
                 left, right = here.members
                 waiting += [(right, origin), (left, origin)]
