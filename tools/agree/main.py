@@ -49,7 +49,7 @@ from tools.agree.comparing import (
 from tools.agree.comparing_programs import Comparison
 from tools.agree.counts import Counts, tell
 from tools.agree.small_programs import MOST_ACCESSES, MOST_LOCATIONS, Shape, shapes_of
-from tools.agree.table import rows_of
+from tools.agree.table import TABLE, rows_of
 from tools.agree.working import ENDING, Unusable, Workers
 from tools.ending import SIGNALS
 from tools.second.patterns import ENDING as PATTERN
@@ -107,7 +107,8 @@ def compare_files(pairs: list[Pair], counts: Counts) -> None:
 def compare_table() -> int:
     """Prints each row of the tables that its machine does not say, and answers how many there are."""
     differ = 0
-    for name, test, allowed in [*rows_of(""), *rows_of("translation")]:
+    folders = [it for it in ("", "translation") if os.path.exists(os.path.join(TOP, "examples", it, TABLE))]
+    for name, test, allowed in [row for folder in folders for row in rows_of(folder)]:
         if is_allowed(name, shipped_test(test)) != allowed:
             differ += 1
             print(f"the table {name} {test}: the machine says {'no' if allowed else 'yes'}")
