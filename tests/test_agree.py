@@ -239,12 +239,10 @@ exec "{program()}" "$@"
 
 
 def children_of(process: int) -> list[int]:
-    """The processes that a process started."""
     return [*map(int, run(["pgrep", "-P", str(process)]).out.split())]
 
 
 def is_group(number: int) -> bool:
-    """Whether there is a process in this group."""
     return run(["pgrep", "-g", str(number)]).status == 0
 
 

@@ -239,7 +239,6 @@ ZEROS, NINES = "0" * 5_000, "9" * 5_000
 
 
 def marked(marks: str) -> str:
-    """The read, with these marks."""
     return READ.replace("1 0))", f"{marks}))")
 
 

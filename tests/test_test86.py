@@ -237,7 +237,6 @@ class Maker:
 
 
 def line_of(fault: Fault, listing: bytes) -> str:
-    """The line of a refusal."""
     return f"refused test {fault.word} at {line_and_column(listing, fault.place)}\n"
 
 

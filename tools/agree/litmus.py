@@ -148,7 +148,6 @@ def test_of_text(whole: str) -> Test:
 
 
 def numbers(words: str) -> tuple[int, ...]:
-    """The numbers among words."""
     return tuple(map(int, re.findall(r"\b\d+\b", words)))
 
 

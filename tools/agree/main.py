@@ -147,7 +147,6 @@ def compare_programs(options: Namespace, by_program: bool, counts: Counts) -> No
 
 
 def compare(options: Namespace) -> int:
-    """Compares everything and answers the exit status."""
     by_program = not options.reading and bool(sweeper().words)
     counts, is_swept = Counts(), True
     if options.random or options.all:
@@ -204,7 +203,6 @@ def parser() -> ArgumentParser:
 
 
 def named_shapes(words: str) -> tuple[Shape, ...]:
-    """The shapes that words name."""
     try:
         return shapes_of(words)
     except ValueError as error:

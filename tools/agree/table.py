@@ -40,7 +40,6 @@ def rows_of(folder: str) -> Iterator[tuple[str, str, bool]]:
 
 
 def main(words: list[str]) -> None:
-    """Writes the header and the rows."""
     kinds, machines = (("translation/*.test",), ("tlb",)) if words == ["translation"] else (KINDS, MACHINES)
     paths = [path for kind in kinds for path in glob(f"{escape(TOP)}/examples/{kind}")]
     named = sorted((os.path.basename(path).removesuffix(".test"), path) for path in paths)

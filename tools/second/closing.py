@@ -60,7 +60,6 @@ class Alternatives:
         return next((choice for count in (0, 1) for choice in choices if left[choice] == count), None)
 
     def open_count(self, order: Order, choice: Signed) -> int:
-        """How many alternatives are not closed."""
         return sum(not self.is_closed(order, place) for place in self.of(choice))
 
 

@@ -33,7 +33,6 @@ class Clauses:
         return self.variables
 
     def truth(self) -> int:
-        """A variable that is true."""
         variable = self.new_variable()
         self.clauses.append([variable])
         return variable

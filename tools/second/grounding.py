@@ -113,7 +113,6 @@ class Grounder(Meaning):
                 yield inside
 
     def atoms(self, formula: Nodes | Edges, env: Environment) -> list[tuple[Node, Node | None]]:
-        """The nodes and edges of a list."""
         if isinstance(formula, Nodes):
             return [(self.node(term, env), None) for term in formula.members]
         return [(self.node(term.start, env), self.node(term.end, env)) for term in formula.members]

@@ -123,7 +123,6 @@ class ListingReader(Reader):
         return tuple(cells), self.expect(";")
 
     def cell(self) -> Instruction | None:
-        """A cell, which may be empty."""
         if self.sees("MFENCE"):
             return Instruction(self.take())
         if not self.sees("MOV"):

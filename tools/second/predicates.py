@@ -13,12 +13,10 @@ Row = tuple[tuple[str, ...], Callable[..., bool]]
 
 
 def of_one(test: Callable[[Op], bool]) -> Row:
-    """A predicate of a micro-op."""
     return (MICROOP,), lambda case, i: test(case.ops[i])
 
 
 def of_pair(test: Callable[[Op, Op], bool]) -> Row:
-    """A predicate of two micro-ops."""
     return (MICROOP, MICROOP), lambda case, i, j: test(case.ops[i], case.ops[j])
 
 

@@ -11,7 +11,6 @@ from tools.second.meaning import Node
 
 
 def name(node: Node) -> str:
-    """A node's part of a symbol."""
     return "_".join(map(str, node))
 
 

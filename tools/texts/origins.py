@@ -76,7 +76,6 @@ class TracingGrounder(Grounder):
         self.steps = 0
 
     def axioms(self) -> Tree:
-        """The tree of all axioms."""
         members = []
         for axiom in self.model.axioms:
             self.axiom = axiom
@@ -109,7 +108,6 @@ class TracingGrounder(Grounder):
         return self.note(super().tree(formula, env, wanted), formula)
 
     def quantified(self, formula: Quantified, env: Environment, wanted: bool) -> Tree:
-        """The body for each value of the variable."""
         members = []
         for inside in self.open_values(formula, env):
             is_chosen = formula.universal is not wanted

@@ -90,7 +90,6 @@ def op_text(op: Op) -> str:
 
 
 def address_text(address: Address) -> str:
-    """A physical address, in brackets."""
     return f"(PA {address.tag} {address.index})" if isinstance(address, Page) else f"({address})"
 
 

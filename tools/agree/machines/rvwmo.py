@@ -43,8 +43,6 @@ def outcomes(test: Test) -> set[Outcome]:
 
 
 class Rules:
-    """The rules on one test."""
-
     def __init__(self, test: Test) -> None:
         self.test = test
         self.ops = {op.place: op for op in test.ops}
