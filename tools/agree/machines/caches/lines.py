@@ -49,12 +49,7 @@ class State(NamedTuple):
 IsOldest = Callable[[tuple[Op, ...]], bool]
 
 
-def is_first(waiting: tuple[Op, ...]) -> bool:
-    """Whether no micro-op before it is left."""
-    return not waiting
-
-
-def outcomes(test: Test, is_oldest: IsOldest = is_first) -> set[Outcome]:
+def outcomes(test: Test, is_oldest: IsOldest = lambda waiting: not waiting) -> set[Outcome]:
     def steps(state: State) -> Iterator[State]:
         for k, (core, ops) in enumerate(zip(state.cores, test.cores)):
             for asking in asks(test, core, ops, is_oldest):
