@@ -160,6 +160,17 @@ NODES = [
         model=LINE + HIT + 'Axiom "a": forall microops "l", NodeExists (l, Line) => ~NodeExists (l, (5, @T)).',
         lines=["M@2: two-places: (l, (5, T)) here, and (i, T) in 3 places: where the core is another, these are two nodes"]),
 ]
+# what the first axioms give, so that those on two writes need not be looked at
+GIVEN = """StageName 3 "Memory".
+Axiom "drain": forall microops "w", IsAnyWrite w => AddEdge ((w, T), (w, (0, Memory))).
+DefineMacro "Behind" "v" "w": IsAnyWrite v /\\ IsAnyWrite w /\\ ProgramOrder v w.
+Axiom "queue": forall microops "v", forall microops "w",
+  ExpandMacro Behind v w => AddEdge ((v, (0, Memory)), (w, (0, Memory))).
+"""
+LOOKED_AT = Row("free-node: a node in a test of 64 micro-ops, by a few steps for each",
+    [f"M@1: free-node: no axiom gives stage Line to the write 0.0 of T, {FREE}, and 63 more of them"], LINE + GIVEN + HIT,
+    (ops(*(f"{k} 0 0 0 (Write (VA 0 0) (PA 0 0) (Data {k + 1}))" for k in range(63)),
+         "63 0 0 0 (Read (VA 0 0) (PA 0 0) (Data 0))"),))
 BOUND = "is bound again, so that the body does not see the one further outside"
 NAMES = [
     Row("unused-stage: a stage that no axiom names", ["M@1: unused-stage: no axiom names stage Line"], 'StageName 2 @"Line".',
@@ -558,6 +569,10 @@ class Slips(Cases):
         for row in NEW_PREDICATES:
             if self.is_wanted(row.name):
                 self.judge_row(row, RIGHT)
+
+    def test_what_is_given(self) -> None:
+        with replaced(linting_nodes, "STEPS", 2_000):
+            self.judge_row(LOOKED_AT, RIGHT)
 
     def judge_row(self, row: Row, base: str) -> None:
         texts = {"M": f"{base}{row.model}\n", **dict(zip("TU", row.tests)), **({"Q.query": row.query} if row.query else {})}
