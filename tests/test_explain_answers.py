@@ -23,7 +23,7 @@ MOST_INDENT = 40
 # a micro-op, and the order of its stages S0, S1 and so on: each step of it is a choice, whose other side is closed by
 # one more split; all steps together are a cycle
 CHOICE = '(AddEdge ((i, S{0}), (i, S{1})) \\/ NodeExists (i, X{0})) /\\ (~NodeExists (i, X{0}) \\/ ~NodeExists (i, X{0}))'
-# two choices with the same sides
+# of two choices with the same sides
 SAID_OF_ODDS = """split 1: axiom "S is in some order" at 3:1, i = 0.0, j = 1.0
 left of split 1: 0.0@0:S before 1.0@0:S
   split 5: axiom "T is in some order" at 5:1, i = 0.0, j = 1.0

@@ -251,6 +251,7 @@ EDGES = [
         last('~exists microop "v", IsAnyRead v /\\ @EdgesExist [((w, T), (v, T)); ((v, T), (r, S))]')),
     Row("no-order: that no write comes before has no test", [f"M@1: {NO_ORDER}"],
         last('~exists microop "v", IsAnyWrite v /\\ @EdgesExist [((v, T), (w, T)); ((v, T), (r, S))]')),
+    Row("no-order: a list without an edge", model='Axiom "x": forall microops "i", EdgesExist [] => NodeExists (i, T).'),
 ]
 SYNC = "(Fence SYNC)"
 COUNTS = [
