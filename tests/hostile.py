@@ -314,8 +314,9 @@ class Runs:
     def failing_output(self, args: Words) -> None:
         """A full device, a closed output, a pipe that nobody reads: status 5."""
         kind = self.random.choice(("full", "closed", "unread"))
-        with cases.without_output(kind) as how:
-            status, _ = self.call(args, **how)
+        # a worker makes so many of these calls that none of them may leave a file open
+        with open("/dev/full", "wb") as full, cases.without_output("closed" if kind == "full" else kind) as how:
+            status, _ = self.call(args, **({"stdout": full} if kind == "full" else how))
         if status != 5:
             raise Wrong(f"{args}: status {status} where the output is {kind}")
 

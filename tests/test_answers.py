@@ -8,7 +8,7 @@ import resource
 import shutil
 from typing import Sequence
 
-from tests.cases import TOP, Cases, command_forms, copy_checkout, pipecheck, program, read, run, unread, within, write
+from tests.cases import TOP, Cases, Done, command_forms, copy_checkout, pipecheck, program, read, run, unread, within, write
 
 PO, REVERSE = "examples/po.uspec", "examples/po-and-reverse.uspec"
 IN_ORDER, BUFFER = "examples/in-order.uspec", "examples/store-buffer.uspec"
@@ -970,9 +970,8 @@ pipecheck: `Litmus` or `Litmus2` is expected
         """Where it fails, whatever the words, nothing is seen of what was written."""
         check, itself, script = ["check", PO, TWO], [program()], [pipecheck()]
         with open("/dev/full", "wb") as full, open(TWO, "rb") as read_only, open(f"{self.work}/answer", "w+b") as kept:
-            self.gives("a file as standard output", [*itself, *check], stdout=kept)
-            kept.seek(0)
-            self.assertEqual(kept.read().decode(), ORDERED)
+            done = run([*itself, *check], stdout=kept)
+            self.same("a file as standard output", (done, read(kept.name)), (Done(0, "", ""), ORDERED))
             for name, words, said in (
                 ("a full device as standard output", [*itself, *check], ""),
                 ("a full device, with no words", itself, ""),
@@ -996,3 +995,12 @@ pipecheck: `Litmus` or `Litmus2` is expected
         with unread() as pipe:
             self.gives("a pipe that nobody reads", [program(), "check", PO, TWO], 5, stdout=pipe)
             self.gives("a standard error that nobody reads", [pipecheck(), "check", PO, TWO], stdout=pipe, stderr=pipe)
+
+    def test_files_of_hostile(self) -> None:
+        from tests.hostile import Random, Runs
+
+        runs, before = Runs(self.work, self.work), os.listdir("/proc/self/fd")
+        runs.random = Random(1)
+        for _ in range(30):
+            runs.failing_output(["check", PO, TWO])
+        self.same("outputs of hostile that fail leave no file open", os.listdir("/proc/self/fd"), before)
