@@ -16,6 +16,7 @@ from typing import Any, Callable, Iterable, Sequence
 from tests.cases import (
     TOP, Cases, Done, call, commands_without, pipecheck, program, read, replaced, run, without_output, without_proofs, write
 )
+from tests.test_answers import UNWRITTEN
 
 from tools.lint import main as lint
 from tools.lint import idle as linting_idle
@@ -187,13 +188,10 @@ NAMES = [
         model='DefineMacro "Pass": NodeExists (i, S).\nAxiom "x": forall microops "i", ExpandMacro Pass.'),
     Row("shadowed: a parameter and a name", [f"M@1: shadowed: a {BOUND}", f"M@2: shadowed: i {BOUND}"],
         'DefineMacro "P" "a": (@forall microops "a", NodeExists (a, S)) /\\ NodeExists (a, S).\n'
-        'Axiom "x": forall microops "i", (@forall microops "i", ExpandMacro P i) /\\ NodeExists (i, S).'),
+        'Axiom "x": forall microops "i", (@forall microops "i", ExpandMacro P i) /\\ NodeExists (i, S).', meant="a i"),
     Row("shadowed: a macro's own name hides nothing of where it is expanded",
         model='DefineMacro "P" "a": forall microops "b", NodesExist [(a, S); (b, S)].\n'
         'Axiom "x": forall microops "b", ExpandMacro P b.'),
-    Row("shadowed: one that is meant",
-        model='Axiom "x": forall microops "i", (forall microops "i", NodeExists (i, S)) /\\ NodeExists (i, S).\n'
-        "% Lint allows: shadowed i"),
 ]
 TWO = "where the core is another, these are two nodes"
 PLACES = [
@@ -655,7 +653,6 @@ FORBIDDEN = (
     ("a shipped test that forbids what tso allows", "", "models/tso-ooo", None),
     ("a bug that its memory model forbids", "", "buggy/tutorial-early", MP_OF_OWN),
 )
-UNWRITTEN = "pipecheck: standard output could not be written: what it got is not the whole answer\n"
 # standard output that takes nothing
 UNTAKEN = (
     ("a full device", "full", ["good.uspec", "slip.test"], UNWRITTEN),
