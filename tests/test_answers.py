@@ -1001,7 +1001,9 @@ pipecheck: `Litmus` or `Litmus2` is expected
             self.gives("a standard error that nobody reads", [pipecheck(), "check", PO, TWO], stdout=pipe, stderr=pipe)
 
     def test_files_of_hostile(self) -> None:
-        from tests.hostile import Random, Runs
+        from random import Random
+
+        from tests.hostile import Runs
 
         runs, before = Runs(self.work, self.work), os.listdir("/proc/self/fd")
         runs.random = Random(1)

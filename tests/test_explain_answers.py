@@ -6,7 +6,8 @@ from __future__ import annotations
 import re
 
 from tests.cases import Cases, Done, pipecheck, program, run, without_proofs, write
-from tests.test_explain import ONE, PLAIN, explained, odds, refutation_of_odds
+from tests.test_answers import ONE
+from tests.test_explain import PLAIN, explained, odds, refutation_of_odds
 
 SC, TSO, TUTORIAL = (f"examples/models/{name}.uspec" for name in ("sc-inorder", "tso-ooo", "tutorial"))
 LONG = (SC, "examples/tests/3.SB+fences.test", "examples/certificates/3.SB+fences.txt")
