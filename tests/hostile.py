@@ -48,12 +48,15 @@ from tools.second.scopes import read_model
 from tools.second.searching import is_observable
 from tools.second.main import Refused, core, file_bytes, judged, run
 from tools.standing import tested
+from tools.telling.files import rows_of
 
 TESTED = tested(TOP)
 PROGRAM = TESTED.path
 SECONDS_OF_A_CALL = 20
 SECONDS_OF_A_READING = 5
 UNOBSERVABLE = b"verified unobservable\n"
+# the words that docs/faults.md has for the faults of each file
+WORDS = {kind: dict(rows_of(f"{TOP}/docs/faults.md", f"| word of a {kind} |")) for kind in ("model", "test")}
 Answer = tuple[int, bytes]
 Words = list[str | bytes]
 
@@ -64,22 +67,6 @@ class Wrong(Exception):
 
 class Late(Exception):
     """The program, or the second implementation, took longer than it may."""
-
-
-def fault_words() -> dict[str, set[str]]:
-    """The words that docs/faults.md has for the faults of each file."""
-    words: dict[str, set[str]] = {}
-    with open(os.path.join(TOP, "docs", "faults.md"), encoding="utf-8") as page:
-        for line in page:
-            head = re.match(r"\| word of a (\w+) ", line)
-            if head:
-                found = words.setdefault(head[1], set())
-            elif line.startswith("|") and words:
-                found.update(re.findall(r"`([a-z-]+)`", line.split("|")[1]))
-    return words
-
-
-WORDS = fault_words()
 
 
 def within(work: Callable[..., Any], *args: Any, seconds: float = SECONDS_OF_A_READING) -> Any:
