@@ -18,7 +18,7 @@ from contextlib import suppress
 from itertools import count
 from typing import Callable, NamedTuple, Sequence
 
-from tests.cases import Cases
+from tests.cases import Cases, write
 
 # where these stand tests.cases says
 from tools.install import installer
@@ -72,9 +72,7 @@ class Room(NamedTuple):
         for name, text in files.items():
             path = os.path.join(self.path, version, name)
             os.makedirs(os.path.dirname(path), exist_ok=True)
-            with open(path, "w", encoding="ascii") as file:
-                file.write(f"{text}# {version}\n")
-            os.chmod(path, 0o755 if text.startswith("#!") else 0o644)
+            os.chmod(write(path, f"{text}# {version}\n"), 0o755 if text.startswith("#!") else 0o644)
 
     def install(self, version: str) -> None:
         """An install or update from the checkout of a version."""
@@ -100,11 +98,10 @@ class Room(NamedTuple):
         os.symlink("../lib/pipecheck/pipecheck", os.path.join(self.prefix, "bin", "pipecheck"))
         os.symlink("../lib/pipecheck/examples/suite", os.path.join(self.prefix, "bin", "pipecheck-suite"))
         for name, begin in FORMER.items():
-            with open(os.path.join(self.prefix, name), "wb") as file:
-                file.write(begin + b"\n")
+            write(os.path.join(self.prefix, name), begin + b"\n")
         lines = [f"file {name}" for name in ("bin/pipecheck", "bin/pipecheck-suite", *FORMER)] + ["tree lib/pipecheck"]
-        with open(os.path.join(tree, "installed"), "w", encoding="ascii") as file:
-            file.write("\n".join(lines + [f"folder {self.prefix}/{name}" for name in reversed(made)]) + "\n")
+        lines += [f"folder {self.prefix}/{name}" for name in reversed(made)]
+        write(os.path.join(tree, "installed"), "".join(f"{it}\n" for it in lines))
 
 
 def texts(folder: str) -> Texts:
@@ -238,8 +235,7 @@ def prepare(room: Room, case: Case) -> Texts:
     if not case.is_alone:
         for name in ("bin/mine", "share/man/man1/mine.1", "lib/mine/file"):
             os.makedirs(os.path.dirname(os.path.join(room.prefix, name)), exist_ok=True)
-            with open(os.path.join(room.prefix, name), "w", encoding="ascii") as file:
-                file.write("mine\n")
+            write(os.path.join(room.prefix, name), "mine\n")
     own = texts(room.around)
     if case.before == "installed":
         room.install("1")
@@ -259,8 +255,7 @@ def put(found: Texts, folder: str) -> None:
         elif text.startswith("-> "):
             os.symlink(text[3:], path)
         else:
-            with open(path, "w", encoding="ascii") as file:
-                file.write(text)
+            write(path, text)
 
 
 def run_case(room: Room, case: Case, new: Texts) -> int:

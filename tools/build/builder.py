@@ -20,7 +20,7 @@ from typing import Iterator
 
 from tools import TOP
 from tools.build import make_program, make_unproved
-from tools.build.making import OUT, Failed, Job, NothingMade, asked, put, put_over, say
+from tools.build.making import OUT, Failed, Job, NothingMade, asked, crates, put, put_over, say
 from tools.build.processes import SIGNALS
 from tools.build.versions import origin, program_line
 from tools.ending import Interrupted
@@ -31,11 +31,6 @@ MAKERS = {"pipecheck": make_program.make, "unproved": make_unproved.make}
 
 class Hindered(Exception):
     """Nothing is done, and why."""
-
-
-def crates() -> list[str]:
-    """The crates that the program is made of; none where they could not be read."""
-    return (asked("parts") or "").split()
 
 
 def stands(kind: str) -> bool:
