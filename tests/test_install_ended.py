@@ -62,10 +62,6 @@ class Room(NamedTuple):
         """The prefix that is installed under."""
         return os.path.join(self.around, self.name)
 
-    def program(self, version: str) -> str:
-        """The program of a version."""
-        return os.path.join(self.path, version, "program")
-
     def make(self, version: str) -> None:
         """Makes the checkout of a version. A later one has a file more and one less."""
         files = {**FILES, "program": "#!/bin/sh\n", f"docs/{version}.md": "page\n"}
@@ -77,7 +73,7 @@ class Room(NamedTuple):
     def install(self, version: str) -> None:
         """An install or update from the checkout of a version."""
         installer.TOP = os.path.join(self.path, version)
-        installer.Installation(self.prefix).install(self.program(version), f"version {version}")
+        installer.Installation(self.prefix).install(f"{installer.TOP}/program", f"version {version}")
 
     def uninstall(self) -> None:
         """An uninstall; that there is nothing is no fault."""
@@ -94,7 +90,7 @@ class Room(NamedTuple):
             os.makedirs(os.path.join(self.prefix, folder), exist_ok=True)
         for name in ("README.md", "commands.txt", "docs", "editors", "examples", "pipecheck", "tools"):
             installer.copy(os.path.join(self.path, "1", name), os.path.join(tree, name))
-        installer.copy(self.program("1"), os.path.join(tree, "pipecheck_cli"))
+        installer.copy(os.path.join(self.path, "1", "program"), os.path.join(tree, "pipecheck_cli"))
         os.symlink("../lib/pipecheck/pipecheck", os.path.join(self.prefix, "bin", "pipecheck"))
         os.symlink("../lib/pipecheck/examples/suite", os.path.join(self.prefix, "bin", "pipecheck-suite"))
         for name, begin in FORMER.items():
@@ -123,22 +119,11 @@ def texts(folder: str) -> Texts:
     return found
 
 
-def tree_of(command: str) -> str:
-    """The folder of the tree that a command is of."""
-    file = LINKS[f"bin/{os.path.basename(command)}"]
-    return os.path.realpath(command).removesuffix(f"/{file}")
-
-
-def texts_of(tree: str) -> Texts:
-    """What a tree has, without its list."""
-    return {name: text for name, text in texts(tree).items() if not name.startswith("installed")}
-
-
 def commands(room: Room) -> list[Texts]:
-    """The trees of the commands that are there."""
-    paths = [os.path.join(room.prefix, "bin", name) for name in ("pipecheck", "pipecheck-suite")]
-    trees = [tree_of(path) for path in paths if os.path.exists(path)]
-    found = {tree: texts_of(tree) for tree in set(trees)}
+    """What the trees of the commands that are there have, without their lists."""
+    names = [name for name in ("bin/pipecheck", "bin/pipecheck-suite") if os.path.exists(f"{room.prefix}/{name}")]
+    trees = [os.path.realpath(f"{room.prefix}/{name}").removesuffix(f"/{LINKS[name]}") for name in names]
+    found = {tree: {name: text for name, text in texts(tree).items() if not name.startswith("installed")} for tree in set(trees)}
     return [found[tree] for tree in trees]
 
 
@@ -352,7 +337,7 @@ class InARoom(Cases):
             cls.room.make(version)
         prepare(cls.room, CASES[0])
         cls.room.install("2")
-        cls.new = texts_of(tree_of(os.path.join(cls.room.prefix, "bin", "pipecheck")))
+        cls.new = commands(cls.room)[0]
 
     def walk(self, name: str, cases: Sequence[Case], run_one: Callable[[Room, Case, Texts], int], least: int) -> None:
         """Each of these cases, of which each has at least so many changes."""

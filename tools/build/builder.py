@@ -16,7 +16,7 @@ import os
 import shutil
 import subprocess
 import sys
-from typing import Iterator
+from typing import Callable, Iterator
 
 from tools import TOP
 from tools.build import make_program, make_unproved
@@ -132,10 +132,8 @@ def main(work: str, *words: str) -> int:
     """Does it, and says what hinders it."""
     SIGNALS.receive()
     try:
-        if work == "make":
-            make(*words)
-        else:
-            {"prove": prove, "clean": clean, "version": version}[work]()
+        works: dict[str, Callable[..., None]] = {"make": make, "prove": prove, "clean": clean, "version": version}
+        works[work](*words)
     except (Hindered, Failed) as problem:
         say(str(problem))
         return 1
