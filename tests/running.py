@@ -35,6 +35,8 @@ HEADS = {"ok": "ok      ", "failed": "FAILED  ", "skipped": "skipped "}
 # how a process ends that has run all of its class
 AT_ITS_END = 86
 SIGNALS = Signals()
+# how deep Python may go in the classes of each module, which may say so as it is read
+DEPTHS: dict[str, int] = {}
 Class = type[unittest.TestCase]
 
 
@@ -95,10 +97,16 @@ def families() -> list[str]:
 
 def classes_of(family: str) -> list[Class]:
     """The classes of cases of a family: those of its module with a test method of their own."""
+    depth = sys.getrecursionlimit()
     try:
         module = importlib.import_module(f"tests.test_{family}")
     except (Exception, SystemExit) as fault:  # pylint: disable=broad-exception-caught
         return [unread(family, fault)]
+    finally:
+        # what it says of Python is not for what is read later
+        DEPTHS[f"tests.test_{family}"] = sys.getrecursionlimit()
+        sys.setrecursionlimit(depth)
+        sys.dont_write_bytecode = False
     own = [it for it in vars(module).values() if isinstance(it, type) and it.__module__ == module.__name__]
     return [it for it in own if issubclass(it, unittest.TestCase) and any(name.startswith("test") for name in vars(it))]
 
@@ -124,6 +132,7 @@ def begin(its: Class) -> tuple[int, IO[bytes]]:
         try:
             for it in SIGNALS.received:
                 signal.signal(it, signal.SIG_DFL)
+            sys.setrecursionlimit(DEPTHS.get(its.__module__, sys.getrecursionlimit()))
             os.dup2(file.fileno(), 1)
             with open(1, "w", encoding="utf-8", errors="surrogateescape") as sys.stdout:
                 unittest.defaultTestLoader.loadTestsFromTestCase(its).run(Lines())

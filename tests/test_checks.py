@@ -113,9 +113,11 @@ class Families(Cases):
             ("good", "self.same('one', 1, 1)\n        self.same('two', 2, 2)"), ("wrong", "self.same('three', 3, 4)"),
             ("slow", f"open('{self.work}/begun', 'w').close()\n        time.sleep(1)"), ("ended", "os._exit(0)"),
             ("long", f"open('{self.work}/begun', 'w').close()\n        time.sleep(600)"),
+            ("deep", "self.same('deep', sys.getrecursionlimit(), 5000)\n\n\nsys.setrecursionlimit(5000)"),
+            ("flat", "self.same('flat', sys.getrecursionlimit(), 1000)"),
         ):
             case = f"class It(Cases):\n    def test_it(self) -> None:\n        {text}\n"
-            write(f"{self.top}/tests/test_{name}.py", f"import os, time\nfrom tests.cases import Cases\n{case}")
+            write(f"{self.top}/tests/test_{name}.py", f"import os, sys, time\nfrom tests.cases import Cases\n{case}")
         write(f"{self.top}/tests/test_unread.py", "import no_such_module\n")
         os.mkdir(f"{self.work}/room")
         self.env = {"TESTED_PROGRAM": "/bin/true", "PIPECHECK_PROVED": "no", "TMPDIR": f"{self.work}/room"}
@@ -135,6 +137,8 @@ class Families(Cases):
         )
         self.runs("one case by a part of its name", 0, [good[1], f"1 passed, 0 failed, 0 skipped{BY_THAT_PROGRAM}"], "good", "wo")
         self.runs("no case has that name", 1, [f"0 passed, 0 failed, 0 skipped{BY_THAT_PROGRAM}"], "good", "four")
+        both = ["ok      deep", "ok      flat", f"2 passed, 0 failed, 0 skipped{BY_THAT_PROGRAM}"]
+        self.runs("how deep Python goes one family says for itself", 0, both, "deep", "flat")
         self.runs("one that cannot be read, and one whose process ends, fail, and the others run", 1, [
             *good[:2], "FAILED  three: AssertionError: 3 != 4",
             "FAILED  tests/test_unread.py can be read: AssertionError: ModuleNotFoundError(\"No module named 'no_such_module'\")",
