@@ -409,7 +409,8 @@ def without_output(kind: str) -> Iterator[dict[str, Any]]:
     reader, file = os.pipe()
     os.close(reader)
     if kind == "full":
-        os.dup2(os.open("/dev/full", os.O_WRONLY), file)
+        os.close(file)
+        file = os.open("/dev/full", os.O_WRONLY)
     try:
         yield {"stdout": file}
     finally:
