@@ -374,6 +374,13 @@ def within(which: int, size: int) -> Callable[[], None]:
     return lambda: resource.setrlimit(which, (size, size))
 
 
+def heed_signals() -> None:
+    """Of `run` a `preexec_fn`, by which the command ignores no signal that asks for an end, also where a shell runs these cases
+    beside itself."""
+    for it in (signal.SIGHUP, signal.SIGINT, signal.SIGQUIT, signal.SIGTERM):
+        signal.signal(it, signal.SIG_DFL)
+
+
 @contextlib.contextmanager
 def unread(named: str | None = None) -> Iterator[int]:
     """The end of a pipe to write to, which nobody reads any more: of one between two commands, or of one of this name."""

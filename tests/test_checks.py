@@ -10,7 +10,7 @@ import subprocess
 from collections import Counter
 from glob import glob
 
-from tests.cases import BY_THAT_PROGRAM, TOP, Cases, Done, comes, copy_checkout, environment, read, run, write
+from tests.cases import BY_THAT_PROGRAM, TOP, Cases, Done, comes, copy_checkout, environment, heed_signals, read, run, write
 
 SHELL = re.compile(r"#!.*(/|[ \t])(ba|da)?sh$|# shellcheck shell=")
 PYTHON = re.compile(r"#!.*[ \t]python3( -I -S)?$")
@@ -149,7 +149,7 @@ class Families(Cases):
         """what is ended is told, and leaves nothing where temporary files go"""
         with open(f"{self.work}/err", "wb") as err, subprocess.Popen(
             ["tests/program", "long"], cwd=self.top, env=environment(self.env), stdout=subprocess.DEVNULL, stderr=err,
-            start_new_session=True,
+            start_new_session=True, preexec_fn=heed_signals,
         ) as job:
             comes(lambda: os.path.exists(f"{self.work}/begun"))
             os.killpg(job.pid, signal.SIGINT)

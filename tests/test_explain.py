@@ -15,7 +15,7 @@ from threading import Thread
 from typing import Any, Sequence
 
 from tests.cases import (
-    TOP, Cases, Done, call, command, commands_without, pipecheck, program, read, replaced, run, status_of, within,
+    TOP, Cases, Done, call, command, commands_without, heed_signals, pipecheck, program, read, replaced, run, status_of, within,
     without_output, without_proofs, write
 )
 from tests.test_answers import ABSENT, EITHER, NEVER, ONE, SIGNS, SPOILT, UNWRITTEN, WALK
@@ -628,8 +628,7 @@ pipecheck: a text in quotes is expected
 def attend_signals() -> None:
     """Has this process in a group of its own, which ignores no signal, as one does that runs beside a shell."""
     os.setsid()
-    for it in (signal.SIGINT, signal.SIGQUIT, signal.SIGHUP):
-        signal.signal(it, signal.SIG_DFL)
+    heed_signals()
 
 
 QUIT = "pipecheck: the signal QUIT ended the program, so there is no answer: docs/faults.md, 'A signal'\n"

@@ -16,7 +16,7 @@ from typing import Any, Callable, Iterator, Mapping, Sequence
 
 from tests.cases import (
     NO_TOOLCHAIN, TOP, Cases, Done, as_proved, at_once, call, command, command_forms, commands_without, copy_checkout, environment,
-    hash_of, program, read, run, status_of, tool, within, write
+    hash_of, heed_signals, program, read, run, status_of, tool, within, write
 )
 
 # where these stand tests.cases says
@@ -46,7 +46,6 @@ for line in $argv[2..]
 end
 """
 # as Ctrl-C and Ctrl-\\ find what a terminal starts
-ENDING = (signal.SIGHUP, signal.SIGINT, signal.SIGQUIT, signal.SIGTERM)
 
 
 def installed_under(prefix: str) -> str:
@@ -519,7 +518,7 @@ class Fails(Installs):
         with open(f"{self.work}/out", "w+b") as out, open(f"{self.work}/err", "w+b") as err, subprocess.Popen(
             ["./install", *words], cwd=self.top, env=environment({"PATH": self.plain, "PIPECHECK_PROVED": None, **env}),
             stdin=subprocess.DEVNULL, stdout=out, stderr=err, start_new_session=is_group,
-            preexec_fn=lambda: [signal.signal(it, signal.SIG_DFL) for it in ENDING],
+            preexec_fn=heed_signals,
         ) as process:
             while not os.path.exists(begun) and process.poll() is None:
                 time.sleep(0.05)
@@ -550,7 +549,7 @@ exec "$PYTHON" -c 'import sys, time; open(sys.argv[1], "w").close(); time.sleep(
             command(f"{self.work}/{name}/{name}", "kill -s QUIT 0\n")
             done = self.run_it(
                 ["./install", "--uninstall", self.way], {"PATH": f"{self.work}/{name}:{self.plain}"}, start_new_session=True,
-                preexec_fn=lambda: signal.signal(signal.SIGQUIT, signal.SIG_DFL),
+                preexec_fn=heed_signals,
             )
             said = "".join(it for it in done.err.splitlines(True) if not it.startswith("Quit"))
             self.judge(f"Ctrl-\\ at the {name} of an uninstall: nothing is said", Done(done.status, done.out, said), 131)
