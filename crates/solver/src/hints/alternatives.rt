@@ -5,7 +5,7 @@ ghost use Rattle.order_graph.specs.Ways.{IsBelow};
 ghost use Rattle.solver.specs.Below.{IsRowBelow};
 
 use super::closing::pair_clashes;
-use super::walk::Walk;
+use super::walk::{SideWalk, Walk};
 use crate::tree::side::Side;
 use order_graph::OrderGraph;
 use pc_ground::{Literal, Row};
@@ -30,12 +30,16 @@ fn part_is_closed(rows: &[Row<u32>], graph: &OrderGraph, part: Walk) -> bool
 pub(crate) fn side_is_closed(rows: &[Row<u32>], graph: &OrderGraph, side: Side) -> bool
     requires { All (IsRowBelow graph.now.nodes) rows.now }
 {
-    if let Some(left) = side.denied {
-        if part_is_closed(rows, graph, Walk::new(rows, !side.negated, left)) {
+    let mut walk = SideWalk::new(rows, side);
+    for _ in 0..rows.len() {
+        let Some(literal) = walk.next_literal(rows) else {
+            return false;
+        };
+        if graph.would_clash(literal) {
             return true;
         }
     }
-    part_is_closed(rows, graph, Walk::new(rows, side.negated, side.root))
+    false
 }
 
 /// Whether the literal clashes together with one of the part, of which none would by itself.

@@ -6,9 +6,8 @@ ghost use Rattle.solver.specs.Opens.{IsFurther, IsSame, IsMarked};
 
 use super::agenda::Agenda;
 use super::alternatives::side_is_closed;
-use super::closing::would_close;
 use super::standing::Standing;
-use super::walk::Walk;
+use super::walk::SideWalk;
 use crate::tree::numbered_tree::NumberedTree;
 use crate::tree::ors::{is_or, sides};
 use crate::tree::place::Place;
@@ -19,50 +18,35 @@ use pc_ground::{Row, Version};
 use std::sync::ledger::Ledger;
 use undo_trail::Steps;
 
-/// Whether the literals that the part at `root` asserts under this sign clash, each of which is asked before
-/// it is asserted.
-fn part_clashes<L: Ledger>(
-    rows: &[Row<u32>],
-    negated: bool,
-    root: usize,
-    graph: &mut OrderGraph,
-    steps: &mut Steps<L>,
-) -> Result<bool, Memory>
-    requires below { All (IsRowBelow graph.old.nodes) rows.now }
-    ensures { IfOk result (λ _. IsFurther graph.old graph.new) }
-{
-    let mut walk = Walk::new(rows, negated, root);
-    for _turn in 0..rows.len() {
-        let Some(literal) = walk.next_literal(rows) else {
-            return Ok(false);
-        };
-        if graph.would_clash(literal) {
-            return Ok(true);
-        }
-        if let Added::Clash(_) = graph.assert_literal(literal, steps)? {
-            return Ok(true);
-        }
-    }
-    Ok(false)
-}
-
-/// Whether the literals that the side asserts clash.
+/// Whether the literals that the side asserts clash. Each is asked before the one before it is asserted, and so the last
+/// one never is.
 fn side_clashes<L: Ledger>(
-    tree: &NumberedTree,
+    rows: &[Row<u32>],
     side: Side,
     graph: &mut OrderGraph,
     steps: &mut Steps<L>,
 ) -> Result<bool, Memory>
-    requires side { IsSideIn (spelled tree.now.rows) side }
-    requires nodes { graph.old.nodes ≡ length tree.now.nodes }
+    requires { All (IsRowBelow graph.old.nodes) rows.now }
     ensures { IfOk result (λ _. IsFurther graph.old graph.new) }
 {
-    if let Some(left) = side.denied {
-        if part_clashes(tree.rows(), !side.negated, left, graph, steps)? {
+    let mut walk = SideWalk::new(rows, side);
+    let mut before = walk;
+    for turn in 0..rows.len() {
+        let Some(literal) = walk.next_literal(rows) else {
+            return Ok(false);
+        };
+        if turn > 0 {
+            if let Some(asked) = before.next_literal(rows) {
+                if let Added::Clash(_) = graph.assert_literal(asked, steps)? {
+                    return Ok(true);
+                }
+            }
+        }
+        if graph.would_clash(literal) {
             return Ok(true);
         }
     }
-    part_clashes(tree.rows(), side.negated, side.root, graph, steps)
+    Ok(false)
 }
 
 /// Whether the side is closed at once: whether its literals clash with those asserted. A side of one literal
@@ -79,10 +63,7 @@ fn is_closed<L: Ledger>(
     requires marked { IsMarked graph.old mark }
     ensures graph { IfOk result (λ _. IsSame graph.old graph.new) }
 {
-    if let Some(closes) = would_close(tree.rows(), side, graph) {
-        return Ok(closes);
-    }
-    let clashes = side_clashes(tree, side, graph, steps)?;
+    let clashes = side_clashes(tree.rows(), side, graph, steps)?;
     graph.undo(mark, steps);
     Ok(clashes)
 }
