@@ -10,40 +10,45 @@ use Rattle.pc_ground.specs.{Rows.{rows_of, literals_of_kind, turned_kind, turned
 use Rattle.pc_ground.specs.Refutes.{Signed, Branch, all_signed, subtree_at, part_at, asserted, literal_of, literals_of, IsContradiction, a_cycle, a_path, an_absence}
 use Rattle.pc_ground.specs.Walks.{stride, Walk}
 use Rattle.pc_ground.proofs.FlatRows.{root_of, row_subtree, subtree_within, subtree_row, subtree_size, length_rows, literal_by_row, literals_of_row}
-use Rattle.pc_ground.proofs.{Walks.{walk_side, walk_turn, walk_within}, StageWalks.{some_same}}
+use Rattle.pc_ground.proofs.{Walks.{walk_side, walk_turn, walk_within}, Turned.{size_turned}, StageWalks.{some_same}}
 use Rattle.order_graph.specs.{Clashes.{leaf_of, IsClash}, State.{Graph}, Adding.{IsAdded}, declared.clash.Added.{Added}}
 use Rattle.order_graph.specs.{declared.clash.{Added.TheVariants.{Kept as was_kept, Clash as clashed}, Clash.{Clash}}, Ways.{IsBelow}}
 use Rattle.solver.specs.{Spelled.{spelled, IsSpelled}, Below.{IsKindBelow, IsRowBelow}, Places.{place_signed, asserted_in, asserted_at}}
-use Rattle.solver.{specs.{Opens.{positions, IsFurther, HasAsserted, HasAddedRow}, declared.tree.place.Place.{Place}}, proofs.IsSpelled.{turned_flat}}
+use Rattle.solver.{specs.{Opens.{positions, IsFurther, HasAsserted, HasAddedRow}, declared.tree.place.Place.{Place}}, proofs.IsSpelled.{turned_flat, turned_at}}
 
 pub asserted_is : {N : Type 0} (t : Tree N) (n : Bool) (p : ℕ) (s : Tree N) → subtree_at (turned n t) p ≡ Some s
     → asserted_at t n p ≡ all_signed n (asserted s p)
 asserted_is {N} t n p s e = ap (λ (o : Option (Tree N)). all_signed n (asserted_in o p)) e
 
 -- the row at a position is its subtree's root
+pub root_row : (rows : List (Row ℕ)) (t : Tree ℕ) (p : ℕ) (r : Row ℕ) (s : Tree ℕ) → rows ≡ rows_of t → slice_get rows p ≡ Some r
+    → subtree_at t p ≡ Some s → r ≡ root_of s
+root_row rows t p r s flat at e = some_same (sym at ∙ ap (λ xs. slice_get xs p) flat ∙ subtree_row t p s e)
+
 pub row_root : (rows : List (Row ℕ)) (t : Tree ℕ) (p : ℕ) (r : Row ℕ) → rows ≡ rows_of t → p < size_of t → slice_get rows p ≡ Some r
     → (s : Tree ℕ) × (subtree_at t p ≡ Some s) × (r ≡ root_of s)
-row_root rows t p r flat inside at =
-    let there = subtree_within t p inside in
-    (there.0, there.1, some_same (sym at ∙ ap (λ xs. slice_get xs p) flat ∙ subtree_row t p there.0 there.1))
+row_root rows t p r flat inside at = (let there = subtree_within t p inside in (there.0, there.1, root_row rows t p r there.0 flat at there.1))
 
 pub length_spelled : (rows : List (Row ℕ)) → IsSpelled rows → length rows ≡ size_of (spelled rows)
 length_spelled rows flat = ap length flat ∙ length_rows (spelled rows)
 
--- the walk over a part, which ends where its rows do
-pub walk_start : (rows : List (Row ℕ)) (t : Tree ℕ) (root : ℕ) (r : Row ℕ) → rows ≡ rows_of t → root < size_of t → slice_get rows root ≡ Some r
-    → (root + r.skip ≤ size_of t) × Walk rows (root + r.skip) root (asserted_in (subtree_at t root) root)
-walk_start rows t root r flat inside at =
-    let there = row_root rows t root r flat inside at in
+-- the walk over a part of the tree or of its negation, which ends where its rows do
+pub walk_start : (rows : List (Row ℕ)) (n : Bool) (root : ℕ) (r : Row ℕ) → IsSpelled rows → root < size_of (spelled rows) → slice_get rows root ≡ Some r
+    → (root + r.skip ≤ length rows) × Walk (turned_rows n rows) (root + r.skip) root (asserted_in (subtree_at (turned n (spelled rows)) root) root)
+walk_start rows n root r flat inside at =
+    let t = turned n (spelled rows) in
+    let whole = size_turned n (spelled rows) in
+    let flat_turned = turned_flat n rows flat in
+    let there = row_root (turned_rows n rows) t root (turned_row n r) flat_turned (omega (arith, inside, whole)) (turned_at n rows root r (turned_row n r) at refl) in
     let s = there.0 in
     let skip : r.skip ≡ size_of s = ap (λ (x : Row ℕ). x.skip) there.2 in
     let size = subtree_size t root s there.1 in
-    let P : List (Row ℕ) → ℕ → List ℕ → Type 0 = λ xs n ps. Walk xs (root + n) root ps in
-    let walk : Walk (rows_of t) (root + size_of s) root (asserted s root) = walk_side t root s there.1 in
-    let by_rows : P rows (size_of s) (asserted s root) = subst (λ xs. P xs (size_of s) (asserted s root)) (sym flat) walk in
-    let by_skip : P rows r.skip (asserted s root) = subst (λ n. P rows n (asserted s root)) (sym skip) by_rows in
+    let P : List (Row ℕ) → ℕ → List ℕ → Type 0 = λ xs k ps. Walk xs (root + k) root ps in
+    let walk : P (rows_of t) (size_of s) (asserted s root) = walk_side t root s there.1 in
+    let by_rows = subst (λ xs. P xs (size_of s) (asserted s root)) (sym flat_turned) walk in
+    let by_skip = subst (λ k. P (turned_rows n rows) k (asserted s root)) (sym skip) by_rows in
     let is : asserted_in (subtree_at t root) root ≡ asserted s root = ap (λ (o : Option (Tree ℕ)). asserted_in o root) there.1 in
-    (omega (arith, skip, size), subst (P rows r.skip) (sym is) by_skip)
+    (omega (arith, skip, size, whole, length_spelled rows flat), subst (P (turned_rows n rows) r.skip) (sym is) by_skip)
 
 pub walk_step : (rows : List (Row ℕ)) (end at : ℕ) (ps : List ℕ) (r : Row ℕ) → Walk rows end at ps → at < end → slice_get rows at ≡ Some r
     → (rest : List ℕ) × (ps ≡ at ∷ rest) × Walk rows end (at + stride r) rest × (at + stride r ≤ end)
@@ -154,10 +159,7 @@ asserted_clash t first more old k c =
 
 root_stride : {N : Type 0} (s : Tree N) → 0 < stride (root_of s)
 root_stride always = omega arith
-root_stride never = omega arith
-root_stride (leaf l) = omega arith
-root_stride (both a b) = omega arith
-root_stride (either a b) = omega arith
+root_stride s = omega arith
 
 pub stride_pos : (rows : List (Row ℕ)) (t : Tree ℕ) (p : ℕ) (r : Row ℕ) → rows ≡ rows_of t → slice_get rows p ≡ Some r → 0 < stride r
 stride_pos rows t p r flat at =
@@ -183,17 +185,12 @@ turned_below n negated r q below e = (let P : Row ℕ → Type 0 = IsRowBelow n 
   where
     of_literal : (l : Literal ℕ) → IsBelow n l → IsBelow n (contrary l)
     of_literal (Node a) h = h
-    of_literal (Edge a b) h = h
-    of_literal (NoNode a) h = h
-    of_literal (NoEdge a b) h = h
+    of_literal l h = h
 
     of_kind : (m : Bool) (k : RowKind ℕ) → IsKindBelow n k → IsKindBelow n (turned_kind m k)
     of_kind false k h = h
-    of_kind true True h = tt
-    of_kind true False h = tt
     of_kind true (Lit l) h = of_literal l h
-    of_kind true And h = tt
-    of_kind true Or h = tt
+    of_kind true k h = tt
 
 -- the row at a position is over numbers below n
 pub row_below : (n : ℕ) (rows : List (Row ℕ)) (p : ℕ) (r : Row ℕ) → All (IsRowBelow n) rows → slice_get rows p ≡ Some r → IsRowBelow n r

@@ -14,79 +14,53 @@ pub record IsGrown {N : Type 0} (t : Tree N) (ps : Branch) : Type 0 where
 
 pub asserted_root : {N : Type 0} (s : Tree N) (p : ℕ) → In p (asserted s p)
 asserted_root always p = inl refl
-asserted_root never p = inl refl
-asserted_root (leaf l) p = inl refl
-asserted_root (both a b) p = inl refl
-asserted_root (either a b) p = inl refl
+asserted_root s p = inl refl
+
+-- an And at the position has both its parts among these
+abbrev HasParts : {N : Type 0} → List ℕ → ℕ → Tree N → Type 0
+HasParts ps q (both a b) = In (q + 1) ps × In (q + 1 + size_of a) ps
+HasParts ps q s = Unit {0}
 
 -- a position that a side asserts
-record IsPlaced {N : Type 0} (t : Tree N) (ps : List ℕ) (q : ℕ) : Type 0 where
-  pub tree : Tree N
-  pub at : subtree_at t q ≡ Some tree
-  pub both_in : (a b : Tree N) → tree ≡ both a b → In (q + 1) ps × In (q + 1 + size_of a) ps
+abbrev IsPlaced : {N : Type 0} → Tree N → List ℕ → ℕ → Type 0
+IsPlaced {N} t ps q = (s : Tree N) × (subtree_at t q ≡ Some s) × HasParts ps q s
 
-sides_same : {N : Type 0} (a b c d : Tree N) → both a b ≡ both c d → (a ≡ c) × (b ≡ d)
-sides_same a b c d e = ((let left : a ≡ c = cc in left), (let right : b ≡ d = cc in right))
+placed_alone : {N : Type 0} (t s : Tree N) (p : ℕ) (ps : List ℕ) (q : ℕ) → subtree_at t p ≡ Some s → HasParts ps p s → In q (p ∷ []) → IsPlaced t ps q
+placed_alone t s p ps q at parts (inl e) = (let P : ℕ → Type 0 = IsPlaced t ps in subst P e (s, at, parts))
+placed_alone t s p ps q at parts (inr i) = absurd i
 
-one_place : {N : Type 0} (t : Tree N) (ps : List ℕ) (p q : ℕ) (s : Tree N) → p ≡ q → subtree_at t p ≡ Some s
-    → ((a b : Tree N) → s ≡ both a b → ⊥) → IsPlaced t ps q
-one_place {N} t ps p q s same at none =
-    let P : ℕ → Type 0 = λ n. subtree_at t n ≡ Some s in
-    record { tree = s; at = subst P same at; both_in = λ a b e. absurd (none a b e) }
-
-more_placed : {N : Type 0} (t : Tree N) (ps qs : List ℕ) (q : ℕ) → ((p : ℕ) → In p ps → In p qs) → IsPlaced t ps q → IsPlaced t qs q
-more_placed t ps qs q f h = record {
-  tree = h.tree;
-  at = h.at;
-  both_in = λ a b e. let k = h.both_in a b e in (f (q + 1) k.0, f (q + 1 + size_of a) k.1);
-}
-
-asserted_placed : {N : Type 0} (t s : Tree N) (p : ℕ) → subtree_at t p ≡ Some s → (q : ℕ) → In q (asserted s p) → IsPlaced t (asserted s p) q
-asserted_placed t always p at q (inl e) = one_place t _ p q always e at (λ a b h. cc)
-asserted_placed t always p at q (inr i) = absurd i
-asserted_placed t never p at q (inl e) = one_place t _ p q never e at (λ a b h. cc)
-asserted_placed t never p at q (inr i) = absurd i
-asserted_placed t (leaf l) p at q (inl e) = one_place t _ p q (leaf l) e at (λ a b h. cc)
-asserted_placed t (leaf l) p at q (inr i) = absurd i
-asserted_placed t (either c d) p at q (inl e) = one_place t _ p q (either c d) e at (λ a b h. cc)
-asserted_placed t (either c d) p at q (inr i) = absurd i
-asserted_placed {N} t (both c d) p at q (inl e) =
+asserted_placed : {N : Type 0} (t s : Tree N) (p : ℕ) (ps : List ℕ) → subtree_at t p ≡ Some s → ((n : ℕ) → In n (asserted s p) → In n ps)
+    → (q : ℕ) → In q (asserted s p) → IsPlaced t ps q
+asserted_placed t (both c d) p ps at within q (inl e) =
     let left = asserted c (p + 1) in
     let right = asserted d (p + 1 + size_of c) in
-    let ps = asserted (both c d) p in
-    let P : ℕ → Type 0 = λ n. subtree_at t n ≡ Some (both c d) in
-    let here : In (p + 1) ps = inr (in_front (p + 1) left right (asserted_root c (p + 1))) in
-    let there : In (p + 1 + size_of c) ps = inr (in_back (p + 1 + size_of c) left right (asserted_root d (p + 1 + size_of c))) in
-    record {
-      tree = both c d;
-      at = subst P e at;
-      both_in = λ a b h.
-          let Q : ℕ → Tree N → Type 0 = λ n x. In (n + 1) ps × In (n + 1 + size_of x) ps in
-          subst (λ x. Q q x) (sides_same c d a b h).0 (subst (λ n. Q n c) e (here, there));
-    }
-asserted_placed t (both c d) p at q (inr i) =
+    let here = within (p + 1) (inr (in_front (p + 1) left right (asserted_root c (p + 1)))) in
+    let there = within (p + 1 + size_of c) (inr (in_back (p + 1 + size_of c) left right (asserted_root d (p + 1 + size_of c)))) in
+    placed_alone t (both c d) p ps q at (here, there) (inl e)
+asserted_placed t (both c d) p ps at within q (inr i) =
     let left = asserted c (p + 1) in
     let right = asserted d (p + 1 + size_of c) in
-    let ps = asserted (both c d) p in
     let children = children_both t p c d at in
     elim (in_either q left right i) [
-      | inl h ↦ more_placed t left ps q (λ n k. inr (in_front n left right k)) (asserted_placed t c (p + 1) children.0 q h)
-      | inr h ↦ more_placed t right ps q (λ n k. inr (in_back n left right k)) (asserted_placed t d (p + 1 + size_of c) children.1 q h)
+      | inl h ↦ asserted_placed t c (p + 1) ps children.0 (λ n k. within n (inr (in_front n left right k))) q h
+      | inr h ↦ asserted_placed t d (p + 1 + size_of c) ps children.1 (λ n k. within n (inr (in_back n left right k))) q h
     ]
+asserted_placed t s p ps at within q i = placed_alone t s p ps q at tt i
 
 side_ands : {N : Type 0} (t s : Tree N) (p : ℕ) → subtree_at t p ≡ Some s → (q : ℕ) (a b : Tree N) → In q (asserted s p)
     → subtree_at t q ≡ Some (both a b) → In (q + 1) (asserted s p) × In (q + 1 + size_of a) (asserted s p)
-side_ands t s p at q a b i e =
-    let placed = asserted_placed t s p at q i in
-    placed.both_in a b (some_same (sym placed.at ∙ e))
+side_ands {N} t s p at q a b i e =
+    let placed = asserted_placed t s p (asserted s p) at (λ n k. k) q i in
+    let P : Tree N → Type 0 = HasParts (asserted s p) q in
+    subst P (some_same (sym placed.1 ∙ e)) placed.2
 
 -- what a side asserts, under a sign
 side_inside : {N : Type 0} (t : Tree N) (n : Bool) (s : Tree N) (p : ℕ) → subtree_at (turned n t) p ≡ Some s
     → (q : Signed) → In q (all_signed n (asserted s p)) → (u : Tree N) × (part_at t q ≡ Some u)
 side_inside t n s p at q i =
     let from = from_map (signed n) q (asserted s p) i in
-    let placed = asserted_placed (turned n t) s p at from.0 from.1 in
-    (placed.tree, ap (part_at t) (sym from.2) ∙ placed.at)
+    let placed = asserted_placed (turned n t) s p (asserted s p) at (λ m k. k) from.0 from.1 in
+    (placed.0, ap (part_at t) (sym from.2) ∙ placed.1)
 
 signed_ands : {N : Type 0} (t : Tree N) (n : Bool) (s : Tree N) (p : ℕ) → subtree_at (turned n t) p ≡ Some s
     → (q : Signed) (a b : Tree N) → In q (all_signed n (asserted s p)) → part_at t q ≡ Some (both a b)
