@@ -8,11 +8,11 @@ use Rattle.pc_ground.specs.{Keys.{renamed, key_node}, Tree.{Tree, turned}, Liter
 use Rattle.pc_ground.specs.Refutes.{Branch, part_at, literal_of, literals_of, IsContradiction, a_cycle, a_path, an_absence, Closes, a_contradiction}
 use Rattle.pc_ground.proofs.FlatRows.{literal_by_row, literals_of_row}
 use Rattle.solver.specs.{Spelled.{spelled, IsSpelled}, Below.{IsKindBelow, IsRowBelow}, Renamed.{tree_over, node_at, renamed_leaf}}
-use Rattle.solver.{specs.Leaves.{clash_step, IsLeafBelow, IsClashBelow}, proofs.{RenamedTree.{literals_renamed}, IsSpelled.{turned_flat}}}
+use Rattle.solver.{specs.Leaves.{IsLeafBelow}, proofs.{RenamedTree.{literals_renamed}, IsSpelled.{turned_flat}}}
 use Rattle.solver.proofs.HasAsserted.{turned_below}
 use Rattle.pc_common.specs.{World.{Node as PlainNode}, Chain.{Leads}, Steps.{Leaf, path}}
 use Rattle.pc_common.proofs.Elements.{in_from_contains, contains_from_in, in_map}
-use Rattle.refutation.specs.Steps.{HasItsNodes, IsLeaf}
+use Rattle.refutation.specs.Steps.{HasItsNodes}
 use Rattle.order_graph.specs.{Ways.{IsBelow}, Clashes.{leaf_of, IsClash}, declared.clash.Clash.{Clash}}
 
 renamed_in : {M N : Type 0} (f : M → N) (l : Literal M) (ls : List (Literal M)) → Contains ls l → Contains (map (renamed f) ls) (renamed f l)
@@ -43,12 +43,9 @@ clash_closes nodes t ps k c =
     let P : List (Literal PlainNode) → Type 0 = λ ls. IsContradiction ls (renamed_leaf (node_at nodes) (leaf_of k)) in
     a_contradiction (subst P (sym (literals_renamed (node_at nodes) t ps)) (contradiction_renamed (node_at nodes) (literals_of t ps) (leaf_of k) c))
 
-has_nodes : (f : ℕ → PlainNode) (ls : List (Literal ℕ)) (l : Leaf ℕ) → IsContradiction ls l → HasItsNodes (renamed_leaf f l)
+pub has_nodes : (f : ℕ → PlainNode) (ls : List (Literal ℕ)) (l : Leaf ℕ) → IsContradiction ls l → HasItsNodes (renamed_leaf f l)
 has_nodes f ls l (a_path a [] b leads has) = tt
 has_nodes f ls l c = tt
-
-pub clash_leaf : (nodes : List PlainNode) (ls : List (Literal ℕ)) (k : Clash) → IsClash ls k → IsLeaf (clash_step nodes k)
-clash_leaf nodes ls k c = has_nodes (node_at nodes) ls (leaf_of k) c
 
 leads_below : (n : ℕ) (ls : List (Literal ℕ)) → All (IsBelow n) ls → (a : ℕ) (via : List ℕ) (b : ℕ) → Leads (Joins ls) a via b
     → (a < n) × All (λ k. k < n) via × (b < n)
@@ -58,16 +55,13 @@ leads_below n ls all a (x ∷ xs) b h =
     let rest = leads_below n ls all x xs b h.1 in
     (e.0, All-cons (λ k. k < n) x xs rest.0 rest.1, rest.2)
 
-leaf_below : (n : ℕ) (ls : List (Literal ℕ)) (l : Leaf ℕ) → All (IsBelow n) ls → IsContradiction ls l → IsLeafBelow n l
+pub leaf_below : (n : ℕ) (ls : List (Literal ℕ)) (l : Leaf ℕ) → All (IsBelow n) ls → IsContradiction ls l → IsLeafBelow n l
 leaf_below n ls l all (a_cycle a via leads) = (let b = leads_below n ls all a via a leads in All-cons (λ k. k < n) a via b.0 b.1)
 leaf_below n ls l all (a_path a via b leads has) =
     let P : ℕ → Type 0 = λ k. k < n in
     let h = leads_below n ls all a via b leads in
     All-cons P a (via ++ b ∷ []) h.0 (All-push P via b h.1 h.2)
 leaf_below n ls l all (an_absence a has present) = All-contains (IsBelow n) ls (NoNode a) all has
-
-pub clash_below : (n : ℕ) (ls : List (Literal ℕ)) (k : Clash) → All (IsBelow n) ls → IsClash ls k → IsClashBelow n k
-clash_below n ls k all c = leaf_below n ls (leaf_of k) all c
 
 literals_of_below : (n : ℕ) (k : RowKind ℕ) → IsKindBelow n k → All (IsBelow n) (literals_of_kind k)
 literals_of_below n (Lit l) h = All-cons (IsBelow n) l [] h (All-nil (IsBelow n))

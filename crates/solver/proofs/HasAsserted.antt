@@ -99,26 +99,20 @@ further_more f g h a b = record {
 pub kept_push : {X : Type 0} (xs ys zs : List X) (x : X) → take (length xs) ys ≡ xs → zs ≡ ys ++ x ∷ [] → take (length xs) zs ≡ xs
 kept_push xs ys zs x e f = take_through xs ys zs e (ap (take (length ys)) f ∙ take-append_seam ys (x ∷ []))
 
-contradiction_more : (ls ms : List (Literal ℕ)) (l : Leaf ℕ) → IsContradiction ls l → IsContradiction (ls ++ ms) l
-contradiction_more ls ms l c = go l c
-  where
-    leads : (a : ℕ) (via : List ℕ) (b : ℕ) → Leads (Joins ls) a via b → Leads (Joins (ls ++ ms)) a via b
-    leads a [] b l = Contains-append_left ls ms (Edge a b) l
-    leads a (x ∷ xs) b l = (Contains-append_left ls ms (Edge a x) l.0, leads x xs b l.1)
+leads_more : (ls ms : List (Literal ℕ)) (a : ℕ) (via : List ℕ) (b : ℕ) → Leads (Joins ls) a via b → Leads (Joins (ls ++ ms)) a via b
+leads_more ls ms a [] b h = Contains-append_left ls ms (Edge a b) h
+leads_more ls ms a (x ∷ xs) b h = (Contains-append_left ls ms (Edge a x) h.0, leads_more ls ms x xs b h.1)
 
-    present : (a : ℕ) → IsPresent ls a → IsPresent (ls ++ ms) a
-    present a (as_node h) = as_node (Contains-append_left ls ms (Node a) h)
-    present a (as_start b h) = as_start b (Contains-append_left ls ms (Edge a b) h)
-    present a (as_end b h) = as_end b (Contains-append_left ls ms (Edge b a) h)
-
-    go : (l : Leaf ℕ) → IsContradiction ls l → IsContradiction (ls ++ ms) l
-    go l (a_cycle a via h) = a_cycle a via (leads a via a h)
-    go l (a_path a via b h d) = a_path a via b (leads a via b h) (Contains-append_left ls ms (NoEdge a b) d)
-    go l (an_absence a d p) = an_absence a (Contains-append_left ls ms (NoNode a) d) (present a p)
+present_more : (ls ms : List (Literal ℕ)) (a : ℕ) → IsPresent ls a → IsPresent (ls ++ ms) a
+present_more ls ms a (as_node h) = as_node (Contains-append_left ls ms (Node a) h)
+present_more ls ms a (as_start b h) = as_start b (Contains-append_left ls ms (Edge a b) h)
+present_more ls ms a (as_end b h) = as_end b (Contains-append_left ls ms (Edge b a) h)
 
 -- a clash of a first part is one of the whole
-pub clash_more : (ls ms : List (Literal ℕ)) (k : Clash) → IsClash ls k → IsClash (ls ++ ms) k
-clash_more ls ms k c = contradiction_more ls ms (leaf_of k) c
+contradiction_more : (ls ms : List (Literal ℕ)) (l : Leaf ℕ) → IsContradiction ls l → IsContradiction (ls ++ ms) l
+contradiction_more ls ms l (a_cycle a via h) = a_cycle a via (leads_more ls ms a via a h)
+contradiction_more ls ms l (a_path a via b h d) = a_path a via b (leads_more ls ms a via b h) (Contains-append_left ls ms (NoEdge a b) d)
+contradiction_more ls ms l (an_absence a d p) = an_absence a (Contains-append_left ls ms (NoNode a) d) (present_more ls ms a p)
 
 -- the first rows of a part clash, so all of them do
 pub part_clash : (rows : List (Row ℕ)) (q : Signed) (r : Row ℕ) (ps rest whole : Branch) (ls : List (Literal ℕ)) (k : Clash) → IsSpelled rows
@@ -131,7 +125,7 @@ part_clash rows q r ps rest whole ls k flat at e f c =
     literals_push rows q r ps (ps ++ q ∷ []) ls (ls ++ literals_of_kind r.kind) flat at e refl refl in
     let all : literals_of t (ps ++ q ∷ []) ++ literals_of t rest ≡ literals_of t whole =
     sym (literals_more t (ps ++ q ∷ []) rest) ∙ ap (literals_of t) (append_assoc ps (q ∷ []) rest ∙ f) in
-    subst P (ap (λ xs. xs ++ literals_of t rest) first ∙ all) (clash_more (ls ++ literals_of_kind r.kind) (literals_of t rest) k c)
+    subst P (ap (λ xs. xs ++ literals_of t rest) first ∙ all) (contradiction_more (ls ++ literals_of_kind r.kind) (literals_of t rest) (leaf_of k) c)
 
 -- the positions so far and those that the walk still comes to, once a row is entered
 pub whole_push : (new old : List Place) (q : Place) (ps rest : List ℕ) (whole : Branch) → new ≡ old ++ q ∷ [] → ps ≡ q.position ∷ rest
@@ -155,7 +149,7 @@ pub asserted_clash : (t : Tree ℕ) (first more : Branch) (old : List Place) (k 
 asserted_clash t first more old k c =
     let P : List (Literal ℕ) → Type 0 = λ ls. IsClash ls k in
     subst P (sym (literals_more t (positions old ++ first) more) ∙ ap (literals_of t) (append_assoc (positions old) first more))
-    (clash_more (literals_of t (positions old ++ first)) (literals_of t more) k c)
+    (contradiction_more (literals_of t (positions old ++ first)) (literals_of t more) (leaf_of k) c)
 
 root_stride : {N : Type 0} (s : Tree N) → 0 < stride (root_of s)
 root_stride always = omega arith

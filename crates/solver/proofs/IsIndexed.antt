@@ -1,6 +1,7 @@
 -- A list of places with its index: what it finds, and one place more.
-use Rattle.std.proofs.Common.{◌≡◌, ◌≤◌, ◌<◌, inl, inr, ℕ, zero, suc, ◌+◌, ◌*◌, Bool, true, false, List, [], ◌∷◌, ◌++◌, Some, length, refl, sym, ap, ◌∙◌, subst, arith, length-append}
+use Rattle.std.proofs.Common.{◌≡◌, ◌≤◌, ◌<◌, inl, inr, ℕ, ◌+◌, ◌*◌, Bool, true, false, List, [], ◌∷◌, ◌++◌, Some, length, refl, sym, ap, ◌∙◌, subst, arith, length-append}
 use Rattle.std.{proofs.lemmas.{Bool.{cases_lt}, Option.{same_Some, slice_get_within, slice_get-get_or, get_or_from_slice_get}}, specs.Prelude.{slice_get, slice_index, Contains, if◌then◌else◌}}
+use Rattle.pc_common.proofs.Places.{slice_get-more, get_before, get_last}
 use Rattle.solver.specs.{declared.tree.place.Place.{Place}, Indexed.{slot_of, IsFound, IsIndexed, IsPut}}
 
 pub place_is : (a b : Place) → a.negated ≡ b.negated → a.position ≡ b.position → a ≡ b
@@ -17,16 +18,6 @@ one_slot a b e = (let same = parts a.negated b.negated a.position b.position e i
     parts true true j k e = (refl, omega (arith, e))
     parts m n j k e = absurd (omega (arith, e))
 
--- reading one by one
-get_front : {X : Type 0} (xs ys : List X) (k : ℕ) → k < length xs → slice_get (xs ++ ys) k ≡ slice_get xs k
-get_front [] ys k h = absurd (omega arith)
-get_front (x ∷ xs) ys zero h = refl
-get_front (x ∷ xs) ys (suc k) h = get_front xs ys k (omega arith)
-
-get_last : {X : Type 0} (xs : List X) (x : X) → slice_get (xs ++ x ∷ []) (length xs) ≡ Some x
-get_last [] x = refl
-get_last (y ∷ ys) x = get_last ys x
-
 pub has_at : {X : Type 0} (xs : List X) (k : ℕ) (x : X) → slice_get xs k ≡ Some x → Contains xs x
 has_at xs k x e = (k, slice_get_within xs k x e, get_or_from_slice_get xs k x x e)
 
@@ -41,13 +32,13 @@ found_at items index q indexed has = (let there = at_has items q has in (indexed
 -- what is found in a first part is found in all
 found_front : (items more : List Place) (index : List ℕ) (k : ℕ) (q : Place) → IsFound items index k q → IsFound (items ++ more) index k q
 found_front items more index k q found =
-    (found.0, get_front items more (slice_index index (slot_of q)) (slice_get_within items (slice_index index (slot_of q)) q found.1) ∙ found.1)
+    (found.0, slice_get-more items more (slice_index index (slot_of q)) q found.1)
 
 -- one more that is found
 pushed : (items : List Place) (index : List ℕ) (q : Place) → IsIndexed items index → IsFound (items ++ q ∷ []) index (length items) q
     → IsIndexed (items ++ q ∷ []) index
 pushed items index q indexed found = λ k x e. elim (cases_lt k (length items)) [
-  | inl before ↦ found_front items (q ∷ []) index k x (indexed k x (sym (get_front items (q ∷ []) k before) ∙ e))
+  | inl before ↦ found_front items (q ∷ []) index k x (indexed k x (sym (get_before items (q ∷ []) k before) ∙ e))
   | inr past ↦
       let at : k ≡ length items = (let size = slice_get_within (items ++ q ∷ []) k x e in omega (arith, size, past, length-append items (q ∷ []))) in
       let same : x ≡ q = same_Some x q (sym e ∙ ap (slice_get (items ++ q ∷ [])) at ∙ get_last items q) in

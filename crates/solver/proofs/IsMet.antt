@@ -34,8 +34,3 @@ met_at t ps grown met chosen none (either a b) p i e =
         | inr right ↦ inr (met_at t ps grown met chosen none b (p + 1 + size_of a) (in_from_contains (signed false (p + 1 + size_of a)) ps right) children.1)
       ]
     ]
-
--- the whole tree
-pub met_whole : {N : Type 0} (t : Tree N) (ps : Branch) → IsGrown t ps → AreMet (literals_of t ps) → AreChosen t ps → NoFalse t
-    → IsMet (literals_of t ps) t
-met_whole t ps grown met chosen none = met_at t ps grown met chosen none t 0 grown.root refl

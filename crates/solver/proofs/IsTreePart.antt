@@ -22,9 +22,6 @@ tree_part rows p end r flat inside at e =
     ∙ take-append_seam (rows_of s) part.0 in
     ((s, there.1, same), omega (arith, e, skip, size, len))
 
-pub part_spelled : (t : Tree ℕ) (p : ℕ) (part : List (Row ℕ)) → IsTreePart t p part → IsSpelled part
-part_spelled t p part (s, at, e) = is_spelled part s e
-
 pub part_below : (n : ℕ) (rows : List (Row ℕ)) (a b : ℕ) → All (IsRowBelow n) rows → All (IsRowBelow n) (slice_range rows a b)
 part_below n rows a b all = All-take (IsRowBelow n) (b - a) (drop a rows) (All-drop (IsRowBelow n) a rows all)
 

@@ -16,7 +16,7 @@ use Rattle.solver.specs.{Opens.{positions, waiting, opens, KeepsState, state_of}
 use Rattle.solver.specs.{Turns.{IsTurnOfRows, IsTurnOfTree}, declared.{search.Turn.{Turn, TheVariants.{More, Done}}, search.branch.Branch.{Branch as OpenBranch}}}
 use Rattle.solver.specs.{declared.{tree.place.Place.{Place}, search.later.Later.{Later}}, Branches.{branches_of, HasOpenBranch, IsBlank}}
 use Rattle.solver.{specs.Searched.{HasUnmetBranch, HasCandidate}, proofs.RenamedTree.{part_renamed, size_renamed, asserted_renamed, tree_of_names}}
-use Rattle.solver.proofs.{IsSpelled.{spelled_is, is_spelled}, IsGrown.{IsGrown, grown_first}, IsChosen.{plain_part}, IsMet.{met_whole}, ShownWorld.{Shows, AreBelow, shown_world}}
+use Rattle.solver.proofs.{IsSpelled.{spelled_is, is_spelled}, IsGrown.{IsGrown, grown_first}, IsChosen.{plain_part}, IsMet.{met_at}, ShownWorld.{Shows, AreBelow, shown_world}}
 use Rattle.solver.proofs.{IsKnown.{number_named}, HasAsserted.{length_spelled}, AreTruths.{kind_at}}
 
 option_back : {X Y : Type 0} (g : X → Y) (o : Option X) (y : Y) → option_map g o ≡ Some y → (x : X) × (o ≡ Some x) × (g x ≡ y)
@@ -56,8 +56,8 @@ kept_met v t b kept consistent chosen none =
     let ps = positions b.asserted in
     let P : List (Literal ℕ) → Type 0 = IsConsistent in
     let Q : List (Literal ℕ) → Type 0 = λ xs. IsMet xs s in
-    subst Q (sym kept.literals) (met_whole s ps (kept_grown v t b kept)
-    (consistent_generate (literals_of s ps) (subst P kept.literals consistent)).met chosen none)
+    let grown = kept_grown v t b kept in
+    subst Q (sym kept.literals) (met_at s ps grown (consistent_generate (literals_of s ps) (subst P kept.literals consistent)).met chosen none s 0 grown.root refl)
 
 rows_below : (n : ℕ) (t : Tree ℕ) → ((r : Row ℕ) → In r (rows_of t) → IsRowBelow n r) → AreBelow n t
 rows_below n (leaf l) f = f _ (inl refl)

@@ -88,10 +88,6 @@ pending_one_less (either x y) p (suc q) r a b ps qs w e at d =
 pending_one_less t p zero r a b ps qs w e at d = cc
 pending_one_less t p (suc q) r a b ps qs w e at d = cc
 
--- a branch counts something
-pub power_pos : (n : ℕ) → 1 ≤ 3 ^ n
-power_pos n = one-le-pow n 3 (omega arith)
-
 -- two smaller powers of three are less than one
 powers_less : (u v w : ℕ) → v < u → w < u → 3 ^ v + 3 ^ w < 3 ^ u
 powers_less zero v w h k = absurd (omega (arith, h))
@@ -99,7 +95,7 @@ powers_less (suc u) v w h k =
     let left : 3 ^ v ≤ 3 ^ u = pow-le-pow_right {n = 3} (omega arith) {i = v} {j = u} (omega (arith, h)) in
     let right : 3 ^ w ≤ 3 ^ u = pow-le-pow_right {n = 3} (omega arith) {i = w} {j = u} (omega (arith, k)) in
     let whole : 3 ^ suc u ≡ 3 ^ u * 3 = pow-suc 3 u in
-    let pos = power_pos u in
+    let pos = one-le-pow u 3 (omega arith) in
     omega (arith, left, right, whole, pos)
 
 weight_cons : {N : Type 0} (t : Tree N) (ps : Branch) (opens : List Branch) → weight t (ps ∷ opens) ≡ 3 ^ pending_splits t ps + weight t opens
@@ -107,7 +103,7 @@ unfolding weight
 weight_cons t ps opens = sum_by-cons (λ qs. 3 ^ pending_splits t qs) ps opens
 
 pub weight_more : {N : Type 0} (t : Tree N) (ps : Branch) (opens : List Branch) → weight t opens < weight t (ps ∷ opens)
-weight_more t ps opens = let pos = power_pos (pending_splits t ps) in omega (arith, pos, weight_cons t ps opens)
+weight_more t ps opens = let pos = one-le-pow (pending_splits t ps) 3 (omega arith) in omega (arith, pos, weight_cons t ps opens)
 
 sign_self : (n : Bool) → is_sign n n ≡ true
 sign_self false = refl
