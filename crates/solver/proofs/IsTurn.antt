@@ -6,7 +6,7 @@ use Rattle.pc_common.{specs.{World.{Node}, Steps.{Step, close, false_step}}, pro
 use Rattle.pc_common.proofs.Bools.{true_or_false}
 use Rattle.pc_ground.specs.declared.{literal.Literal.{Literal}, row.{Row.{Row}, RowKind.TheVariants.{False}}, version.Version.{Version}}
 use Rattle.pc_ground.specs.{Rows.{rows_of, root_kind}, Tree.{Tree, always, never, leaf, both, either, turned, size_of}, Literals.{IsConsistent}}
-use Rattle.pc_ground.specs.Refutes.{Branch, signed, all_signed, subtree_at, part_at, literals_of, a_falsity, IsPartial, IsRefutation}
+use Rattle.pc_ground.specs.Refutes.{Branch, Signed, signed, all_signed, subtree_at, part_at, literals_of, a_falsity, IsPartial, IsRefutation}
 use Rattle.pc_ground.{specs.Folded.{HasNoConstant, IsFolded}, proofs.{FlatRows.{subtree_size, size_pos}, Turned.{size_turned}}}
 use Rattle.graph_text.specs.{Graphs.{graph_nodes, graph_edges}, declared.graph.Graph.{Graph as PlainGraph}}
 use Rattle.order_graph.{specs.{State.{IsGraph}, Ways.{IsBelow}}, proofs.GeneratesWorld.{consistent_generate}}
@@ -16,24 +16,25 @@ use Rattle.solver.specs.{Opens.{positions, waiting, opens, KeepsState, state_of}
 use Rattle.solver.specs.{Turns.{IsTurnOfRows, IsTurnOfTree}, declared.{search.Turn.{Turn, TheVariants.{More, Done}}, search.branch.Branch.{Branch as OpenBranch}}}
 use Rattle.solver.specs.{declared.{tree.place.Place.{Place}, search.later.Later.{Later}}, Branches.{branches_of, HasOpenBranch, IsBlank}}
 use Rattle.solver.{specs.Searched.{HasUnmetBranch, HasCandidate}, proofs.RenamedTree.{part_renamed, size_renamed, asserted_renamed, tree_of_names}}
-use Rattle.solver.proofs.{IsSpelled.{spelled_is, is_spelled}, IsGrown.{IsGrown, grown_first}, IsChosen.{plain_part}, IsMet.{met_at}, ShownWorld.{Shows, AreBelow, shown_world}}
+use Rattle.solver.proofs.{IsSpelled.{spelled_is, is_spelled}, IsGrown.{IsGrown, HasParts, grown_first}, IsChosen.{plain_part}, IsMet.{met_at}, ShownWorld.{Shows, AreBelow, shown_world}}
 use Rattle.solver.proofs.{IsKnown.{number_named}, HasAsserted.{length_spelled}, AreTruths.{kind_at}}
 
 option_back : {X Y : Type 0} (g : X → Y) (o : Option X) (y : Y) → option_map g o ≡ Some y → (x : X) × (o ≡ Some x) × (g x ≡ y)
 option_back g None y e = cc
 option_back g (Some x) y e = (x, refl, (let same : g x ≡ y = cc in same))
 
+parts_back : {M N : Type 0} (f : M → N) (ps : Branch) (q : Signed) (s : Tree M) → HasParts ps q (renamed_tree f s) → HasParts ps q s
+parts_back f ps q (both a b) h = (let P : ℕ → Type 0 = λ n. In (signed q.negated (q.position + 1 + n)) ps in (h.0, subst P (size_renamed f a) h.1))
+parts_back f ps q s h = tt
+
 grown_back : {M N : Type 0} (f : M → N) (t : Tree M) (ps : Branch) → IsGrown (renamed_tree f t) ps → IsGrown t ps
-grown_back f t ps g = record {
+grown_back {M} {N} f t ps g = record {
   root = g.root;
-  inside = λ q i.
-      let there = g.inside q i in
+  placed = λ q i.
+      let there = g.placed q i in
       let back = option_back (renamed_tree f) (part_at t q) there.0 (sym (part_renamed f t q) ∙ there.1) in
-      (back.0, back.1);
-  ands = λ q a b i e.
-      let k = g.ands q (renamed_tree f a) (renamed_tree f b) i (part_renamed f t q ∙ ap (option_map (renamed_tree f)) e) in
-      let P : ℕ → Type 0 = λ n. In (signed q.negated (q.position + 1 + n)) ps in
-      (k.0, subst P (size_renamed f a) k.1);
+      let P : Tree N → Type 0 = HasParts ps q in
+      (back.0, back.1, parts_back f ps q back.0 (subst P (sym back.2) there.2));
 }
 
 kept_run : (v : Version) (t : Numbered) (b : OpenBranch) → HasOpenBranch v t b []

@@ -26,19 +26,14 @@ loop-at-init g c =
       kept = take-length c.args.asserted.now;
     }
 
-pub enter_row-requires : goal.enter_row-requires
-enter_row-requires g c =
+pub enter_row-requires-clause-below : goal.enter_row-requires-clause-below
+enter_row-requires-clause-below g c =
     let here = c.loop-at.invariant in
     let B : ℕ → Type 0 = λ n. All (IsRowBelow n) c.args.tree.now.rows in
-    let below = subst B (sym (here.further.same_nodes ∙ c.requires.nodes)) c.row.ensures.numbered.below in record {
-      below = turned_below c.loop-at.graph.nodes c.args.negated c.row-in-loop-at.result c.negate_if-row.result
-          (row_below c.loop-at.graph.nodes c.args.tree.now.rows c.loop-at.at c.row-in-loop-at.result below c.row-in-loop-at.ensures.row)
-          c.negate_if-row.ensures;
-      small = omega (arith, c.loop-at-test.true, here.end, c.row-in-loop-at.ensures.bound);
-    }
-
-pub returns-in-Some-clause-further : goal.returns-in-Some-clause-further
-returns-in-Some-clause-further g c = further_more _ _ _ c.loop-at.invariant.further c.in_ok-clash.ensures.further
+    let below = subst B (sym (here.further.same_nodes ∙ c.requires.nodes)) c.row.ensures.numbered.below in
+    turned_below c.loop-at.graph.nodes c.args.negated c.row-in-loop-at.result c.negate_if-row.result
+    (row_below c.loop-at.graph.nodes c.args.tree.now.rows c.loop-at.at c.row-in-loop-at.result below c.row-in-loop-at.ensures.row)
+    c.negate_if-row.ensures
 
 pub returns-in-Some-clause-entered : goal.returns-in-Some-clause-entered
 returns-in-Some-clause-entered g c =
