@@ -2,7 +2,7 @@
 use Rattle.std.proofs.Common.{◌≡◌, ◌<◌, inl, inr, ℕ, Bool, List, [], ◌∷◌, ◌++◌, map, length, get_or, Option, refl, sym, ap, ◌∙◌, subst}
 use Rattle.std.proofs.lemmas.{List.{map_push, Elements.{All-contains, All-nil, All-cons, All-push, All-append, All-map, All-weaker}}, Option.{slice_get_cases, slice_get_read, slice_get-map}}
 use Rattle.std.specs.{Prelude.{Contains, All, slice_get}, Option.{unwrap_or, option_map}}
-use Rattle.pc_ground.specs.declared.{node_key.NodeKey.{NodeKey}, row.{Row.{Row}, RowKind.{RowKind, TheVariants.{True, False, Lit, And, Or}}}}
+use Rattle.pc_ground.specs.declared.{node_key.NodeKey.{NodeKey}, row.{Row.{Row}, RowKind.{RowKind, TheVariants.{Lit}}}}
 use Rattle.pc_ground.specs.{declared.literal.Literal.{Literal, TheVariants.{Node, Edge, NoNode, NoEdge}}, Rows.{literals_of_kind, turned_row, turned_rows}}
 use Rattle.pc_ground.specs.{Keys.{renamed, key_node}, Tree.{Tree, turned}, Literals.{Joins, IsPresent, as_node, as_start, as_end}}
 use Rattle.pc_ground.specs.Refutes.{Branch, part_at, literal_of, literals_of, IsContradiction, a_cycle, a_path, an_absence, Closes, a_contradiction}

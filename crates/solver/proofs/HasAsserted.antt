@@ -4,8 +4,8 @@ use Rattle.std.proofs.{lemmas.List.{append-nil, map_push, take-take, length-take
 use Rattle.std.{proofs.lemmas.{Option.{slice_get_within, get_or_from_slice_get}, Grind.{flat_map-append}}, specs.Prelude.{slice_get, All}}
 use Rattle.pc_common.specs.{Chain.{Leads}, Steps.{Leaf}}
 use Rattle.pc_ground.specs.declared.{literal.Literal.{Literal, TheVariants.{Node, Edge, NoNode, NoEdge}}, row.{Row.{Row}, RowKind.{RowKind}}}
-use Rattle.pc_ground.specs.declared.row.RowKind.TheVariants.{True, False, Lit, And, Or}
-use Rattle.pc_ground.specs.Tree.{Tree, always, never, leaf, both, either, contrary, turned, size_of}
+use Rattle.pc_ground.specs.declared.row.RowKind.TheVariants.{Lit}
+use Rattle.pc_ground.specs.Tree.{Tree, always, contrary, turned, size_of}
 use Rattle.pc_ground.specs.{Rows.{rows_of, literals_of_kind, turned_kind, turned_row, turned_rows}, Literals.{Joins, IsPresent, as_node, as_start, as_end}}
 use Rattle.pc_ground.specs.Refutes.{Signed, Branch, all_signed, subtree_at, part_at, asserted, literal_of, literals_of, IsContradiction, a_cycle, a_path, an_absence}
 use Rattle.pc_ground.specs.Walks.{stride, Walk}

@@ -1,7 +1,7 @@
 -- What every open branch has: the root, positions of the tree alone, and with an And both of its children.
-use Rattle.std.proofs.Common.{◌≡◌, inl, inr, ℕ, ◌+◌, Bool, false, not, List, [], ◌∷◌, ◌++◌, Some, refl, sym, ap, ◌∙◌, subst}
+use Rattle.std.proofs.Common.{◌≡◌, inl, inr, ℕ, ◌+◌, Bool, false, not, List, [], ◌∷◌, ◌++◌, Some, refl, sym, ◌∙◌, subst}
 use Rattle.pc_common.{specs.Steps.{Step, split, close}, proofs.Elements.{In, in_front, in_back, in_either, in_map, from_map}}
-use Rattle.pc_ground.specs.{Tree.{Tree, always, never, leaf, both, either, negation, turned, size_of}, declared.version.Version.{Version}}
+use Rattle.pc_ground.specs.{Tree.{Tree, always, both, negation, turned, size_of}, declared.version.Version.{Version}}
 use Rattle.pc_ground.specs.declared.version.Version.TheVariants.{One, Two}
 use Rattle.pc_ground.specs.Refutes.{Signed, signed, all_signed, Branch, subtree_at, part_at, asserted, with_side, left_branch, right_branch, Runs, IsPartial}
 use Rattle.pc_ground.proofs.{FlatRows.{children_both, children_either}, Turned.{subtree_denied}, StageWalks.{some_same}}

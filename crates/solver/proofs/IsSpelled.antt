@@ -1,7 +1,7 @@
 -- The rows of a tree spell it, and turned they spell the turned tree.
 use Rattle.std.proofs.{Common.{◌≡◌, ℕ, Bool, List, [], ◌∷◌, ◌++◌, Some, refl, sym, ap, ◌∙◌, append_assoc}, lemmas.List.{append-nil}}
 use Rattle.std.specs.{Prelude.{slice_get}, Option.{option_map}}
-use Rattle.pc_ground.specs.{declared.row.{Row.{Row}, RowKind.TheVariants.{And, Or}}, Tree.{Tree, always, never, leaf, both, either, turned}}
+use Rattle.pc_ground.specs.{declared.row.{Row.{Row}, RowKind.TheVariants.{And, Or}}, Tree.{Tree, both, either, turned}}
 use Rattle.pc_ground.{specs.Rows.{rows_of, turned_row, turned_rows}, proofs.Turned.{rows_turned, row_turned}}
 use Rattle.solver.specs.Spelled.{before, trees, first_tree, spelled, IsSpelled}
 

@@ -3,7 +3,7 @@ use Rattle.std.proofs.Common.{◌≡◌, ◌≤◌, ◌<◌, ℕ, ◌+◌, ◌-�
 use Rattle.std.{proofs.{lemmas.List.Elements.{All-take, All-drop}, Math.Seq.{take-append_seam}}, specs.Prelude.{slice_get, slice_range, All, IsTrue, ◌↔◌}}
 use Rattle.pc_ground.specs.{declared.{literal.Literal.{Literal}, row.Row.{Row}}, Tree.{Tree, size_of}, Rows.{rows_of}, Refutes.{subtree_at}}
 use Rattle.pc_ground.proofs.{FlatRows.{IsPart, subtree_part, subtree_size, length_rows}, StageWalks.{some_same}}
-use Rattle.solver.{specs.{Spelled.{spelled, IsSpelled}, Below.{IsRowBelow}, Met.{IsMet}, Flags.{IsTreePart}}, proofs.IsSpelled.{spelled_is, is_spelled}}
+use Rattle.solver.{specs.{Spelled.{spelled, IsSpelled}, Below.{IsRowBelow}, Met.{IsMet}, Flags.{IsTreePart}}, proofs.IsSpelled.{spelled_is}}
 use Rattle.solver.proofs.HasAsserted.{row_root, length_spelled}
 
 pub tree_part : (rows : List (Row ℕ)) (p end : ℕ) (r : Row ℕ) → IsSpelled rows → p < length rows → slice_get rows p ≡ Some r → end ≡ p + r.skip

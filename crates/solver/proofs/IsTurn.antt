@@ -15,7 +15,7 @@ use Rattle.solver.specs.{Below.{IsRowBelow}, Met.{IsMet, IsMetUnder}, Places.{pl
 use Rattle.solver.specs.{Opens.{positions, waiting, opens, KeepsState, state_of}, Shown.{ArePresent, AreEdges}, Answers.{IsWitness, IsAnswer}}
 use Rattle.solver.specs.{Turns.{IsTurnOfRows, IsTurnOfTree}, declared.{search.Turn.{Turn, TheVariants.{More, Done}}, search.branch.Branch.{Branch as OpenBranch}}}
 use Rattle.solver.specs.{declared.{tree.place.Place.{Place}, search.later.Later.{Later}}, Branches.{branches_of, HasOpenBranch, IsBlank}}
-use Rattle.solver.{specs.Searched.{HasUnmetBranch, HasCandidate}, proofs.RenamedTree.{part_renamed, size_renamed, asserted_renamed, tree_of_names}}
+use Rattle.solver.{specs.Searched.{Searched, HasUnmetBranch, HasCandidate}, proofs.RenamedTree.{part_renamed, size_renamed, asserted_renamed, tree_of_names}}
 use Rattle.solver.proofs.{IsSpelled.{spelled_is, is_spelled}, IsGrown.{IsGrown, HasParts, grown_first}, IsChosen.{plain_part}, IsMet.{met_at}, ShownWorld.{Shows, AreBelow, shown_world}}
 use Rattle.solver.proofs.{IsKnown.{number_named}, HasAsserted.{length_spelled}, AreTruths.{kind_at}}
 
@@ -103,15 +103,18 @@ witness v t b shown numbered none kept graph chosen present edges =
     }
 
 -- what the type of a search keeps, as its clauses say it
-pub searching : (v : Version) (tree : Numbered) (b : OpenBranch) (first : Place) → HasCandidate v tree b first
-    → HasUnmetBranch (record { version = v; nodes = tree.nodes; rows = tree.rows; graph = b.graph; steps = b.refutation; branches = branches_of tree b })
-searching v tree b first s =
+pub searching : (v : Version) (tree : Numbered) (b : OpenBranch) (first : Place) (s : Searched) → HasCandidate v tree b first
+    → record { version = v; nodes = tree.nodes; rows = tree.rows; graph = b.graph; steps = b.refutation; branches = branches_of tree b } ≡ s
+    → HasUnmetBranch s
+searching v tree b first searched s is =
     let here = b.asserted in
     let t = spelled tree.rows in
     let q = place_signed first in
     let candidate = s.candidate in
     let part = turned q.negated (either candidate.left candidate.right) in
-    let P : List (Literal ℕ) → Type 0 = λ xs. IsMetUnder q.negated xs part in record {
+    let P : List (Literal ℕ) → Type 0 = λ xs. IsMetUnder q.negated xs part in
+    let H : Searched → Type 0 = HasUnmetBranch in
+    subst H is (record {
       first = positions here;
       others = waiting t (positions here) (reverse b.later.items);
       branches = refl;
@@ -123,7 +126,7 @@ searching v tree b first s =
       on_branch = candidate.on_branch;
       at_place = plain_part t q.negated q.position (either candidate.left candidate.right) candidate.is_or;
       not_met = λ h. candidate.is_false (subst P s.state.literals h);
-    }
+    })
 
 pub candidate_small : (rows : List (Row ℕ)) (ps : Branch) (q : Place) → IsSpelled rows → length rows < 2 ^ 63
     → IsCandidate (spelled rows) ps (place_signed q) → q.position < 2 ^ 63

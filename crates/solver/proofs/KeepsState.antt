@@ -5,7 +5,7 @@ use Rattle.std.proofs.Math.Seq.{take-length, take-append_seam, get_or-append_sea
 use Rattle.std.specs.{Prelude.{slice_index, Contains}, Option.{option_map}, List.{take-map}}
 use Rattle.pc_common.specs.{World.{Node}, Steps.{Leaf, Step, split, close}}
 use Rattle.pc_ground.specs.{Tree.{Tree, either, negation, turned, size_of}, declared.version.Version.{Version, TheVariants.{One, Two}}}
-use Rattle.pc_ground.specs.Refutes.{Branch, Signed, signed, all_signed, subtree_at, part_at, asserted, literals_of, Closes, left_branch, right_branch, IsPartial}
+use Rattle.pc_ground.specs.Refutes.{Branch, signed, all_signed, subtree_at, asserted, literals_of, Closes, left_branch, right_branch, IsPartial}
 use Rattle.pc_ground.proofs.{Turned.{subtree_denied, size_turned}, FlatRows.{children_either, subtree_size, size_pos}}
 use Rattle.order_graph.specs.State.{Graph, IsCut}
 use Rattle.solver.specs.{Renamed.{tree_over, renamed_tree, node_at}, Places.{place_signed, asserted_at, side_positions, left_side, right_side, IsSideIn}}

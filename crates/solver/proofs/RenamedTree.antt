@@ -1,7 +1,7 @@
 -- What stays the same where the nodes of a tree are renamed: its rows' form, its positions, and where its literals stand.
-use Rattle.std.proofs.Common.{◌≡◌, ℕ, zero, suc, ◌+◌, ◌-◌, Bool, true, false, List, [], ◌∷◌, ◌++◌, Option, Some, None, map, refl, sym, ap, ◌∙◌, arith, append_assoc}
+use Rattle.std.proofs.Common.{◌≡◌, ℕ, zero, suc, ◌+◌, ◌-◌, Bool, true, false, List, [], ◌∷◌, ◌++◌, Option, Some, map, refl, sym, ap, ◌∙◌, arith, append_assoc}
 use Rattle.std.{proofs.lemmas.List.{append-nil, map-append}, specs.{Prelude.{nat_lt, if◌then◌else◌}, Option.{option_map}}}
-use Rattle.pc_ground.specs.declared.{literal.Literal.{Literal, TheVariants.{Node, Edge, NoNode, NoEdge}}, row.{Row.{Row}, RowKind.{RowKind}}}
+use Rattle.pc_ground.specs.declared.{literal.Literal.{Literal, TheVariants.{Node}}, row.{Row.{Row}, RowKind.{RowKind}}}
 use Rattle.pc_ground.specs.declared.row.RowKind.TheVariants.{True, False, Lit, And, Or}
 use Rattle.pc_ground.specs.{Tree.{Tree, always, never, leaf, both, either, contrary, negation, turned, size_of}, Rows.{rows_of}}
 use Rattle.pc_ground.specs.{Keys.{renamed, renamed_kind, renamed_row}, Refutes.{Signed, Branch, subtree_at, part_at, asserted, literal_of, literals_of}}

@@ -4,7 +4,7 @@ use Rattle.std.proofs.{Math.Nat.{pow-le-pow_right, pow-suc, one-le-pow}, lemmas.
 use Rattle.std.specs.Prelude.{if◌then◌else◌, nat_lt, ◌==◌}
 use Rattle.pc_common.proofs.Elements.{In, in_front, in_back, in_map, any_holds, holds_any}
 use Rattle.pc_common.proofs.Bools.{true_or_false, or_second}
-use Rattle.pc_ground.specs.{Tree.{Tree, always, never, leaf, both, either, negation, turned, size_of}, declared.version.Version.{Version}}
+use Rattle.pc_ground.specs.{Tree.{Tree, both, either, negation, turned, size_of}, declared.version.Version.{Version}}
 use Rattle.pc_ground.specs.declared.version.Version.TheVariants.{One, Two}
 use Rattle.pc_ground.specs.Refutes.{Branch, Signed, signed, all_signed, subtree_at, asserted, with_side, left_branch, right_branch}
 use Rattle.solver.{specs.Weights.{is_sign, under, is_on, pending_ors, pending_splits, weight}, proofs.IsGrown.{asserted_root}}

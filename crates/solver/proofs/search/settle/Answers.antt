@@ -15,4 +15,4 @@ returns-in-Refuted-clause-turn c =
 pub returns-in-Undecided-clause-turn : goal.returns-in-Undecided-clause-turn
 returns-in-Undecided-clause-turn c =
     let F : SearchStatus → Type 0 = IsStatus c.args.version c.args.tree c.args.branch in
-    (refl, refl, refl, searching c.args.version c.args.tree c.args.branch c.in-Undecided.first (subst F c.in-Undecided.is c.requires))
+    (refl, refl, refl, searching c.args.version c.args.tree c.args.branch c.in-Undecided.first _ (subst F c.in-Undecided.is c.requires) refl)

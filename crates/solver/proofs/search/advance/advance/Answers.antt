@@ -2,15 +2,9 @@ use Rattle.std.proofs.Common.{◌≤◌, ◌<◌, ◌+◌, ◌∙◌, ◌++◌, 
 use Rattle.pc_common.specs.Steps.{split}
 use Rattle.solver.specs.{Spelled.{spelled}, Places.{place_signed, side_positions}, Opens.{positions, opens}, Weights.{weight}, Descents.{IsLonger, HasMore}}
 use Rattle.solver.specs.{Statuses.{status_weight}, declared.{search.find.SearchStatus.{SearchStatus}, search.later.Later.{Later}}}
-use Rattle.solver.proofs.HasDescended.{one_open, more_longer, advanced}
+use Rattle.solver.proofs.HasDescended.{more_longer, advanced}
 use Rattle.order_graph.proofs.Results.{if_ok}
 use Rattle.solver.proofs.search.advance.advance.Goals as goal
-
-pub push_split-requires : goal.push_split-requires
-push_split-requires g c =
-    let b = c.args.branch.now in
-    let some = one_open c.args.version c.args.tree.now b [] c.requires.state in
-    rw c.choose.ensures.rest.steps some
 
 pub find-requires-clause-state : goal.find-requires-clause-state
 find-requires-clause-state g c =

@@ -3,11 +3,8 @@ use Rattle.pc_ground.specs.{Tree.{turned}, Rows.{turned_rows}, Refutes.{all_sign
 use Rattle.order_graph.specs.declared.clash.Clash.{Clash}
 use Rattle.solver.specs.{Below.{IsRowBelow}, Spelled.{spelled}, Places.{asserted_in, asserted_at}, Opens.{positions, HasAssertedRow}}
 use Rattle.solver.proofs.IsSpelled.{turned_flat, turned_at}
-use Rattle.solver.proofs.HasAsserted.{length_spelled, walk_start, walk_step, positions_push, literals_push, further_same, further_more, kept_push, part_clash, whole_push, stride_pos, turned_below, row_below}
+use Rattle.solver.proofs.HasAsserted.{walk_start, walk_step, positions_push, literals_push, further_same, further_more, kept_push, part_clash, whole_push, stride_pos, turned_below, row_below}
 use Rattle.solver.proofs.search.enter.enter_part.Goals as goal
-
-pub row-requires-in-loop-at : goal.row-requires-in-loop-at
-row-requires-in-loop-at g c = omega (arith, c.loop-at-test.true, c.loop-at.invariant.end, length_spelled c.args.tree.now.rows c.row.ensures.numbered.tree)
 
 pub overflow_add-end : goal.overflow_add-end
 overflow_add-end g c =
