@@ -1,21 +1,21 @@
 -- One turn of a descent, and its end.
-use Rattle.std.proofs.Common.{◌≡◌, ◌≤◌, ◌<◌, ℕ, ◌+◌, List, [], ◌∷◌, ◌++◌, take, reverse, length, sym, ap, ◌∙◌, subst, arith, append_assoc}
-use Rattle.std.{proofs.{lemmas.List.{reverse-append, length-map}, Math.Seq.{take-length}}, specs.Prelude.{All}}
+use Rattle.std.proofs.Common.{◌≡◌, ◌≤◌, ◌<◌, ℕ, ◌+◌, List, [], ◌∷◌, ◌++◌, reverse, length, sym, ap, ◌∙◌, subst, arith, append_assoc}
+use Rattle.std.{proofs.lemmas.List.{reverse-append}, specs.Prelude.{All}}
 use Rattle.pc_common.{specs.{World.{Node}, Steps.{Step, split}}, proofs.Elements.{contains_from_in}}
-use Rattle.pc_ground.specs.{declared.{row.Row.{Row}, version.Version.{Version}}, Tree.{Tree, turned, size_of}}
-use Rattle.pc_ground.{specs.Refutes.{Branch, Signed, signed, literals_of, left_branch, right_branch}, proofs.FlatRows.{children_either}}
+use Rattle.pc_ground.specs.{declared.{row.Row.{Row}, version.Version.{Version}}, Tree.{Tree, size_of}}
+use Rattle.pc_ground.specs.Refutes.{Branch, Signed, signed, literals_of, left_branch, right_branch}
 use Rattle.refutation.specs.Steps.{open_branches}
-use Rattle.order_graph.specs.{State.{Graph}, Clashes.{IsClash}, declared.clash.Clash.{Clash}}
+use Rattle.order_graph.specs.{State.{Graph}, Clashes.{leaf_of, IsClash}, declared.clash.Clash.{Clash}}
 use Rattle.solver.specs.{Spelled.{spelled, IsSpelled}, Below.{IsRowBelow}, Renamed.{tree_over}}
-use Rattle.solver.specs.{Places.{place_signed, side_positions, left_side, right_side, IsCandidate, AreSides}, Leaves.{IsClashBelow}}
+use Rattle.solver.specs.{Places.{side_positions, left_side, right_side, IsCandidate, AreSides}, Leaves.{IsClashBelow}}
 use Rattle.solver.specs.{Opens.{positions, waiting, IsLater, AreLater, opens, KeepsState, state_of, IsSame}, Numbered.{Numbered}}
 use Rattle.solver.specs.{Branches.{branches_with, HasOpenBranch}, declared.{search.branch.Branch.{Branch as OpenBranch}, tree.place.Place.{Place}, tree.side.Side.{Side}}}
 use Rattle.solver.{specs.{declared.search.later.Later.{Later}, Weights.{weight}, Descents.{IsLonger, HasMore}}, proofs.Runs.{open_partial}}
-use Rattle.solver.proofs.{ClashLeaf.{clash_below, literals_below}, KeepsState.{split_kept, left_is, right_is}, Weight.{weight_more, weight_split}}
+use Rattle.solver.proofs.{ClashLeaf.{leaf_below, literals_below}, KeepsState.{split_kept, opens_split}, Weight.{weight_more, weight_split}}
 
 pub clash_in : (n : ℕ) (rows : List (Row ℕ)) (ps : Branch) (k : Clash) → IsSpelled rows → All (IsRowBelow n) rows
     → IsClash (literals_of (spelled rows) ps) k → IsClashBelow n k
-clash_in n rows ps k flat all c = clash_below n (literals_of (spelled rows) ps) k (literals_below n rows ps flat all) c
+clash_in n rows ps k flat all c = leaf_below n (literals_of (spelled rows) ps) (leaf_of k) (literals_below n rows ps flat all) c
 
 pub one_open : (v : Version) (t : Numbered) (b : OpenBranch) (more : Branch) → HasOpenBranch v t b more → 0 < open_branches b.refutation
 one_open v t b more kept = omega (arith, open_partial v (tree_over t.nodes (spelled t.rows)) b.refutation (branches_with t b more) kept.partial)
@@ -58,20 +58,10 @@ lighter_split v t here ls ms l q candidate count side pushed =
     let p = q.position in
     let a = candidate.left in
     let b = candidate.right in
-    let subs = children_either (turned n t) p a b candidate.is_or in
-    let reversed : reverse ms ≡ l ∷ reverse ls = ap reverse pushed ∙ reverse-append ls (l ∷ []) in
-    let length_ps : length ps ≡ length here = length-map here place_signed in
-    let whole : take l.count ps ≡ ps = ap (λ k. take k ps) (count ∙ sym length_ps) ∙ take-length ps in
-    let left : ps ++ side_positions t (left_side q) ≡ left_branch ps n p a = left_is t ps n p a subs.0 in
-    let right : take l.count ps ++ side_positions t l.side ≡ right_branch v ps n p a b =
-    ap (λ rs. rs ++ side_positions t l.side) whole ∙ ap (λ z. ps ++ side_positions t z) side ∙ right_is v t ps n p a b subs.0 subs.1 in
-    let all : opens t (ps ++ side_positions t (left_side q)) here ms ≡ left_branch ps n p a ∷ right_branch v ps n p a b ∷ waiting t ps (reverse ls) =
-    ap (λ w. (ps ++ side_positions t (left_side q)) ∷ waiting t ps w) reversed
-    ∙ ap (λ u. u ∷ (take l.count ps ++ side_positions t l.side) ∷ waiting t (take l.count ps) (reverse ls)) left
-    ∙ ap (λ u. left_branch ps n p a ∷ u ∷ waiting t (take l.count ps) (reverse ls)) right
-    ∙ ap (λ u. left_branch ps n p a ∷ right_branch v ps n p a b ∷ waiting t u (reverse ls)) whole in
     let less = weight_split v t ps (waiting t ps (reverse ls)) n p a b candidate.is_or
     (λ i. candidate.no_left (contains_from_in (signed n (p + 1)) ps i)) (λ i. candidate.no_right (contains_from_in (signed n (p + 1 + size_of a)) ps i)) in
+    let all : opens t (ps ++ side_positions t (left_side q)) here ms ≡ left_branch ps n p a ∷ right_branch v ps n p a b ∷ waiting t ps (reverse ls) =
+    opens_split v t here ls ms l n p a b candidate.is_or count side pushed in
     omega (arith, less, ap (weight t) all)
 
 pub advanced : (v : Version) (nodes : List Node) (t : Tree ℕ) (g h i : Graph) (here there : List Place) (ls ms : List Later)

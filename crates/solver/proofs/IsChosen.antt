@@ -3,12 +3,12 @@ use Rattle.std.proofs.Common.{◌≡◌, ◌≤◌, ◌<◌, inl, inr, ℕ, ◌+
 use Rattle.std.{proofs.lemmas.List.{length-map, Elements.{All-contains}}, specs.Prelude.{slice_get, Contains, IsTrue, ◌↔◌, All, MatchBool}}
 use Rattle.pc_common.proofs.Elements.{In, in_from_contains, contains_from_in, in_map}
 use Rattle.pc_ground.specs.declared.{literal.Literal.{Literal}, row.{Row.{Row}, RowKind.TheVariants.{Or}}, version.Version.TheVariants.{One}}
-use Rattle.pc_ground.specs.{Rows.{root_kind, turned_row, turned_rows}, Tree.{Tree, either, turned, size_of}}
+use Rattle.pc_ground.specs.{Rows.{turned_row, turned_rows}, Tree.{Tree, either, turned, size_of}}
 use Rattle.pc_ground.specs.Refutes.{Signed, signed, subtree_at, part_at, literals_of}
-use Rattle.pc_ground.proofs.{Turned.{subtree_denied, size_turned}, FlatRows.{subtree_size, size_pos}, StageWalks.{some_same}}
+use Rattle.pc_ground.proofs.{Turned.{subtree_denied, size_turned}, FlatRows.{subtree_size, size_pos}}
 use Rattle.solver.specs.{Spelled.{spelled, IsSpelled}, Met.{IsMet, IsMetUnder}, Flags.{flag, AreTruths}, Opens.{positions}, declared.{tree.place.Place.{Place}, tree.side.Side.{Side}}}
 use Rattle.solver.specs.Places.{place_signed, IsOr, AreSides, IsUntaken, IsTaken, IsPending, IsPassed, IsCandidate, IsChosen, AreChosen}
-use Rattle.solver.proofs.{IsSpelled.{turned_flat}, IsIndexed.{place_is}, AreTruths.{or_tree}, HasAsserted.{length_spelled, row_root}}
+use Rattle.solver.proofs.{IsSpelled.{turned_flat}, IsIndexed.{place_is}, AreTruths.{or_tree}, HasAsserted.{length_spelled, root_row}}
 
 -- an Or's row, another one, and none
 pub or_row : (rows : List (Row ℕ)) (q : Signed) (r : Row ℕ) → IsSpelled rows → q.position < length rows
@@ -20,11 +20,8 @@ or_row rows q r flat inside at kind =
 pub other_row : (rows : List (Row ℕ)) (q : Signed) (r : Row ℕ) → IsSpelled rows → q.position < length rows
     → slice_get (turned_rows q.negated rows) q.position ≡ Some r → (r.kind ≡ Or → ⊥) → IsOr (spelled rows) q → ⊥
 other_row rows q r flat inside at other (a, b, e) =
-    let t = turned q.negated (spelled rows) in
-    let size = size_turned q.negated (spelled rows) in
-    let there = row_root (turned_rows q.negated rows) t q.position r (turned_flat q.negated rows flat)
-    (omega (arith, inside, size, length_spelled rows flat)) at in
-    other (ap (λ (x : Row ℕ). x.kind) there.2 ∙ ap root_kind (some_same (sym there.1 ∙ e)))
+    other (ap (λ (x : Row ℕ). x.kind)
+    (root_row (turned_rows q.negated rows) (turned q.negated (spelled rows)) q.position r (either a b) (turned_flat q.negated rows flat) at e))
 
 pub past_rows : (rows : List (Row ℕ)) (q : Signed) → IsSpelled rows → length rows ≤ q.position → IsOr (spelled rows) q → ⊥
 past_rows rows q flat past (a, b, e) =

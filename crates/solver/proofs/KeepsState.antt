@@ -5,7 +5,7 @@ use Rattle.std.proofs.Math.Seq.{take-length, take-append_seam, get_or-append_sea
 use Rattle.std.specs.{Prelude.{slice_index, Contains}, Option.{option_map}, List.{take-map}}
 use Rattle.pc_common.specs.{World.{Node}, Steps.{Leaf, Step, split, close}}
 use Rattle.pc_ground.specs.{Tree.{Tree, either, negation, turned, size_of}, declared.version.Version.{Version, TheVariants.{One, Two}}}
-use Rattle.pc_ground.specs.Refutes.{Branch, Signed, signed, all_signed, subtree_at, part_at, asserted, literals_of, Closes, left_branch, right_branch, IsPartial}
+use Rattle.pc_ground.specs.Refutes.{Branch, signed, all_signed, subtree_at, asserted, literals_of, Closes, left_branch, right_branch, IsPartial}
 use Rattle.pc_ground.proofs.{Turned.{subtree_denied, size_turned}, FlatRows.{children_either, subtree_size, size_pos}}
 use Rattle.order_graph.specs.State.{Graph, IsCut}
 use Rattle.solver.specs.{Renamed.{tree_over, renamed_tree, node_at}, Places.{place_signed, asserted_at, side_positions, left_side, right_side, IsSideIn}}
@@ -44,15 +44,12 @@ marks_more t ps marks more (l ∷ ls) h =
       subst Q (sym same) h.1,
     )
 
-pub part_over : (nodes : List Node) (t : Tree ℕ) (q : Signed) (s : Tree ℕ) → part_at t q ≡ Some s → part_at (tree_over nodes t) q ≡ Some (tree_over nodes s)
-part_over nodes t q s e = part_renamed (node_at nodes) t q ∙ ap (λ (o : Option (Tree ℕ)). option_map (renamed_tree (node_at nodes)) o) e
-
 -- what the branches of a split assert, over numbers
-pub left_is : (t : Tree ℕ) (ps : Branch) (n : Bool) (p : ℕ) (a : Tree ℕ) → subtree_at (turned n t) (p + 1) ≡ Some a
+left_is : (t : Tree ℕ) (ps : Branch) (n : Bool) (p : ℕ) (a : Tree ℕ) → subtree_at (turned n t) (p + 1) ≡ Some a
     → ps ++ side_positions t (left_side (signed n p)) ≡ left_branch ps n p a
 left_is t ps n p a at = ap (λ qs. ps ++ qs) (asserted_is t n (p + 1) a at)
 
-pub right_is : (v : Version) (t : Tree ℕ) (ps : Branch) (n : Bool) (p : ℕ) (a b : Tree ℕ)
+right_is : (v : Version) (t : Tree ℕ) (ps : Branch) (n : Bool) (p : ℕ) (a b : Tree ℕ)
     → subtree_at (turned n t) (p + 1) ≡ Some a → subtree_at (turned n t) (p + 1 + size_of a) ≡ Some b
     → ps ++ side_positions t (right_side v (signed n p) (size_of a)) ≡ right_branch v ps n p a b
 right_is One t ps n p a b left right = ap (λ qs. ps ++ qs) (asserted_is t n (p + 1 + size_of a) b right)
@@ -62,11 +59,27 @@ right_is Two t ps n p a b left right =
     ∙ ap (λ qs. ps ++ (qs ++ own)) (asserted_is t (not n) (p + 1) (negation a) (subtree_denied t n (p + 1) a left))
     ∙ sym (append_assoc ps (all_signed (not n) (asserted (negation a) (p + 1))) own)
 
+-- the branches once the Or is split
+pub opens_split : (v : Version) (t : Tree ℕ) (aps : List Place) (ls ms : List Later) (l : Later) (n : Bool) (p : ℕ) (a b : Tree ℕ)
+    → subtree_at (turned n t) p ≡ Some (either a b) → l.count ≡ length aps → l.side ≡ right_side v (signed n p) (size_of a) → ms ≡ ls ++ l ∷ []
+    → opens t (positions aps ++ side_positions t (left_side (signed n p))) aps ms
+    ≡ left_branch (positions aps) n p a ∷ right_branch v (positions aps) n p a b ∷ waiting t (positions aps) (reverse ls)
+opens_split v t aps ls ms l n p a b at count side pushed =
+    let ps = positions aps in
+    let children = children_either (turned n t) p a b at in
+    let whole : take l.count ps ≡ ps = ap (λ k. take k ps) (count ∙ sym (length-map aps place_signed)) ∙ take-length ps in
+    let right : ps ++ side_positions t l.side ≡ right_branch v ps n p a b =
+    ap (λ z. ps ++ side_positions t z) side ∙ right_is v t ps n p a b children.0 children.1 in
+    ap (λ w. (ps ++ side_positions t (left_side (signed n p))) ∷ waiting t ps w) (ap reverse pushed ∙ reverse-append ls (l ∷ []))
+    ∙ ap (λ u. u ∷ waiting t ps (l ∷ reverse ls)) (left_is t ps n p a children.0)
+    ∙ ap (λ rs. left_branch ps n p a ∷ (rs ++ side_positions t l.side) ∷ waiting t rs (reverse ls)) whole
+    ∙ ap (λ r. left_branch ps n p a ∷ r ∷ waiting t ps (reverse ls)) right
+
 -- and over nodes
-pub left_over : (nodes : List Node) (ps : Branch) (n : Bool) (p : ℕ) (a : Tree ℕ) → left_branch ps n p (tree_over nodes a) ≡ left_branch ps n p a
+left_over : (nodes : List Node) (ps : Branch) (n : Bool) (p : ℕ) (a : Tree ℕ) → left_branch ps n p (tree_over nodes a) ≡ left_branch ps n p a
 left_over nodes ps n p a = ap (λ qs. ps ++ all_signed n qs) (asserted_renamed (node_at nodes) a (p + 1))
 
-pub right_over : (nodes : List Node) (v : Version) (ps : Branch) (n : Bool) (p : ℕ) (a b : Tree ℕ)
+right_over : (nodes : List Node) (v : Version) (ps : Branch) (n : Bool) (p : ℕ) (a b : Tree ℕ)
     → right_branch v ps n p (tree_over nodes a) (tree_over nodes b) ≡ right_branch v ps n p a b
 right_over nodes One ps n p a b =
     let y = tree_over nodes b in
@@ -119,23 +132,18 @@ split_kept v nodes t g h aps ls ms ss us l n p a b kept on at same_literals same
     let here = ps ++ side_positions t (left_side (signed n p)) in
     let run : IsPartial v T ss (ps ∷ waiting t ps (reverse ls)) =
     (let P : Branch → Type 0 = λ rs. IsPartial v T ss (rs ∷ waiting t ps (reverse ls)) in subst P (append-nil ps) kept.partial) in
-    let next = runs_split v T ss ps (waiting t ps (reverse ls)) n p x y run on (part_over nodes t (signed n p) (either a b) at) in
-    let left : left_branch ps n p x ≡ here = left_over nodes ps n p a ∙ sym (left_is t ps n p a children.0) in
-    let right : right_branch v ps n p x y ≡ take l.count ps ++ side_positions t l.side =
-    right_over nodes v ps n p a b ∙ sym (right_is v t ps n p a b children.0 children.1)
-    ∙ ap (λ z. ps ++ side_positions t z) (sym side) ∙ ap (λ rs. rs ++ side_positions t l.side) (sym whole) in
-    let behind : waiting t ps (reverse ls) ≡ waiting t (take l.count ps) (reverse ls) = ap (λ rs. waiting t rs (reverse ls)) (sym whole) in
-    let P : Branch → Branch → List Branch → Type 0 = λ u r w. IsPartial v T (ss ++ split n p ∷ []) (u ∷ r ∷ w) in
-    let moved : IsPartial v T (ss ++ split n p ∷ []) (here ∷ waiting t ps (l ∷ reverse ls)) =
-    subst (λ w. P here (take l.count ps ++ side_positions t l.side) w) behind
-    (subst (λ r. P here r (waiting t ps (reverse ls))) right
-    (subst (λ u. P u (right_branch v ps n p x y) (waiting t ps (reverse ls))) left next)) in
-    let Q : List (Step Node) → List Later → Type 0 = λ u w. IsPartial v T u (here ∷ waiting t ps w) in record {
+    let over = part_renamed (node_at nodes) t (signed n p) ∙ ap (λ (o : Option (Tree ℕ)). option_map (renamed_tree (node_at nodes)) o) at in
+    let next = runs_split v T ss ps (waiting t ps (reverse ls)) n p x y run on over in
+    let split_over : left_branch ps n p x ∷ right_branch v ps n p x y ∷ waiting t ps (reverse ls) ≡ opens t here aps ms =
+    ap (λ u. u ∷ right_branch v ps n p x y ∷ waiting t ps (reverse ls)) (left_over nodes ps n p a)
+    ∙ ap (λ r. left_branch ps n p a ∷ r ∷ waiting t ps (reverse ls)) (right_over nodes v ps n p a b)
+    ∙ sym (opens_split v t aps ls ms l n p a b at count side pushed) in
+    let Q : List (Step Node) → List Branch → Type 0 = IsPartial v T in record {
       literals = same_literals ∙ kept.literals;
       all_nodes = same_nodes ∙ kept.all_nodes;
       marks = omega (arith, kept.marks, ap length marks, length-append g.marks (length g.literals ∷ []), ap length steps, length-append ss (split n p ∷ []));
       waits = subst W (sym reversed) (first, rest);
-      partial = subst (λ w. Q us w) (sym reversed) (subst (λ u. Q u (l ∷ reverse ls)) (sym steps) moved);
+      partial = subst (λ u. Q u (opens t here aps ms)) (sym steps) (subst (Q (ss ++ split n p ∷ [])) split_over next);
     }
 
 -- the side is all asserted

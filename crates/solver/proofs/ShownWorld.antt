@@ -75,11 +75,10 @@ chain_on nodes ls ns es s j (x ∷ xs) k h =
 
 -- the nodes of a tree's literals are numbers below n
 abbrev pub AreBelow : ℕ → Tree ℕ → Type 0
-AreBelow n always = Unit {0}
-AreBelow n never = Unit {0}
 AreBelow n (leaf l) = IsBelow n l
 AreBelow n (both a b) = AreBelow n a × AreBelow n b
 AreBelow n (either a b) = AreBelow n a × AreBelow n b
+AreBelow n t = Unit {0}
 
 pub not_true : (b : Bool) → (b ≡ true → ⊥) → not b ≡ true
 not_true true f = absurd (f refl)

@@ -12,17 +12,7 @@ returns-in-Refuted-clause-turn c =
     let closed = subst P (sym c.into_refutation.ensures) (subst F c.in-Refuted.is c.requires) in
     (closed, refutation_sound c.args.version t c.into_refutation.result closed)
 
-pub returns-in-Satisfied-clause-turn : goal.returns-in-Satisfied-clause-turn
-returns-in-Satisfied-clause-turn c =
-    let F : SearchStatus → Type 0 = IsStatus c.args.version c.args.tree c.args.branch in
-    subst F c.in-Satisfied.is c.requires
-
-pub invariant_of-result : goal.invariant_of-result
-invariant_of-result c =
-    let F : SearchStatus → Type 0 = IsStatus c.args.version c.args.tree c.args.branch in
-    subst F c.in-Undecided.is c.requires
-
 pub returns-in-Undecided-clause-turn : goal.returns-in-Undecided-clause-turn
 returns-in-Undecided-clause-turn c =
     let F : SearchStatus → Type 0 = IsStatus c.args.version c.args.tree c.args.branch in
-    (refl, refl, refl, searching c.args.version c.args.tree c.args.branch c.in-Undecided.first (subst F c.in-Undecided.is c.requires))
+    (refl, refl, refl, searching c.args.version c.args.tree c.args.branch c.in-Undecided.first _ (subst F c.in-Undecided.is c.requires) refl)

@@ -2,23 +2,12 @@ use Rattle.std.proofs.Common.{◌≤◌, ◌<◌, ◌+◌, ◌∙◌, ◌++◌, 
 use Rattle.pc_common.specs.Steps.{split}
 use Rattle.solver.specs.{Spelled.{spelled}, Places.{place_signed, side_positions}, Opens.{positions, opens}, Weights.{weight}, Descents.{IsLonger, HasMore}}
 use Rattle.solver.specs.{Statuses.{status_weight}, declared.{search.find.SearchStatus.{SearchStatus}, search.later.Later.{Later}}}
-use Rattle.solver.proofs.HasDescended.{one_open, more_longer, advanced}
+use Rattle.solver.proofs.HasDescended.{more_longer, advanced}
 use Rattle.order_graph.proofs.Results.{if_ok}
 use Rattle.solver.proofs.search.advance.advance.Goals as goal
 
-pub push_split-requires : goal.push_split-requires
-push_split-requires g c =
-    let b = c.args.branch.now in
-    let some = one_open c.args.version c.args.tree.now b [] c.requires.state in
-    rw c.choose.ensures.rest.steps some
-
-pub sides-requires-clause-is_or : goal.sides-requires-clause-is_or
-sides-requires-clause-is_or g c =
-    let candidate = c.in_ok-place.ensures.found in
-    (candidate.left, candidate.right, candidate.is_or)
-
-pub find-requires : goal.find-requires
-find-requires g c =
+pub find-requires-clause-state : goal.find-requires-clause-state
+find-requires-clause-state g c =
     let t = spelled c.args.tree.now.rows in
     let b = c.args.branch.now in
     let chosen = c.choose.new.branch in
@@ -31,11 +20,8 @@ find-requires g c =
     c.mark-mark.ensures.graph c.in_ok-place.ensures.graph c.choose.ensures.asserted c.sides.ensures.sides
     (c.len-count.ensures ∙ ap length c.choose.ensures.asserted) c.mark-mark.ensures.place refl
     (c.in_ok-push.ensures.items ∙ ap (λ ls. ls ++ later ∷ []) c.choose.ensures.rest.later)
-    (c.in_ok-push_split.ensures ∙ ap (λ ss. ss ++ split_at ∷ []) c.choose.ensures.rest.steps) in record {
-      side = c.sides.ensures.left_in;
-      no_false = c.requires.no_false;
-      state = next.0;
-    }
+    (c.in_ok-push_split.ensures ∙ ap (λ ss. ss ++ split_at ∷ []) c.choose.ensures.rest.steps) in
+    next.0
 
 pub returns-clause-lighter : goal.returns-clause-lighter
 returns-clause-lighter g c =

@@ -4,8 +4,8 @@ use Rattle.pc_ground.specs.Refutes.{literals_of}
 use Rattle.order_graph.specs.{Clashes.{leaf_of}, declared.clash.Clash.{Clash}}
 use Rattle.solver.specs.{Renamed.{node_at, renamed_leaf}, Spelled.{spelled}, Places.{side_positions, IsSideIn}, Leaves.{clash_step}}
 use Rattle.solver.specs.{Opens.{positions, opens, KeepsState, state_of, HasAsserted}, Branches.{branches_with}, Weights.{weight}, declared.tree.side.Side.{Side}}
-use Rattle.solver.{specs.declared.search.later.Later.{Later}, proofs.{ClashLeaf.{clash_leaf, clash_closes}, KeepsState.{closed_kept, closed_all, entered_kept}}}
-use Rattle.solver.proofs.HasDescended.{clash_in, one_open, longer_push, lighter_closed, next_inside}
+use Rattle.solver.{specs.declared.search.later.Later.{Later}, proofs.{ClashLeaf.{has_nodes, clash_closes}, KeepsState.{closed_kept, closed_all, entered_kept}}}
+use Rattle.solver.proofs.HasDescended.{clash_in, longer_push, lighter_closed, next_inside}
 use Rattle.solver.proofs.search.descend.descend.Goals as goal
 
 pub close-requires-clause-below : goal.close-requires-clause-below
@@ -24,14 +24,7 @@ close-requires-clause-leaf g c =
     let here = c.loop-branch.branch.asserted in
     let E : Option Clash → Type 0 = HasAsserted t (side_positions t c.loop-branch.side) here c.enter_next.new.branch.graph c.enter_next.new.branch.asserted in
     let clash = subst E c.in-Some.is c.in_ok-clash.ensures.entered in
-    clash_leaf c.args.tree.now.nodes (literals_of t (positions here ++ side_positions t c.loop-branch.side)) c.in-Some.clash clash
-
-pub close-requires-clause-open : goal.close-requires-clause-open
-close-requires-clause-open g c =
-    let t = spelled c.args.tree.now.rows in
-    let b = c.loop-branch.branch in
-    let some = one_open c.args.version c.args.tree.now b (side_positions t c.loop-branch.side) c.loop-branch.invariant.state in
-    rw c.enter_next.ensures.rest.steps some
+    has_nodes (node_at c.args.tree.now.nodes) (literals_of t (positions here ++ side_positions t c.loop-branch.side)) (leaf_of c.in-Some.clash) clash
 
 pub returns-in_default-go_back-clause-descended : goal.returns-in_default-go_back-clause-descended
 returns-in_default-go_back-clause-descended g c =

@@ -6,9 +6,6 @@ use Rattle.solver.proofs.tree.ors.sides.Goals as goal
 pub row-requires : goal.row-requires
 row-requires c = or_left_inside (spelled c.args.tree.now.rows) (place_signed c.args.place) c.requires.is_or
 
-pub overflow_add-left : goal.overflow_add-left
-overflow_add-left c = omega (arith, c.requires.small)
-
 pub overflow_add-root : goal.overflow_add-root
 overflow_add-root c =
     omega (
