@@ -7,7 +7,8 @@ use Rattle.pc_ground.specs.{declared.row.Row.{Row}, Tree.{Tree, always, never, l
 use Rattle.pc_ground.specs.Literals.{Joins, IsPresent, as_node, as_start, as_end}
 use Rattle.pc_ground.specs.Refutes.{subtree_at, Signed, signed, all_signed, part_at, Branch as TreeBranch, literal_of, literals_of, a_cycle, a_path, an_absence, Closes, a_contradiction, a_falsity, IsSplit}
 use Rattle.pc_ground.proofs.FlatRows.{subtree_part}
-use Rattle.lifter.specs.KnownFacts.{at_position, no_node, present, Entry, HasKey, IsPart, TellsLiteral, TellsAt, TellsAll, HaveMore, AreEdges, IsCycleKnown, IsPathKnown}
+use Rattle.refutation.specs.BranchFacts.{no_node, present}
+use Rattle.lifter.specs.KnownFacts.{or_at, Entry, HasKey, IsPart, TellsLiteral, TellsAt, TellsAll, HaveMore, AreEdges, IsCycleKnown, IsPathKnown}
 use Rattle.lifter.{specs.States.{IsCovered}, proofs.Tellings.{root_more}}
 
 pub covered_more : (rows : List (Row Node)) (es new : List Entry) (ps : TreeBranch) → HaveMore es new → IsCovered rows es ps → IsCovered rows new ps
@@ -75,7 +76,7 @@ module _ (t : Tree Node) (es : List Entry) (ps : TreeBranch) (covered : IsCovere
   only_false (a_falsity e) = e
 
   -- an Or that may be split is known, and stands under no sign
-  pub split_known : (n : Bool) (p : ℕ) (a b : Tree Node) → IsSplit t ps n p a b → (n ≡ false) × (subtree_at t p ≡ Some (either a b)) × HasKey es (at_position p)
+  pub split_known : (n : Bool) (p : ℕ) (a b : Tree Node) → IsSplit t ps n p a b → (n ≡ false) × (subtree_at t p ≡ Some (either a b)) × HasKey es (or_at p)
   split_known n p a b s =
       let c = covered (signed n p) (in_from_contains (signed n p) ps s.0) in
       (c.0, plain_at n c.0 s.1, c.1 (either a b) (plain_part n p (either a b) c.0 s.1))

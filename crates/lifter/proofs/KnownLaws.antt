@@ -5,12 +5,13 @@ use Rattle.pc_common.{specs.{Case.{Case}, World.{Node}}, proofs.{Elements.{In, i
 use Rattle.pc_ground.specs.{declared.row.Row.{Row}, Refutes.{Branch as TreeBranch}}
 use Rattle.lifted_facts.specs.{PlainFacts.{PlainFact, Branch, plain_fact, one_node, one_edge}, Lifted.{LiftedStep, Runs}}
 use Rattle.lifter.specs.declared.state.Later.{Later}
-use Rattle.lifter.specs.KnownFacts.{PlainKey, at_position, edge, no_edge, no_node, present, Entry, entry, HasKey, IsKnown, AreKnown, HasMarked, HaveMore}
+use Rattle.refutation.specs.BranchFacts.{PlainBranchFact, at_position, edge, no_edge, no_node, present}
+use Rattle.lifter.specs.KnownFacts.{Entry, entry, HasKey, IsKnown, AreKnown, HasMarked, HaveMore}
 use Rattle.lifter.specs.States.{waiting, AreLater, IsGood, IsSide, AreMatched, no_more, due, side}
 
 module _ (c : Case) (rows : List (Row Node)) where
-  pub known_more : (b more : Branch) (key : PlainKey) (k : ℕ) → IsKnown c rows b key k → IsKnown c rows (b ++ more) key k
-  known_more b more (at_position p) k h = (h.0, slice_get-more b more k h.0 h.1, h.2)
+  pub known_more : (b more : Branch) (key : PlainBranchFact) (k : ℕ) → IsKnown c rows b key k → IsKnown c rows (b ++ more) key k
+  known_more b more (at_position q) k h = (h.0, h.1, slice_get-more b more k h.1 h.2, h.3)
   known_more b more (edge x y) k h = slice_get-more b more k (one_edge true (Some x) (Some y)) h
   known_more b more (no_edge x y) k h = slice_get-more b more k (one_edge false (Some x) (Some y)) h
   known_more b more (no_node a) k h = slice_get-more b more k (one_node false (Some a)) h
@@ -63,7 +64,7 @@ module _ (c : Case) (rows : List (Row Node)) where
       append_none (x ∷ xs) = ap (λ zs. x ∷ zs) (append_none xs)
 
   -- one key more
-  pub good_key : (start : List Branch) (b : Branch) (old new : List Entry) (key : PlainKey) (k : ℕ) (ls : List Later) (steps : List LiftedStep)
+  pub good_key : (start : List Branch) (b : Branch) (old new : List Entry) (key : PlainBranchFact) (k : ℕ) (ls : List Later) (steps : List LiftedStep)
       → IsGood c rows start b old ls steps → HasMarked old key k new → IsKnown c rows b key k → IsGood c rows start b new ls steps
   good_key start b old new key k ls steps h m is = record {
     run = h.run;
@@ -77,10 +78,10 @@ module _ (c : Case) (rows : List (Row Node)) where
       append_none [] = refl
       append_none (x ∷ xs) = ap (λ zs. x ∷ zs) (append_none xs)
 
-      go : (other : PlainKey) (j : ℕ) → In (entry other j) old ⊎ ((key ≡ other) × (k ≡ j)) → IsKnown c rows b other j
+      go : (other : PlainBranchFact) (j : ℕ) → In (entry other j) old ⊎ ((key ≡ other) × (k ≡ j)) → IsKnown c rows b other j
       go other j (inl i) = h.known other j i
       go other j (inr e) =
-          let P : PlainKey → Type 0 = λ x. IsKnown c rows b x k in
+          let P : PlainBranchFact → Type 0 = λ x. IsKnown c rows b x k in
           let Q : ℕ → Type 0 = λ n. IsKnown c rows b other n in
           subst Q e.1 (subst P e.0 is)
 

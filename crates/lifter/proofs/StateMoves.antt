@@ -6,7 +6,8 @@ use Rattle.pc_ground.specs.declared.row.Row.{Row}
 use Rattle.lifted_facts.specs.{declared.{fact.Fact.{Fact}, way.Way.{Way}}, PlainFacts.{PlainFact, Branch, plain_fact, IsProper}}
 use Rattle.lifted_facts.specs.Lifted.{LiftedStep, derive, split, HasFact, HasPart, HasSides, Runs}
 use Rattle.lifter.specs.{Trees.{fact_tree}, declared.{kind.FactKind.TheVariants.{False}, state.{Task.{Task, TheVariants.{Close}}, Later.{Later}, State.{State}}}}
-use Rattle.lifter.specs.{Kinds.{kind_of}, Closings.{HasClosed}, KnownFacts.{PlainKey, Entry, IsKnown, AreKnown, HasMarked, HaveMore}}
+use Rattle.refutation.specs.BranchFacts.{PlainBranchFact}
+use Rattle.lifter.specs.{Kinds.{kind_of}, Closings.{HasClosed}, KnownFacts.{Entry, IsKnown, AreKnown, HasMarked, HaveMore}}
 use Rattle.lifter.specs.States.{branch_of, waiting, IsDue, AreKept, AreLater, IsGood, IsGoodState, AreMatched, due, Moves, HasGained}
 use Rattle.lifter.proofs.RunsMore.{last_fact, one_longer, ran_derive, ran_split}
 use Rattle.lifter.proofs.KnownLaws.{waiting_more, all_known_more, good_fact, good_key, good_same, matched_same, matched_more, later_more, keys_front, keys_same}
@@ -192,7 +193,7 @@ module _ (c : Case) (rows : List (Row Node)) where
       }
 
   -- a key more
-  pub marked : (old new : State) (key : PlainKey) (k : ℕ) → HasMarked old.known key k new.known → IsKnown c rows (branch_of old) key k
+  pub marked : (old new : State) (key : PlainBranchFact) (k : ℕ) → HasMarked old.known key k new.known → IsKnown c rows (branch_of old) key k
       → new.facts.items ≡ old.facts.items → new.later.items ≡ old.later.items → new.steps ≡ old.steps → Moves c rows old new
   marked old new key k m is facts later steps =
       let same : branch_of new ≡ branch_of old = ap (map plain_fact) facts in

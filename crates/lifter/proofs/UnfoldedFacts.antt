@@ -6,7 +6,7 @@ use Rattle.pc_ground.specs.declared.{literal.Literal.TheVariants.{Node as a_node
 use Rattle.pc_ground.{specs.{Tree.{Tree, never, leaf}, PlainGround.{disjoined}, Refutes.{asserted}}, proofs.NormalForms.{disjoined_never}}
 use Rattle.lifted_facts.specs.{PlainFacts.{PlainFact, Branch}, Parts.{sides, is_false}, Lifted.{HasFact}}
 use Rattle.lifter.specs.{Trees.{fact_tree}, declared.{kind.FactKind.{FactKind, TheVariants.{True, False, Open}}, state.State.{State}}, Kinds.{kind_of, joined_kind}}
-use Rattle.lifter.specs.{PartLists.{IsSaid, parts_from}, KnownFacts.{at_position, HasKey, IsPart, IsOr, TellsLiteral, TellsAll}, States.{branch_of, Moves}}
+use Rattle.lifter.specs.{PartLists.{IsSaid, parts_from}, KnownFacts.{or_at, HasKey, IsPart, IsOr, TellsLiteral, TellsAll}, States.{branch_of, Moves}}
 use Rattle.lifter.{specs.Unfoldings.{fact_of, HasUnfolded}, proofs.{KindLaws.{kind_joined}, SideLaws.{sides_tree, parts_tree, false_tree}, PartWays.{is_never}}}
 use Rattle.lifter.proofs.{StateMoves.{moves_then}, Tellings.{tells_leaf, tells_either}, TakenParts.{open_either}}
 
@@ -71,7 +71,7 @@ module _ (c : Case) (rows : List (Row Node)) where
 
     pub both_told : (old new : State) (at : ℕ) → kind_of (fact_tree c g) ≡ Open → kind_of (fact_tree c h) ≡ Open → IsPart rows at (fact_tree c f)
         → Moves c rows old new
-        → HasKey new.known (at_position at) → HasUnfolded c rows (fact_tree c f) at old new
+        → HasKey new.known (or_at at) → HasUnfolded c rows (fact_tree c f) at old new
     both_told old new at first second here moves has =
         let same = sides_tree c f g h are ∙ open_either (fact_tree c g) (fact_tree c h) first second in
         let P : Tree Node → Type 0 = λ t. IsPart rows at t in

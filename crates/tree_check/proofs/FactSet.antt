@@ -1,13 +1,12 @@
 -- The set of facts as a list of plain facts: look-ups, and a fact more.
-use Rattle.std.proofs.Common.{◌≡◌, ◌⊎◌, inl, inr, Bool, true, false, List, [], ◌∷◌, ◌++◌, map, length, take, refl, sym, ◌∙◌, ap, subst, eqb-true, eq-eqb}
-use Rattle.std.proofs.{Math.{Bool.{beq}, Seq.{take-append_seam, take-length}}, lemmas.Bool.{and_from, or_left, or_right}}
-use Rattle.std.specs.{Prelude.{Contains, IsTrue, ◌↔◌, ◌==◌}, List.{list_any}}
+use Rattle.std.proofs.Common.{◌≡◌, ◌⊎◌, inl, inr, true, false, List, [], ◌∷◌, ◌++◌, map, length, take, refl, sym, ap, subst}
+use Rattle.std.proofs.{Math.Seq.{take-append_seam, take-length}, lemmas.Bool.{or_left, or_right}}
+use Rattle.std.specs.{Prelude.{Contains, IsTrue, ◌↔◌}, List.{list_any}}
 use Rattle.indexmap.specs.IndexSet.{insert_key}
 use Rattle.pc_common.proofs.Elements.{In, in_from_contains, contains_from_in, in_front, in_back, in_either}
-use Rattle.pc_common.proofs.Bools.{true_or_false, and_first, and_second, or_either}
-use Rattle.pc_ground.{specs.{Keys.{key_node}, Refutes.{Signed, signed}}, proofs.Nodes.{key_eq, same_keys, keys_same}}
-use Rattle.tree_check.specs.{Facts.{PlainBranchFact, at_position, edge, no_edge, no_node, present, plain_branch_fact}, contracts.fact.FactPartialEq.TheImpl.{ghosts}}
-use Rattle.tree_check.specs.declared.fact.Fact.{Fact, TheVariants.{At, Edge, NoEdge, NoNode, Present}}
+use Rattle.pc_common.proofs.Bools.{true_or_false, or_either}
+use Rattle.refutation.specs.{BranchFacts.{PlainBranchFact, plain_branch_fact}, declared.branch_fact.BranchFact.{BranchFact}}
+use Rattle.refutation.proofs.SameBranchFacts.{fact_eq, same_facts, facts_same}
 
 found_in : (f : BranchFact) (fs : List BranchFact) → list_any (fact_eq f) fs ≡ true → In (plain_branch_fact f) (map plain_branch_fact fs)
 found_in f [] e = cc
