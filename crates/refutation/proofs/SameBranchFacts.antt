@@ -33,26 +33,7 @@ same_facts (NoEdge a b) (NoEdge c d) e = (let l = same_keys a c (and_first (key_
     let r = same_keys b d (and_second (key_eq a c) (key_eq b d) e) in ap (λ x. no_edge x (key_node b)) l ∙ ap (no_edge (key_node c)) r)
 same_facts (NoNode a) (NoNode c) e = ap no_node (same_keys a c e)
 same_facts (Present a) (Present c) e = ap present (same_keys a c e)
-same_facts (At m a) (Edge c d) e = cc
-same_facts (At m a) (NoEdge c d) e = cc
-same_facts (At m a) (NoNode c) e = cc
-same_facts (At m a) (Present c) e = cc
-same_facts (Edge a b) (At n c) e = cc
-same_facts (Edge a b) (NoEdge c d) e = cc
-same_facts (Edge a b) (NoNode c) e = cc
-same_facts (Edge a b) (Present c) e = cc
-same_facts (NoEdge a b) (At n c) e = cc
-same_facts (NoEdge a b) (Edge c d) e = cc
-same_facts (NoEdge a b) (NoNode c) e = cc
-same_facts (NoEdge a b) (Present c) e = cc
-same_facts (NoNode a) (At n c) e = cc
-same_facts (NoNode a) (Edge c d) e = cc
-same_facts (NoNode a) (NoEdge c d) e = cc
-same_facts (NoNode a) (Present c) e = cc
-same_facts (Present a) (At n c) e = cc
-same_facts (Present a) (Edge c d) e = cc
-same_facts (Present a) (NoEdge c d) e = cc
-same_facts (Present a) (NoNode c) e = cc
+same_facts _ _ e = cc
 
 pub facts_same : (f g : BranchFact) → plain_branch_fact f ≡ plain_branch_fact g → fact_eq f g ≡ true
 facts_same (At m a) (At n c) e =
@@ -64,23 +45,4 @@ facts_same (NoEdge a b) (NoEdge c d) e = (let l : key_node a ≡ key_node c = cc
     and_from (key_eq a c) (key_eq b d) (keys_same a c l) (keys_same b d r))
 facts_same (NoNode a) (NoNode c) e = (let l : key_node a ≡ key_node c = cc in keys_same a c l)
 facts_same (Present a) (Present c) e = (let l : key_node a ≡ key_node c = cc in keys_same a c l)
-facts_same (At m a) (Edge c d) e = cc
-facts_same (At m a) (NoEdge c d) e = cc
-facts_same (At m a) (NoNode c) e = cc
-facts_same (At m a) (Present c) e = cc
-facts_same (Edge a b) (At n c) e = cc
-facts_same (Edge a b) (NoEdge c d) e = cc
-facts_same (Edge a b) (NoNode c) e = cc
-facts_same (Edge a b) (Present c) e = cc
-facts_same (NoEdge a b) (At n c) e = cc
-facts_same (NoEdge a b) (Edge c d) e = cc
-facts_same (NoEdge a b) (NoNode c) e = cc
-facts_same (NoEdge a b) (Present c) e = cc
-facts_same (NoNode a) (At n c) e = cc
-facts_same (NoNode a) (Edge c d) e = cc
-facts_same (NoNode a) (NoEdge c d) e = cc
-facts_same (NoNode a) (Present c) e = cc
-facts_same (Present a) (At n c) e = cc
-facts_same (Present a) (Edge c d) e = cc
-facts_same (Present a) (NoEdge c d) e = cc
-facts_same (Present a) (NoNode c) e = cc
+facts_same _ _ e = cc
