@@ -1,6 +1,6 @@
--- Look-ups by keys, as lists of plain keys with their numbers, and a key more.
+-- Look-ups by facts of a branch, in lists of plain ones with their numbers, and one more.
 use Rattle.std.proofs.Common.{◌≡◌, ◌⊎◌, inl, inr, ℕ, Bool, true, false, List, [], ◌∷◌, ◌++◌, Option, Some, None, cond, refl, sym, ◌∙◌, ap, subst}
-use Rattle.std.{proofs.lemmas.List.{map-append}, specs.{Prelude.{MatchOption}, Map.{lookup}}}
+use Rattle.std.{proofs.lemmas.List.{append-nil, map-append}, specs.{Prelude.{MatchOption}, Map.{lookup}}}
 use Rattle.indexmap.specs.IndexMap.{insert_entry}
 use Rattle.pc_common.proofs.{Elements.{In, in_back, in_either}, Bools.{true_or_false}}
 use Rattle.refutation.specs.{BranchFacts.{PlainBranchFact, plain_branch_fact}, declared.branch_fact.BranchFact.{BranchFact}}
@@ -33,15 +33,11 @@ found_none key (x ∷ es) e k (inl same) =
     let clash : true ≡ false = sym agreed ∙ n.0 in cc
 found_none key (x ∷ es) e k (inr i) = found_none key es (first_none (fact_eq key x.0) x.1 (lookup (fact_eq key) es) e).1 k i
 
-append_none : {X : Type 0} (xs : List X) → xs ++ [] ≡ xs
-append_none [] = refl
-append_none (x ∷ xs) = ap (λ zs. x ∷ zs) (append_none xs)
-
 -- a key that is there already
 pub marked_before : (es : List Entry) (key : PlainBranchFact) (j k : ℕ) → In (entry key j) es → HasMarked es key k es
 marked_before es key j k i = record {
   more = [];
-  first = sym (append_none es);
+  first = sym (append-nil es);
   each = λ other n here. inl here;
   has = (j, i);
 }

@@ -1,6 +1,6 @@
 -- What is known stays known while a branch goes on.
 use Rattle.std.proofs.Common.{◌≡◌, ◌⊎◌, inl, inr, ℕ, true, false, List, [], ◌∷◌, ◌++◌, Some, take, refl, sym, ap, subst, arith, length-append}
-use Rattle.std.proofs.lemmas.List.{take-append-le}
+use Rattle.std.proofs.lemmas.List.{append-nil, take-append-le}
 use Rattle.pc_common.{specs.{Case.{Case}, World.{Node}}, proofs.{Elements.{In, in_front}, Places.{slice_get-more}}}
 use Rattle.pc_ground.specs.{declared.row.Row.{Row}, Refutes.{Branch as TreeBranch}}
 use Rattle.lifted_facts.specs.{PlainFacts.{PlainFact, Branch, plain_fact, one_node, one_edge}, Lifted.{LiftedStep, Runs}}
@@ -56,12 +56,8 @@ module _ (c : Case) (rows : List (Row Node)) where
   good_fact start b g es ls old new h r = record {
     run = (let P : List Branch → Type 0 = λ ws. Runs c new start ((b ++ g ∷ []) ∷ ws) in subst P (sym (waiting_more b (g ∷ []) es ls h.later)) r);
     known = all_known_more b (g ∷ []) es h.known;
-    later = (let P : List Entry → Type 0 = λ xs. AreLater c rows (b ++ g ∷ []) xs ls in subst P (append_none es) (later_more b (g ∷ []) es [] ls h.later));
+    later = (let P : List Entry → Type 0 = λ xs. AreLater c rows (b ++ g ∷ []) xs ls in subst P (append-nil es) (later_more b (g ∷ []) es [] ls h.later));
   }
-    where
-      append_none : {X : Type 0} (xs : List X) → xs ++ [] ≡ xs
-      append_none [] = refl
-      append_none (x ∷ xs) = ap (λ zs. x ∷ zs) (append_none xs)
 
   -- one key more
   pub good_key : (start : List Branch) (b : Branch) (old new : List Entry) (key : PlainBranchFact) (k : ℕ) (ls : List Later) (steps : List LiftedStep)
@@ -70,14 +66,10 @@ module _ (c : Case) (rows : List (Row Node)) where
     run = h.run;
     known = λ other j i. go other j (m.each other j i);
     later = (let P : List Entry → Type 0 = λ xs. AreLater c rows b xs ls in
-        subst P (sym m.first) (let B : Branch → Type 0 = λ x. AreLater c rows x (old ++ m.more) ls in subst B (append_none b)
+        subst P (sym m.first) (let B : Branch → Type 0 = λ x. AreLater c rows x (old ++ m.more) ls in subst B (append-nil b)
         (later_more b [] old m.more ls h.later)));
   }
     where
-      append_none : {X : Type 0} (xs : List X) → xs ++ [] ≡ xs
-      append_none [] = refl
-      append_none (x ∷ xs) = ap (λ zs. x ∷ zs) (append_none xs)
-
       go : (other : PlainBranchFact) (j : ℕ) → In (entry other j) old ⊎ ((key ≡ other) × (k ≡ j)) → IsKnown c rows b other j
       go other j (inl i) = h.known other j i
       go other j (inr e) =
