@@ -1,5 +1,5 @@
 -- The set of facts as a list of plain facts: look-ups, and a fact more.
-use Rattle.std.proofs.Common.{◌≡◌, ◌⊎◌, inl, inr, true, false, List, [], ◌∷◌, ◌++◌, map, length, take, refl, sym, ap, subst}
+use Rattle.std.proofs.Common.{◌≡◌, ◌⊎◌, inl, inr, true, List, [], ◌∷◌, ◌++◌, map, length, take, refl, sym, ap, subst}
 use Rattle.std.proofs.{Math.Seq.{take-append_seam, take-length}, lemmas.Bool.{or_left, or_right}}
 use Rattle.std.specs.{Prelude.{Contains, IsTrue, ◌↔◌}, List.{list_any}}
 use Rattle.indexmap.specs.IndexSet.{insert_key}
