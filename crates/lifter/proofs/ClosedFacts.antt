@@ -28,10 +28,8 @@ closed_by_part c f g way k n m old one new part more is rest = λ start b opens 
 
 either_false : (a b : FactKind) → joined_kind false a b ≡ False → (a ≡ False) × (b ≡ False)
 either_false False b e = (refl, e)
-either_false True b e = cc
-either_false Open True e = cc
-either_false Open False e = cc
 either_false Open Open e = cc
+either_false _ _ e = cc
 
 -- both sides of a fact that is False are so
 pub sides_false : (c : Case) (f g h : PlainFact) → sides c f ≡ Some (g, h) → kind_of (fact_tree c f) ≡ False

@@ -26,13 +26,9 @@ covered_side rows es ps more h told q i = elim (in_either q ps (all_signed false
 
 module _ (t : Tree Node) (es : List Entry) (ps : TreeBranch) (covered : IsCovered (rows_of t) es ps) where
   is_leaf : (o : Option (Tree Node)) (l : Literal Node) → In l (literal_of o) → o ≡ Some (leaf l)
-  is_leaf None l i = elim i [ ]
-  is_leaf (Some always) l i = elim i [ ]
-  is_leaf (Some never) l i = elim i [ ]
   is_leaf (Some (leaf m)) l (inl e) = ap (λ x. Some (leaf x)) e
   is_leaf (Some (leaf m)) l (inr i) = elim i [ ]
-  is_leaf (Some (both a b)) l i = elim i [ ]
-  is_leaf (Some (either a b)) l i = elim i [ ]
+  is_leaf _ l i = elim i [ ]
 
   -- the part of the tree, or of its negation, under no sign
   plain_part : (n : Bool) (p : ℕ) (s : Tree Node) → n ≡ false → subtree_at (turned n t) p ≡ Some s → IsPart (rows_of t) p s

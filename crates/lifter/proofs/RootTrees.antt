@@ -35,25 +35,17 @@ no_always t steps e r =
 
 -- the kind of a tree by its first row
 pub row_never : (t : Tree Node) → root_kind t ≡ False → kind_of t ≡ NeverKind
-row_never always e = cc
 row_never never e = refl
-row_never (leaf l) e = cc
-row_never (both a b) e = cc
-row_never (either a b) e = cc
+row_never _ e = cc
 
 pub row_open : (t : Tree Node) (steps : List (Step Node)) → (root_kind t ≡ False → ⊥) → IsRefutation One t steps → kind_of t ≡ Open
 row_open always steps refused r = absurd (no_always always steps refl r)
 row_open never steps refused r = absurd (refused refl)
-row_open (leaf l) steps refused r = refl
-row_open (both a b) steps refused r = refl
-row_open (either a b) steps refused r = refl
+row_open _ steps refused r = refl
 
 open_some : (t : Tree Node) → kind_of t ≡ Open → t ≡ never → ⊥
-open_some always e f = cc
 open_some never e f = cc
-open_some (leaf l) e f = cc
-open_some (both a b) e f = cc
-open_some (either a b) e f = cc
+open_some _ e f = cc
 
 -- the whole tree stands at position 0
 pub stands_whole : (t u : Tree Node) (rows : List (Row Node)) → rows ≡ rows_of t → t ≡ u → IsPart rows 0 u

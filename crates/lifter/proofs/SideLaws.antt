@@ -66,10 +66,7 @@ module _ (c : Case) where
 
   conjoined_always : (t : Tree Node) → conjoined t always ≡ t
   conjoined_always always = refl
-  conjoined_always never = refl
-  conjoined_always (leaf l) = refl
-  conjoined_always (both a b) = refl
-  conjoined_always (either a b) = refl
+  conjoined_always _ = refl
 
   two_parts : (plus more : Bool) (p q : PlainClosed) (slots : List Meaning)
       → conjoined (said_tree c plus p slots) (said_tree c more q slots) ≡ joined_trees true (map (fact_tree c) (said plus p slots 0 ∷ said more q slots 0 ∷ []))

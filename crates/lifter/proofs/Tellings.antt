@@ -13,11 +13,9 @@ literal_more es new (not_node a) m h = m (no_node a) h
 literal_more es new (not_edge a b) m h = m (no_edge a b) h
 
 pub root_more : (es new : List Entry) (p : ℕ) (s : Tree Node) → HaveMore es new → TellsRoot es p s → TellsRoot new p s
-root_more es new p always m h = tt
-root_more es new p never m h = tt
 root_more es new p (leaf l) m h = literal_more es new l m h
-root_more es new p (both a b) m h = tt
 root_more es new p (either a b) m h = m (or_at p) h
+root_more es new p _ m h = tt
 
 module _ (rows : List (Row Node)) where
   pub tells_more : (es new : List Entry) (ps : List ℕ) → HaveMore es new → TellsAll rows es ps → TellsAll rows new ps

@@ -12,9 +12,7 @@ use Rattle.lifter.proofs.{StateMoves.{moves_then}, Tellings.{tells_leaf, tells_e
 
 pub literal_tree : (c : Case) (l : Literal Node) → fact_tree c (fact_of l) ≡ leaf l
 literal_tree c (a_node a) = refl
-literal_tree c (an_edge a b) = refl
-literal_tree c (not_node a) = refl
-literal_tree c (not_edge a b) = refl
+literal_tree c _ = refl
 
 -- Or that is no constant, where the first side is one, and where only the second one is
 lost_one : (a b : FactKind) → joined_kind false a b ≡ Open → (a ≡ Open → ⊥) → (a ≡ False) × (b ≡ Open)
@@ -23,11 +21,9 @@ lost_one False b e other = (refl, e)
 lost_one Open b e other = absurd (other refl)
 
 lost_two : (a b : FactKind) → a ≡ Open → joined_kind false a b ≡ Open → (b ≡ Open → ⊥) → b ≡ False
-lost_two True b a e other = cc
-lost_two False b a e other = cc
-lost_two Open True a e other = cc
 lost_two Open False a e other = refl
 lost_two Open Open a e other = absurd (other refl)
+lost_two _ _ a e other = cc
 
 module _ (c : Case) (rows : List (Row Node)) where
   -- after some moves a tree is unfolded

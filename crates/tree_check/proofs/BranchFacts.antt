@@ -233,8 +233,5 @@ facts_of_lit p k l e = ap (λ x. facts_of_kind p (renamed_kind key_node x)) (sym
 
 pub fact_of_position : (p : Signed) (k : RowKind NodeKey) → ((l : Literal NodeKey) → k ≡ Lit l → ⊥)
     → at_position p ∷ [] ≡ facts_of_kind p (renamed_kind key_node k)
-fact_of_position p True none = refl
-fact_of_position p False none = refl
 fact_of_position p (Lit l) none = absurd (none l refl)
-fact_of_position p And none = refl
-fact_of_position p Or none = refl
+fact_of_position p _ none = refl

@@ -16,10 +16,7 @@ use Rattle.tree_check.proofs.{BranchFacts.{position_of_fact, added_none, added_t
 -- keys renamed, a row is as long
 pub stride_node : (k : RowKind NodeKey) (n : ℕ) → stride_of (renamed_kind key_node k) n ≡ stride_of k n
 stride_node True n = refl
-stride_node False n = refl
-stride_node (Lit l) n = refl
-stride_node And n = refl
-stride_node Or n = refl
+stride_node _ n = refl
 
 root_stride : {N : Type 0} (s : Tree N) → 0 < stride (root_of s)
 root_stride always = omega arith
@@ -72,10 +69,7 @@ walked_start rows n root r facts (t, flat) here =
 
 root_facts : (s : Tree Node) (q : Signed) → facts_of_kind q (root_of s).kind ≡ facts_of_part (Some s) q
 root_facts always q = refl
-root_facts never q = refl
-root_facts (leaf l) q = refl
-root_facts (both a b) q = refl
-root_facts (either a b) q = refl
+root_facts _ q = refl
 
 facts_here : (t : Tree Node) (n : Bool) (rows : List (Row Node)) (p : ℕ) (r : Row Node) → rows ≡ rows_of t → slice_get (turned_rows n rows) p ≡ Some r
     → facts_of_kind (signed n p) r.kind ≡ facts_at t (signed n p)
@@ -133,11 +127,8 @@ walked_all rows n root end at old new w past t flat =
 
 -- a part of one literal asserts what the literal says
 alone : (s : Tree Node) (p : ℕ) (l : Literal Node) → (root_of s).kind ≡ Lit l → asserted s p ≡ p ∷ []
-alone always p l e = cc
-alone never p l e = cc
 alone (leaf m) p l e = refl
-alone (both a b) p l e = cc
-alone (either a b) p l e = cc
+alone _ p l e = cc
 
 facts_of_one : (t : Tree Node) (n : Bool) (rows : List (Row Node)) (root : ℕ) (r : Row Node) (l : Literal Node) → rows ≡ rows_of t
     → slice_get (turned_rows n rows) root ≡ Some r → r.kind ≡ Lit l → facts_of_literal l ≡ facts_on t (positions_at t n root)
