@@ -4,7 +4,7 @@ use Rattle.pc_common.specs.Case.{Case}
 use Rattle.lifted_facts.specs.declared.{way.Way.{Way}, fact.Fact.{Fact, TheVariants.{Said, Node as NodeFact, Edge as EdgeFact}}}
 use Rattle.lifted_facts.specs.{PlainFacts.{PlainFact, plain_fact, plain_part}, Parts.{part_of, sides, is_false}}
 use Rattle.lifted_facts.specs.Lifted.{LiftedStep, derive, split, close, falsity}
-use Rattle.lifter.specs.{Trees.{fact_tree, joined_trees}, PartLists.{parts}, declared.kind.FactKind.{FactKind, TheVariants.{True, False, Open}}}
+use Rattle.lifter.specs.{Trees.{fact_tree, joined_trees}, PartLists.{parts}, declared.kind.FactKind.{FactKind, TheVariants.{False, Open}}}
 use Rattle.lifter.{specs.{Kinds.{kind_of, joined_kind}, Closings.{HasClosed}}, proofs.{KindLaws.{kind_joined}, SideLaws.{sides_tree, parts_tree}}}
 use Rattle.lifter.proofs.RunsMore.{last_fact, one_longer, ran_derive, ran_split, ran_close}
 

@@ -1,9 +1,9 @@
 -- What the steps of a refutation of the ground tree say of what is known.
-use Rattle.std.{proofs.Common.{◌≡◌, inl, inr, ℕ, Bool, true, false, List, [], ◌∷◌, ◌++◌, Option, Some, None, refl, sym, ap, subst}, specs.Prelude.{Contains}}
+use Rattle.std.{proofs.Common.{◌≡◌, inl, inr, ℕ, Bool, true, false, List, [], ◌∷◌, ◌++◌, Option, Some, refl, sym, ap, subst}, specs.Prelude.{Contains}}
 use Rattle.pc_common.specs.{World.{Node}, Chain.{Leads}, Steps.{cycle, path, absent, false_step}}
 use Rattle.pc_common.proofs.Elements.{In, in_from_contains, in_either, from_flat, from_map}
 use Rattle.pc_ground.specs.declared.literal.Literal.{Literal, TheVariants.{Node as a_node, Edge as an_edge, NoNode as not_node, NoEdge as not_edge}}
-use Rattle.pc_ground.specs.{declared.row.Row.{Row}, Tree.{Tree, always, never, leaf, both, either, turned}, Rows.{rows_of}}
+use Rattle.pc_ground.specs.{declared.row.Row.{Row}, Tree.{Tree, never, leaf, either, turned}, Rows.{rows_of}}
 use Rattle.pc_ground.specs.Literals.{Joins, IsPresent, as_node, as_start, as_end}
 use Rattle.pc_ground.specs.Refutes.{subtree_at, Signed, signed, all_signed, part_at, Branch as TreeBranch, literal_of, literals_of, a_cycle, a_path, an_absence, Closes, a_contradiction, a_falsity, IsSplit}
 use Rattle.pc_ground.proofs.FlatRows.{subtree_part}

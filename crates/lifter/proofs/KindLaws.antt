@@ -1,8 +1,8 @@
 -- Which constant And and Or over trees are.
 use Rattle.std.proofs.Common.{◌≡◌, ◌⊎◌, inl, inr, Bool, true, false, List, [], ◌∷◌, map, length, refl, ◌∙◌, ap}
 use Rattle.pc_common.{specs.World.{Node}, proofs.Elements.{In}}
-use Rattle.pc_ground.specs.{Tree.{Tree, always, never, leaf, both, either}, PlainGround.{conjoined, disjoined}}
-use Rattle.lifter.specs.{Trees.{joined_tree, joined_trees}, declared.kind.FactKind.{FactKind, TheVariants.{True, Open, False}}}
+use Rattle.pc_ground.specs.{Tree.{Tree, leaf, both, either}, PlainGround.{conjoined, disjoined}}
+use Rattle.lifter.specs.{Trees.{joined_tree, joined_trees}, declared.kind.FactKind.{FactKind, TheVariants.{True, Open}}}
 use Rattle.lifter.specs.Kinds.{kind_of, joined_kind, decider, neutral, kind_over}
 
 kind_conjoined : (t u : Tree Node) → kind_of (conjoined t u) ≡ joined_kind true (kind_of t) (kind_of u)

@@ -5,7 +5,7 @@ use Rattle.pc_common.{specs.{Case.{Case}, World.{Node}}, proofs.Places.{there_at
 use Rattle.pc_syntax.specs.declared.{closed_term.{ClosedNode.{ClosedNode}, ClosedEdge.{ClosedEdge}}, term.Sort.{Sort, TheVariants.{Microop, Core}}}
 use Rattle.pc_syntax.specs.Truth.{Meaning, range_of}
 use Rattle.pc_syntax.specs.Closed.{PlainClosed, plain_closed, closed_not, closed_and, closed_or, closed_implies, closed_forall, closed_exists, closed_nodes, closed_edges, closed_bind, closed_node}
-use Rattle.pc_ground.specs.Tree.{Tree, always, never, leaf, both, either}
+use Rattle.pc_ground.specs.Tree.{Tree, always, never}
 use Rattle.static_preds.{proofs.Walked.{drop_at}, specs.Values.{meanings}}
 use Rattle.lifted_facts.specs.declared.{fact.{Said.{Said as SaidFact}, Fact.{Fact, TheVariants.{Said}}}, way.Way.{Way}}
 use Rattle.lifted_facts.specs.{PlainFacts.{PlainFact, said, one_node, one_edge, plain_fact, plain_part}, Parts.{said_inside, part_of}}

@@ -5,7 +5,7 @@ use Rattle.std.specs.Option.{option_map, option_and_then}
 use Rattle.pc_common.{specs.{Case.{Case}, World.{Node}}, proofs.Places.{there_at}}
 use Rattle.pc_syntax.specs.{declared.closed_term.{ClosedNode.{ClosedNode}, ClosedEdge.{ClosedEdge}}, Predicates.{predicate_holds}, Truth.{Meaning, range_of}}
 use Rattle.pc_syntax.specs.Closed.{PlainClosed, closed_not, closed_and, closed_or, closed_implies, closed_forall, closed_exists, closed_static, closed_nodes, closed_edges, closed_bind, closed_node, closed_value, closed_argument}
-use Rattle.pc_ground.specs.{Tree.{Tree, always, never, leaf, both, either}, PlainGround.{conjoined, disjoined}, Unfolded.{decided}}
+use Rattle.pc_ground.specs.{Tree.{Tree, always, never}, PlainGround.{conjoined, disjoined}, Unfolded.{decided}}
 use Rattle.static_preds.proofs.Walked.{drop_at}
 use Rattle.lifted_facts.specs.{declared.way.Way.{Way, TheVariants.{Left, Right, Not, Bind, Inst, Member}}, PlainFacts.{PlainFact, said, one_node, one_edge}}
 use Rattle.lifted_facts.{specs.Parts.{number_of_instance, said_inside, part_of, or_later, sides, is_false}, proofs.PartTruth.{mapped}}

@@ -1,7 +1,7 @@
 -- And over facts, of which the ones before a place are unfolded.
 use Rattle.std.{proofs.Common.{◌≡◌, ℕ, ◌+◌, List, Some, refl, sym, ◌∙◌, ap, subst}, specs.Prelude.{slice_get}}
 use Rattle.pc_common.specs.{Case.{Case}, World.{Node}}
-use Rattle.pc_ground.specs.{declared.row.Row.{Row}, Tree.{Tree, always, never, both, either, size_of, leaf}, PlainGround.{conjoined, disjoined}}
+use Rattle.pc_ground.specs.{declared.row.Row.{Row}, Tree.{Tree, always, both, either, size_of, leaf}, PlainGround.{conjoined, disjoined}}
 use Rattle.pc_ground.{specs.Refutes.{asserted}, proofs.{FlatRows.{parts_both}, NormalForms.{conjoined_always}}}
 use Rattle.lifted_facts.specs.PlainFacts.{PlainFact}
 use Rattle.lifter.specs.{Trees.{fact_tree}, declared.{kind.FactKind.TheVariants.{Open}, state.State.{State}}, Kinds.{kind_of}}

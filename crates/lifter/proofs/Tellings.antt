@@ -2,7 +2,7 @@
 use Rattle.std.proofs.Common.{◌≡◌, inl, inr, ℕ, ◌+◌, List, subst}
 use Rattle.pc_common.{specs.World.{Node}, proofs.Elements.{in_either}}
 use Rattle.pc_ground.specs.declared.literal.Literal.{Literal, TheVariants.{Node as a_node, Edge as an_edge, NoNode as not_node, NoEdge as not_edge}}
-use Rattle.pc_ground.{specs.{declared.row.Row.{Row}, Tree.{Tree, leaf, both, either, size_of, always, never}, Refutes.{asserted}}, proofs.FlatRows.{one_part}}
+use Rattle.pc_ground.{specs.{declared.row.Row.{Row}, Tree.{Tree, leaf, both, either, size_of}, Refutes.{asserted}}, proofs.FlatRows.{one_part}}
 use Rattle.refutation.specs.BranchFacts.{edge, no_edge, no_node, present}
 use Rattle.lifter.specs.KnownFacts.{or_at, Entry, HasKey, IsPart, TellsLiteral, TellsRoot, TellsAt, TellsAll, HaveMore}
 

@@ -2,7 +2,7 @@
 use Rattle.std.{proofs.Common.{◌≡◌, ℕ, Bool, true, false, List, Some, None, refl, sym, ◌∙◌, ap, subst}, specs.Prelude.{Result, Ok, Err, OnOk}}
 use Rattle.pc_common.specs.{Case.{Case}, World.{Node}}
 use Rattle.pc_ground.specs.{Keys.{literal_node}, declared.{node_key.NodeKey.{NodeKey}, literal.Literal.{Literal}}}
-use Rattle.pc_ground.specs.declared.{literal.Literal.TheVariants.{Node as a_node, Edge as an_edge, NoNode as not_node, NoEdge as not_edge}, row.Row.{Row}}
+use Rattle.pc_ground.specs.declared.{literal.Literal.TheVariants.{Node as a_node}, row.Row.{Row}}
 use Rattle.pc_ground.{specs.{Tree.{Tree, never, leaf}, PlainGround.{disjoined}, Refutes.{asserted}}, proofs.NormalForms.{disjoined_never}}
 use Rattle.lifted_facts.specs.{PlainFacts.{PlainFact, Branch}, Parts.{sides, is_false}, Lifted.{HasFact}}
 use Rattle.lifter.specs.{Trees.{fact_tree}, declared.{kind.FactKind.{FactKind, TheVariants.{True, False, Open}}, state.State.{State}}, Kinds.{kind_of, joined_kind}}

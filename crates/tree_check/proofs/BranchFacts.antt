@@ -3,7 +3,7 @@ use Rattle.std.proofs.{Common.{◌≡◌, ◌⊎◌, inl, inr, List, [], ◌∷�
 use Rattle.std.{proofs.lemmas.Grind.{flat_map-append}, specs.Prelude.{Contains, ◌↔◌}}
 use Rattle.pc_common.{specs.World.{Node}, proofs.Elements.{In, in_from_contains, contains_from_in, in_front, in_back, in_either, in_flat, from_flat}}
 use Rattle.pc_ground.specs.declared.literal.Literal.{Literal, TheVariants.{Node as a_node, Edge as an_edge, NoNode as not_node, NoEdge as not_edge}}
-use Rattle.pc_ground.specs.declared.{node_key.NodeKey.{NodeKey}, row.RowKind.{RowKind, TheVariants.{Lit, True, False, And, Or}}}
+use Rattle.pc_ground.specs.declared.{node_key.NodeKey.{NodeKey}, row.RowKind.{RowKind, TheVariants.{Lit}}}
 use Rattle.pc_ground.specs.{Keys.{key_node, literal_node, renamed_kind}, Tree.{Tree, leaf, either}}
 use Rattle.pc_ground.specs.{Literals.{IsPresent, as_node, as_start, as_end}, Refutes.{Signed, Branch, part_at, literal_of, literals_of}}
 use Rattle.refutation.specs.BranchFacts.{PlainBranchFact, at_position, edge, no_edge, no_node, present}

@@ -1,9 +1,9 @@
 -- The children of an Or of the tree, or of its negation, by the rows.
-use Rattle.std.{proofs.Common.{◌≡◌, ◌<◌, ℕ, ◌+◌, Bool, true, List, Some, length, refl, sym, ◌∙◌, ap, arith, false}, specs.Prelude.{slice_get, option_map}}
+use Rattle.std.{proofs.Common.{◌≡◌, ◌<◌, ℕ, ◌+◌, Bool, true, List, Some, length, refl, sym, ◌∙◌, ap, arith}, specs.Prelude.{slice_get, option_map}}
 use Rattle.pc_common.specs.World.{Node}
-use Rattle.pc_ground.specs.declared.{node_key.NodeKey.{NodeKey}, row.{RowKind.{RowKind, TheVariants.{False, Lit, Or, True, And}}, Row.{Row}}}
-use Rattle.pc_ground.specs.declared.literal.Literal.{Literal, TheVariants.{Node as a_node, Edge, NoNode, NoEdge}}
-use Rattle.pc_ground.specs.{Keys.{key_node, renamed, renamed_kind, row_node}, Tree.{Tree, always, never, leaf, both, either, contrary, turned, size_of}}
+use Rattle.pc_ground.specs.declared.{node_key.NodeKey.{NodeKey}, row.{RowKind.{RowKind, TheVariants.{False, Lit, Or}}, Row.{Row}}}
+use Rattle.pc_ground.specs.declared.literal.Literal.{Literal, TheVariants.{Node as a_node}}
+use Rattle.pc_ground.specs.{Keys.{key_node, renamed, renamed_kind, row_node}, Tree.{Tree, never, either, contrary, turned, size_of}}
 use Rattle.pc_ground.specs.{Rows.{rows_of, root_kind, turned_kind, turned_row, turned_rows, IsFlat}, Refutes.{subtree_at}}
 use Rattle.pc_ground.proofs.FlatRows.{root_of, subtree_row, subtree_size, length_rows, children_either, or_subtree, size_pos, renamed_false}
 use Rattle.pc_ground.proofs.{Turned.{size_turned, rows_turned, row_turned}, StageWalks.{some_same}}

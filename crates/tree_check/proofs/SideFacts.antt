@@ -2,7 +2,7 @@
 use Rattle.std.proofs.Common.{◌≡◌, ◌≤◌, ◌<◌, ℕ, ◌+◌, inl, inr, Bool, List, [], ◌∷◌, ◌++◌, Option, None, Some, length, take, refl, sym, ◌∙◌, ap, subst, arith, append_assoc}
 use Rattle.std.{proofs.lemmas.{List.{append-nil, map-append}, Grind.{flat_map-append}}, specs.Prelude.{Contains, slice_get, option_map}}
 use Rattle.pc_common.{specs.World.{Node}, proofs.Elements.{In, in_from_contains, contains_from_in, in_front, in_back, in_either, in_map, from_map}}
-use Rattle.pc_ground.specs.declared.{node_key.NodeKey.{NodeKey}, literal.Literal.{Literal}, row.RowKind.{RowKind, TheVariants.{True, Lit, False, And, Or}}}
+use Rattle.pc_ground.specs.declared.{node_key.NodeKey.{NodeKey}, literal.Literal.{Literal}, row.RowKind.{RowKind, TheVariants.{True, Lit}}}
 use Rattle.pc_ground.specs.{declared.row.Row.{Row}, Keys.{key_node, renamed_kind}, Tree.{Tree, always, leaf, both, turned, size_of, never, either}}
 use Rattle.pc_ground.specs.{Rows.{rows_of, turned_row, turned_rows, IsFlat}, Walks.{stride, stride_of, Walk}}
 use Rattle.pc_ground.specs.Refutes.{Signed, signed, all_signed, Branch, subtree_at, asserted}
