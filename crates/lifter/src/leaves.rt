@@ -58,7 +58,10 @@ fn numbers_to(
         (λ r. AreNumbers known.now (key_node from) (map key_node via.now ++ key_node to ∷ []) (r.0 ∷ r.1)) }
 {
     match via {
-        [] => Ok((number_of(known, BranchFact::Edge(from, to)), Listed::new(alloc))),
+        [] => Ok((
+            number_of(known, BranchFact::Edge(from, to)),
+            Listed::new(alloc),
+        )),
         [next, rest @ ..] => {
             let first = number_of(known, BranchFact::Edge(from, *next));
             let more = numbers_along(alloc, known, *next, rest, to)?;
