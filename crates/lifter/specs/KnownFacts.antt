@@ -3,7 +3,7 @@ use Rattle.std.specs.Prelude.{ℕ, ◌≡◌, ◌⊎◌, true, false, List, [], 
 use Rattle.pc_common.specs.{Case.{Case}, World.{Node}, Elements.{In}}
 use Rattle.pc_ground.specs.{Refutes.{signed}, declared.literal.Literal.{Literal}}
 use Rattle.pc_ground.specs.declared.{literal.Literal.TheVariants.{Node as a_node, Edge as an_edge, NoNode as not_node, NoEdge as not_edge}, row.Row.{Row}}
-use Rattle.pc_ground.specs.{Tree.{Tree, leaf, either}, Rows.{rows_of}}
+use Rattle.pc_ground.specs.{Tree.{Tree, always, never, leaf, both, either}, Rows.{rows_of}}
 use Rattle.refutation.specs.{BranchFacts.{PlainBranchFact, at_position, edge, no_edge, no_node, present, plain_branch_fact}, declared.branch_fact.BranchFact.{BranchFact}}
 use Rattle.lifted_facts.specs.{PlainFacts.{PlainFact, one_node, Branch}, Parts.{sides}, Lifted.{HasFact, IsEdge, Asserts}}
 use Rattle.lifter.specs.{Trees.{fact_tree}, declared.kind.FactKind.TheVariants.{Open}}
@@ -65,9 +65,11 @@ TellsLiteral es (not_node a) = HasKey es (no_node a)
 TellsLiteral es (not_edge a b) = HasKey es (no_edge a b)
 
 abbrev pub TellsRoot : List Entry → ℕ → Tree Node → Type 0
+TellsRoot es p always = Unit {0}
+TellsRoot es p never = Unit {0}
 TellsRoot es p (leaf l) = TellsLiteral es l
+TellsRoot es p (both a b) = Unit {0}
 TellsRoot es p (either a b) = HasKey es (or_at p)
-TellsRoot es p _ = Unit {0}
 
 -- what stands at a position is known, where it is an Or or a literal
 abbrev pub TellsAt : List (Row Node) → List Entry → ℕ → Type 0

@@ -3,7 +3,7 @@ use Rattle.std.specs.{Prelude.{◌≡◌, ◌↔◌, ◌⊎◌, List, [], ◌∷
 use Rattle.pc_common.specs.World.{Node}
 use Rattle.pc_ground.specs.declared.literal.Literal.{Literal}
 use Rattle.pc_ground.specs.declared.literal.Literal.TheVariants.{Node as a_node, Edge as an_edge, NoNode as not_node, NoEdge as not_edge}
-use Rattle.pc_ground.specs.{declared.row.RowKind.{RowKind, TheVariants.{Lit}}, Tree.{Tree, leaf}}
+use Rattle.pc_ground.specs.{declared.row.RowKind.{RowKind, TheVariants.{True, False, Lit, And, Or}}, Tree.{Tree, always, never, leaf, both, either}}
 use Rattle.pc_ground.specs.Refutes.{Signed, Branch, part_at}
 use Rattle.refutation.specs.BranchFacts.{PlainBranchFact, at_position, edge, no_edge, no_node, present}
 
@@ -17,16 +17,22 @@ facts_of_literal (not_edge a b) = no_edge a b ∷ []
 -- what is known of an asserted position: what its literal says, and where it has none, that it is asserted
 abbrev pub facts_of_part : Option (Tree Node) → Signed → List PlainBranchFact
 facts_of_part None q = []
+facts_of_part (Some always) q = at_position q ∷ []
+facts_of_part (Some never) q = at_position q ∷ []
 facts_of_part (Some (leaf l)) q = facts_of_literal l
-facts_of_part (Some _) q = at_position q ∷ []
+facts_of_part (Some (both a b)) q = at_position q ∷ []
+facts_of_part (Some (either a b)) q = at_position q ∷ []
 
 abbrev pub facts_at : Tree Node → Signed → List PlainBranchFact
 facts_at t q = facts_of_part (part_at t q) q
 
 -- the same, by the kind of the row that stands there
 abbrev pub facts_of_kind : Signed → RowKind Node → List PlainBranchFact
+facts_of_kind q True = at_position q ∷ []
+facts_of_kind q False = at_position q ∷ []
 facts_of_kind q (Lit l) = facts_of_literal l
-facts_of_kind q _ = at_position q ∷ []
+facts_of_kind q And = at_position q ∷ []
+facts_of_kind q Or = at_position q ∷ []
 
 -- all that is known where these positions are asserted
 abbrev pub facts_on : Tree Node → Branch → List PlainBranchFact
