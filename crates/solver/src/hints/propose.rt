@@ -49,27 +49,9 @@ fn side_clashes<L: Ledger>(
     Ok(false)
 }
 
-/// Whether the side is closed at once: whether its literals clash with those asserted. A side of one literal
-/// is not asserted. The graph is as before.
-fn is_closed<L: Ledger>(
-    tree: &NumberedTree,
-    side: Side,
-    mark: Mark,
-    graph: &mut OrderGraph,
-    steps: &mut Steps<L>,
-) -> Result<bool, Memory>
-    requires side { IsSideIn (spelled tree.now.rows) side }
-    requires nodes { graph.old.nodes ≡ length tree.now.nodes }
-    requires marked { IsMarked graph.old mark }
-    ensures graph { IfOk result (λ _. IsSame graph.old graph.new) }
-{
-    let clashes = side_clashes(tree.rows(), side, graph, steps)?;
-    graph.undo(mark, steps);
-    Ok(clashes)
-}
-
-/// Whether the side is closed at once: once a side has failed, whether a literal of it would clash. One that was closed is
-/// not asked again: on its branch a closed side stays closed.
+/// Whether the side is closed at once: whether its literals clash with those asserted, and once a side has failed whether
+/// one of them does by itself. One that was closed is not asked again: on its branch a closed side stays closed. The graph
+/// is as before.
 fn ask_side<L: Ledger>(
     is_known: bool,
     has_failed: bool,
@@ -90,7 +72,9 @@ fn ask_side<L: Ledger>(
     if has_failed {
         return Ok(side_is_closed(tree.rows(), graph, side));
     }
-    is_closed(tree, side, mark, graph, steps)
+    let clashes = side_clashes(tree.rows(), side, graph, steps)?;
+    graph.undo(mark, steps);
+    Ok(clashes)
 }
 
 /// The standing with its closed sides as they are now. The left side is asked first, and in version 1 the right one
