@@ -38,13 +38,7 @@ impl Model for Asserted {
 fn is_same(a: Place, b: Place) -> bool
     ensures { IsTrue result ↔ (a ≡ b) }
 {
-    if a.position != b.position {
-        return false;
-    }
-    if a.negated != b.negated {
-        return false;
-    }
-    true
+    a.position == b.position && a.negated == b.negated
 }
 
 /// Where the index speaks of the place.
@@ -88,11 +82,7 @@ fn is_on(items: &[Place], index: &[usize], place: Place) -> bool
     ensures { IsTrue result ↔ Contains items.now place }
 {
     let k = index_at(index, place);
-    if k < items.len() {
-        is_same(items[k], place)
-    } else {
-        false
-    }
+    k < items.len() && is_same(items[k], place)
 }
 
 /// Has the index say of the place where it stands on the list with it last.
