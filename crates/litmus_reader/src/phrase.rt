@@ -91,7 +91,11 @@ fn push_test(class: Terminal, stack: &mut Vec<Waiting>) -> Result<Prediction, Me
     }
 }
 
-fn push_items(format: Format, class: Terminal, stack: &mut Vec<Waiting>) -> Result<Prediction, Memory>
+fn push_items(
+    format: Format,
+    class: Terminal,
+    stack: &mut Vec<Waiting>,
+) -> Result<Prediction, Memory>
     ensures { IfOk result (IsPush rules (Phrase.Items format) class stack.old.items stack.new.items) }
 {
     match class {
@@ -105,7 +109,11 @@ fn push_items(format: Format, class: Terminal, stack: &mut Vec<Waiting>) -> Resu
     }
 }
 
-fn push_access(format: Format, class: Terminal, stack: &mut Vec<Waiting>) -> Result<Prediction, Memory>
+fn push_access(
+    format: Format,
+    class: Terminal,
+    stack: &mut Vec<Waiting>,
+) -> Result<Prediction, Memory>
     ensures { IfOk result (IsPush rules (Phrase.Access format) class stack.old.items stack.new.items) }
 {
     match class {
@@ -143,7 +151,11 @@ fn push_virtual_page(class: Terminal, stack: &mut Vec<Waiting>) -> Result<Predic
     }
 }
 
-fn push_address(format: Format, class: Terminal, stack: &mut Vec<Waiting>) -> Result<Prediction, Memory>
+fn push_address(
+    format: Format,
+    class: Terminal,
+    stack: &mut Vec<Waiting>,
+) -> Result<Prediction, Memory>
     ensures { IfOk result (IsPush rules (Phrase.Address format) class stack.old.items stack.new.items) }
 {
     match class {
