@@ -1,5 +1,5 @@
 -- Asserting a side: where a part's walk starts, one row more, one part more, and what a clash of a first part says of the whole.
-use Rattle.std.proofs.Common.{◌≡◌, ◌≤◌, ◌<◌, ℕ, ◌+◌, Bool, true, false, List, [], ◌∷◌, ◌++◌, Option, Some, None, take, length, refl, sym, ap, ◌∙◌, subst, arith, append_assoc}
+use Rattle.std.proofs.Common.{◌≡◌, ◌≤◌, ◌<◌, ℕ, ◌+◌, Bool, true, false, List, [], ◌∷◌, ◌++◌, Option, Some, take, length, refl, sym, ap, ◌∙◌, subst, arith, append_assoc}
 use Rattle.std.proofs.{lemmas.List.{append-nil, map_push, take-take, length-take, Elements.{All-contains, Contains-append_left}}, Math.Seq.{take-length, take-append_seam}}
 use Rattle.std.{proofs.lemmas.{Option.{slice_get_within, get_or_from_slice_get}, Grind.{flat_map-append}}, specs.Prelude.{slice_get, All}}
 use Rattle.pc_common.specs.{Chain.{Leads}, Steps.{Leaf}}
@@ -11,10 +11,10 @@ use Rattle.pc_ground.specs.Refutes.{Signed, Branch, all_signed, subtree_at, part
 use Rattle.pc_ground.specs.Walks.{stride, Walk}
 use Rattle.pc_ground.proofs.FlatRows.{root_of, row_subtree, subtree_within, subtree_row, subtree_size, length_rows, literal_by_row, literals_of_row}
 use Rattle.pc_ground.proofs.{Walks.{walk_side, walk_turn, walk_within}, Turned.{size_turned}, StageWalks.{some_same}}
-use Rattle.order_graph.specs.{Clashes.{leaf_of, IsClash}, State.{Graph}, Adding.{IsAdded}, declared.clash.Added.{Added}}
-use Rattle.order_graph.specs.{declared.clash.{Added.TheVariants.{Kept as was_kept, Clash as clashed}, Clash.{Clash}}, Ways.{IsBelow}}
+use Rattle.order_graph.specs.{Clashes.{leaf_of, IsClash}, State.{Graph}}
+use Rattle.order_graph.specs.{declared.clash.Clash.{Clash}, Ways.{IsBelow}}
 use Rattle.solver.specs.{Spelled.{spelled, IsSpelled}, Below.{IsKindBelow, IsRowBelow}, Places.{place_signed, asserted_in, asserted_at}}
-use Rattle.solver.{specs.{Opens.{positions, IsFurther, HasAsserted, HasAddedRow}, declared.tree.place.Place.{Place}}, proofs.IsSpelled.{turned_flat, turned_at}}
+use Rattle.solver.{specs.{Opens.{positions, IsFurther}, declared.tree.place.Place.{Place}}, proofs.IsSpelled.{turned_flat, turned_at}}
 
 pub asserted_is : {N : Type 0} (t : Tree N) (n : Bool) (p : ℕ) (s : Tree N) → subtree_at (turned n t) p ≡ Some s
     → asserted_at t n p ≡ all_signed n (asserted s p)
@@ -134,15 +134,6 @@ whole_push new old q ps rest whole e f g =
     ap (λ xs. xs ++ all_signed q.negated rest) (positions_push new old q e) ∙ append_assoc (positions old) (place_signed q ∷ []) (all_signed q.negated rest)
     ∙ ap (λ xs. positions old ++ all_signed q.negated xs) (sym f) ∙ g
 
--- a first part is asserted, and then the rest
-pub asserted_then : (t : Tree ℕ) (first more : Branch) (old mid new : List Place) (g h : Graph) (found : Option Clash)
-    → HasAsserted t first old g mid None → HasAsserted t more mid h new found → HasAsserted t (first ++ more) old h new found
-asserted_then t first more old mid new g h None a b =
-    (b.0 ∙ ap (λ xs. xs ++ more) a.0 ∙ append_assoc (positions old) first more, b.1)
-asserted_then t first more old mid new g h (Some k) a b =
-    let P : Branch → Type 0 = λ ps. IsClash (literals_of t ps) k in
-    subst P (ap (λ xs. xs ++ more) a.0 ∙ append_assoc (positions old) first more) b
-
 -- a clash of the first part is one of all
 pub asserted_clash : (t : Tree ℕ) (first more : Branch) (old : List Place) (k : Clash) → IsClash (literals_of t (positions old ++ first)) k
     → IsClash (literals_of t (positions old ++ (first ++ more))) k
@@ -160,18 +151,6 @@ stride_pos rows t p r flat at =
     let there = row_subtree t p r (ap (λ xs. slice_get xs p) (sym flat) ∙ at) in
     let P : Row ℕ → Type 0 = λ x. 0 < stride x in
     subst P there.2 (root_stride there.0)
-
--- what was added is what the row asserts
-pub row_added : (old new : Graph) (l : Literal ℕ) (r : Row ℕ) (a : Added) → r.kind ≡ Lit l → IsAdded old l new a → HasAddedRow r old new a
-row_added old new l r was_kept e h =
-    let K : RowKind ℕ → Type 0 = λ kind. new.literals ≡ old.literals ++ literals_of_kind kind in
-    let first : take (length old.literals) new.literals ≡ old.literals =
-    ap (take (length old.literals)) h.0.literals ∙ take-append_seam old.literals (l ∷ []) in
-    (record { same_nodes = h.0.same_nodes; same_marks = h.0.marks; literals = first }, subst K (sym e) h.0.literals)
-row_added old new l r (clashed k) e h =
-    let F : Graph → Type 0 = IsFurther old in
-    let K : RowKind ℕ → Type 0 = λ kind. IsClash (old.literals ++ literals_of_kind kind) k in
-    (subst F (sym h.0) (further_same old), subst K (sym e) h.1)
 
 -- a row turned is over the same numbers
 pub turned_below : (n : ℕ) (negated : Bool) (r q : Row ℕ) → IsRowBelow n r → q ≡ turned_row negated r → IsRowBelow n q

@@ -6,7 +6,7 @@ use Rattle.pc_ground.specs.declared.{literal.Literal.{Literal}, row.{Row.{Row}, 
 use Rattle.pc_ground.specs.{Rows.{turned_row, turned_rows}, Tree.{Tree, either, turned, size_of}}
 use Rattle.pc_ground.specs.Refutes.{Signed, signed, subtree_at, part_at, literals_of}
 use Rattle.pc_ground.proofs.{Turned.{subtree_denied, size_turned}, FlatRows.{subtree_size, size_pos}}
-use Rattle.solver.specs.{Spelled.{spelled, IsSpelled}, Met.{IsMet, IsMetUnder}, Flags.{flag, AreTruths}, Opens.{positions}, declared.{tree.place.Place.{Place}, tree.side.Side.{Side}}}
+use Rattle.solver.specs.{Spelled.{spelled, IsSpelled}, Met.{IsMet, IsMetUnder}, Opens.{positions}, declared.{tree.place.Place.{Place}, tree.side.Side.{Side}}}
 use Rattle.solver.specs.Places.{place_signed, IsOr, AreSides, IsUntaken, IsTaken, IsPending, IsPassed, IsCandidate, IsChosen, AreChosen}
 use Rattle.solver.proofs.{IsSpelled.{turned_flat}, IsIndexed.{place_is}, AreTruths.{or_tree}, HasAsserted.{length_spelled, root_row}}
 
@@ -60,13 +60,6 @@ signed_has xs q has = contains_from_in q xs (in_back xs q (in_from_contains (pla
 abbrev pub Tells : Tree ℕ → List (Literal ℕ) → Place → Bool → Type 0
 Tells t ls q truth = (s : Tree ℕ) → subtree_at t q.position ≡ Some s → IsTrue truth ↔ IsMet ls s
 
--- by the flags of the whole tree
-pub told_by : (t : Tree ℕ) (ls ms : List (Literal ℕ)) (flags : List Bool) (q : Place) (truth : Bool) → AreTruths t ls 0 flags
-    → truth ≡ flag flags q.position → ls ≡ ms → Tells t ms q truth
-told_by t ls ms flags q truth truths is same = λ s at.
-    let P : Bool → List (Literal ℕ) → Type 0 = λ b xs. IsTrue b ↔ IsMet xs s in
-    subst (P truth) same (subst (λ b. P b ls) (sym is) (truths q.position s (omega arith) at))
-
 pub plain_part : (t : Tree ℕ) (n : Bool) (p : ℕ) (s : Tree ℕ) → subtree_at (turned n t) p ≡ Some s → subtree_at t p ≡ Some (turned n s)
 plain_part t false p s e = e
 plain_part t true p s e = subtree_denied t true p s e
@@ -100,14 +93,6 @@ pending_candidate t xs q truth true (a, b, is, untaken) told equal =
 pending_candidate t xs q truth false there told other = λ a b on is.
     let part = turned q.negated (either a b) in
     inl (met q.negated (literals_of t (positions xs)) part truth (told part (plain_part t q.negated q.position (either a b) is)) other)
-
-pub passed_chosen : (t : Tree ℕ) (xs : List Place) (q : Place) → IsPassed t xs q → IsChosen t (positions xs) (place_signed q)
-passed_chosen t xs q passed = λ a b on is.
-    let at : ℕ → Place = λ r. record { negated = q.negated; position = r } in
-    elim (passed a b is (signed_has xs q on)) [
-      | inl left ↦ inr (inl (has_signed xs (at (q.position + 1)) left))
-      | inr right ↦ inr (inr (has_signed xs (at (q.position + 1 + size_of a)) right))
-    ]
 
 -- where each asserted one is chosen, all are
 pub all_chosen : (t : Tree ℕ) (xs : List Place) → All (λ q. IsChosen t (positions xs) (place_signed q)) xs → AreChosen t (positions xs)

@@ -24,11 +24,6 @@ has_at xs k x e = (k, slice_get_within xs k x e, get_or_from_slice_get xs k x x 
 at_has : {X : Type 0} (xs : List X) (x : X) → Contains xs x → (k : ℕ) × (slice_get xs k ≡ Some x)
 at_has xs x (k, inside, e) = (k, slice_get-get_or xs k x inside ∙ ap Some e)
 
--- a place of the list stands where the index says
-pub found_at : (items : List Place) (index : List ℕ) (q : Place) → IsIndexed items index → Contains items q
-    → slice_get items (slice_index index (slot_of q)) ≡ Some q
-found_at items index q indexed has = (let there = at_has items q has in (indexed there.0 q there.1).1)
-
 -- what is found in a first part is found in all
 found_front : (items more : List Place) (index : List ℕ) (k : ℕ) (q : Place) → IsFound items index k q → IsFound (items ++ more) index k q
 found_front items more index k q found =
@@ -45,13 +40,6 @@ pushed items index q indexed found = λ k x e. elim (cases_lt k (length items)) 
       let P : ℕ → Place → Type 0 = IsFound (items ++ q ∷ []) index in
       subst (λ n. P n x) (sym at) (subst (P (length items)) (sym same) found)
 ]
-
--- one that is there once more
-pub pushed_known : (items : List Place) (index : List ℕ) (q : Place) → IsIndexed items index → Contains items q → IsIndexed (items ++ q ∷ []) index
-pushed_known items index q indexed has =
-    let there = at_has items q has in
-    let found = found_front items (q ∷ []) index there.0 q (indexed there.0 q there.1) in
-    pushed items index q indexed (omega (arith, found.0, slice_get_within items there.0 q there.1), found.1)
 
 -- the index of one that is not there may say anything
 pub put_kept : (items : List Place) (index new : List ℕ) (q : Place) (slot n : ℕ) → IsIndexed items index → (Contains items q → ⊥) → slot ≡ slot_of q

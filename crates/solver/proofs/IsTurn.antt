@@ -12,8 +12,8 @@ use Rattle.graph_text.specs.{Graphs.{graph_nodes, graph_edges}, declared.graph.G
 use Rattle.order_graph.{specs.{State.{IsGraph}, Ways.{IsBelow}}, proofs.GeneratesWorld.{consistent_generate}}
 use Rattle.solver.specs.{Spelled.{spelled, IsSpelled}, Numbered.{Numbered, IsNumbered, HasNoFalse}, Renamed.{tree_over, rows_over, node_at, renamed_tree}}
 use Rattle.solver.specs.{Below.{IsRowBelow}, Met.{IsMet, IsMetUnder}, Places.{place_signed, IsCandidate, AreChosen, root_side, side_positions}}
-use Rattle.solver.specs.{Opens.{positions, waiting, opens, KeepsState, state_of}, Shown.{ArePresent, AreEdges}, Answers.{IsWitness, IsAnswer}}
-use Rattle.solver.specs.{Turns.{IsTurnOfRows, IsTurnOfTree}, declared.{search.Turn.{Turn, TheVariants.{More, Done}}, search.branch.Branch.{Branch as OpenBranch}}}
+use Rattle.solver.specs.{Opens.{positions, waiting, opens, KeepsState, state_of}, Shown.{ArePresent, AreEdges}, Answers.{IsWitness}}
+use Rattle.solver.specs.declared.search.branch.Branch.{Branch as OpenBranch}
 use Rattle.solver.specs.{declared.{tree.place.Place.{Place}, search.later.Later.{Later}}, Branches.{branches_of, HasOpenBranch, IsBlank}}
 use Rattle.solver.{specs.Searched.{Searched, HasUnmetBranch, HasCandidate}, proofs.RenamedTree.{part_renamed, size_renamed, asserted_renamed, tree_of_names}}
 use Rattle.solver.proofs.{IsSpelled.{spelled_is, is_spelled}, IsGrown.{IsGrown, HasParts, grown_first}, IsChosen.{plain_part}, IsMet.{met_at}, ShownWorld.{Shows, AreBelow, shown_world}}
@@ -210,13 +210,3 @@ false_refuted v nodes t ss e f =
     let run : IsPartial v T (close false_step ∷ []) [] = (a_falsity is_never, refl) in
     let P : List (Step Node) → Type 0 = IsRefutation v T in
     subst P (sym f) run
-
-pub turn_of : (v : Version) (had nodes : List Node) (rows : List (Row ℕ)) (t : Tree Node) (turn : Turn) → had ≡ nodes
-    → tree_over had (spelled rows) ≡ t → IsTurnOfRows v had rows turn
-    → IsTurnOfTree v nodes t turn
-turn_of v had nodes rows t (More s) e f h =
-    (h.0, h.1 ∙ e, ap (λ ns. tree_over ns (spelled s.rows)) h.1 ∙ ap (λ rs. tree_over had (spelled rs)) h.2 ∙ f, h.3)
-turn_of v had nodes rows t (Done a) e f h =
-    let P : List Node → Type 0 = λ ns. IsAnswer v ns (tree_over had (spelled rows)) a in
-    let Q : Tree Node → Type 0 = λ x. IsAnswer v nodes x a in
-    subst Q f (subst P e h)
