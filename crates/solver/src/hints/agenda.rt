@@ -235,10 +235,9 @@ impl Agenda {
 
     /// Makes stale what depends on pairs with the node that may have changed.
     fn touch_node(&mut self, rows: &[Row<u32>], node: u32) {
-        let (has_grown, is_starting) = (
-            self.changes.has_grown(node),
-            self.changes.is_starting(node),
-        );
+        let k = node as usize;
+        let has_grown = self.changes.grown.has(k);
+        let is_starting = self.changes.starting.has(k);
         if has_grown {
             self.touch_list(rows, starts_of(node), Others::Reached, true);
             self.touch_list(rows, ends_of(node), Others::Closing, false);
@@ -249,10 +248,10 @@ impl Agenda {
         if has_grown | is_starting {
             self.touch_list(rows, joint_of(node), Others::All, false);
         }
-        if self.changes.is_named(node) {
+        if self.changes.named.has(k) {
             self.touch_list(rows, own_of(node), Others::All, true);
         }
-        if self.changes.is_denied(node) {
+        if self.changes.denied.has(k) {
             self.touch_list(rows, starts_of(node), Others::All, false);
             self.touch_list(rows, ends_of(node), Others::All, false);
         }

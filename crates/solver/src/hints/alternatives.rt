@@ -10,22 +10,6 @@ use crate::tree::side::Side;
 use order_graph::OrderGraph;
 use pc_ground::{Literal, Row};
 
-/// Whether a literal of the part would clash.
-fn part_is_closed(rows: &[Row<u32>], graph: &OrderGraph, part: Walk) -> bool
-    requires { All (IsRowBelow graph.now.nodes) rows.now }
-{
-    let mut walk = part;
-    for _ in 0..rows.len() {
-        let Some(literal) = walk.next_literal(rows) else {
-            return false;
-        };
-        if graph.would_clash(literal) {
-            return true;
-        }
-    }
-    false
-}
-
 /// Whether a literal of the side would clash.
 pub(crate) fn side_is_closed(rows: &[Row<u32>], graph: &OrderGraph, side: Side) -> bool
     requires { All (IsRowBelow graph.now.nodes) rows.now }
@@ -141,7 +125,8 @@ pub(crate) fn count_open(
         let is_closed = if in_full {
             is_as_good_as_closed(rows, graph, negated, root)
         } else {
-            part_is_closed(rows, graph, Walk::new(rows, negated, root))
+            let denied = None;
+            side_is_closed(rows, graph, Side { negated, root, denied })
         };
         if !is_closed {
             count = count.saturating_add(1);
