@@ -10,6 +10,5 @@ loop-k-preserved c =
 
 pub returns : goal.returns
 returns c =
-    let P : ℕ → Type 0 = λ n. ArePresent c.args.tree.now.nodes c.args.graph.now.literals n (map key_node c.loop-k.nodes) in
     let same : c.loop-k.k ≡ length c.args.tree.now.nodes = omega arith in
-    subst P same c.loop-k.invariant
+    rw same at c.loop-k.invariant
