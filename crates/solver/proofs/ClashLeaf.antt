@@ -10,7 +10,7 @@ use Rattle.pc_ground.proofs.FlatRows.{literal_by_row, literals_of_row}
 use Rattle.solver.specs.{Spelled.{spelled, IsSpelled}, Below.{IsKindBelow, IsRowBelow}, Renamed.{tree_over, node_at, renamed_leaf}}
 use Rattle.solver.{specs.Leaves.{IsLeafBelow}, proofs.{RenamedTree.{literals_renamed}, IsSpelled.{turned_flat}}}
 use Rattle.solver.proofs.HasAsserted.{turned_below}
-use Rattle.pc_common.specs.{World.{Node as PlainNode}, Chain.{Leads}, Steps.{Leaf, path}}
+use Rattle.pc_common.specs.{World.{Node as PlainNode}, Chain.{Leads}, Steps.{Leaf}}
 use Rattle.pc_common.proofs.Elements.{in_from_contains, contains_from_in, in_map}
 use Rattle.refutation.specs.Steps.{HasItsNodes}
 use Rattle.order_graph.specs.{Ways.{IsBelow}, Clashes.{leaf_of, IsClash}, declared.clash.Clash.{Clash}}

@@ -1,5 +1,5 @@
 -- Consistent literals over nodes are true in the world that they generate.
-use Rattle.std.{proofs.Common.{inl, inr, List, [], ◌∷◌, refl, sym, subst}, specs.{Prelude.{Contains, IsTrue}, List.{flat_map}}}
+use Rattle.std.{proofs.Common.{inl, inr, List, [], ◌∷◌, refl, subst}, specs.{Prelude.{Contains, IsTrue}, List.{flat_map}}}
 use Rattle.pc_common.specs.{World.{Node, Edge, World, has_node, has_edge, same_node}, Chain.{Leads, Acyclic}, Generated.{IsListed, HasEnds, IsGenerated}}
 use Rattle.pc_common.proofs.{Elements.{In, in_from_contains, contains_from_in, in_flat, from_flat}, Nodes.{has_node_is, has_edge_is}}
 use Rattle.pc_common.proofs.GeneratedWorlds.{generates, node_tells}

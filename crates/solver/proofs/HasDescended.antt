@@ -7,7 +7,7 @@ use Rattle.pc_ground.specs.Refutes.{Branch, Signed, signed, literals_of, left_br
 use Rattle.refutation.specs.Steps.{open_branches}
 use Rattle.order_graph.specs.{State.{Graph}, Clashes.{leaf_of, IsClash}, declared.clash.Clash.{Clash}}
 use Rattle.solver.specs.{Spelled.{spelled, IsSpelled}, Below.{IsRowBelow}, Renamed.{tree_over}}
-use Rattle.solver.specs.{Places.{side_positions, left_side, right_side, IsCandidate, AreSides}, Leaves.{IsClashBelow}}
+use Rattle.solver.specs.{Places.{side_positions, IsCandidate, AreSides}, Leaves.{IsClashBelow}}
 use Rattle.solver.specs.{Opens.{positions, waiting, IsLater, AreLater, opens, KeepsState, state_of, IsSame}, Numbered.{Numbered}}
 use Rattle.solver.specs.{Branches.{branches_with, HasOpenBranch}, declared.{search.branch.Branch.{Branch as OpenBranch}, tree.place.Place.{Place}, tree.side.Side.{Side}}}
 use Rattle.solver.{specs.{declared.search.later.Later.{Later}, Weights.{weight}, Descents.{IsLonger, HasMore}}, proofs.Runs.{open_partial}}

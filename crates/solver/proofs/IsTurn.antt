@@ -4,15 +4,15 @@ use Rattle.std.proofs.lemmas.{List.{append-nil, Elements.{All-contains}}, Option
 use Rattle.std.specs.{Prelude.{Contains, All, slice_get, nat_lt}, Option.{option_map}}
 use Rattle.pc_common.{specs.{World.{Node}, Steps.{Step, close, false_step}}, proofs.Elements.{In, contains_from_in, in_front, in_back}}
 use Rattle.pc_common.proofs.Bools.{true_or_false}
-use Rattle.pc_ground.specs.declared.{literal.Literal.{Literal}, row.{Row.{Row}, RowKind.TheVariants.{False}}, version.Version.{Version}}
+use Rattle.pc_ground.specs.declared.{row.{Row.{Row}, RowKind.TheVariants.{False}}, version.Version.{Version}}
 use Rattle.pc_ground.specs.{Rows.{rows_of, root_kind}, Tree.{Tree, always, never, leaf, both, either, turned, size_of}, Literals.{IsConsistent}}
 use Rattle.pc_ground.specs.Refutes.{Branch, Signed, signed, all_signed, subtree_at, part_at, literals_of, a_falsity, IsPartial, IsRefutation}
 use Rattle.pc_ground.{specs.Folded.{HasNoConstant, IsFolded}, proofs.{FlatRows.{subtree_size, size_pos}, Turned.{size_turned}}}
 use Rattle.graph_text.specs.{Graphs.{graph_nodes, graph_edges}, declared.graph.Graph.{Graph as PlainGraph}}
-use Rattle.order_graph.{specs.{State.{IsGraph}, Ways.{IsBelow}}, proofs.GeneratesWorld.{consistent_generate}}
+use Rattle.order_graph.{specs.State.{IsGraph}, proofs.GeneratesWorld.{consistent_generate}}
 use Rattle.solver.specs.{Spelled.{spelled, IsSpelled}, Numbered.{Numbered, IsNumbered, HasNoFalse}, Renamed.{tree_over, rows_over, node_at, renamed_tree}}
-use Rattle.solver.specs.{Below.{IsRowBelow}, Met.{IsMet, IsMetUnder}, Places.{place_signed, IsCandidate, AreChosen, root_side, side_positions}}
-use Rattle.solver.specs.{Opens.{positions, waiting, opens, KeepsState, state_of}, Shown.{ArePresent, AreEdges}, Answers.{IsWitness}}
+use Rattle.solver.specs.{Below.{IsRowBelow}, Met.{IsMet}, Places.{place_signed, IsCandidate, AreChosen, root_side, side_positions}}
+use Rattle.solver.specs.{Opens.{positions, waiting, KeepsState, state_of}, Shown.{ArePresent, AreEdges}, Answers.{IsWitness}}
 use Rattle.solver.specs.declared.search.branch.Branch.{Branch as OpenBranch}
 use Rattle.solver.specs.{declared.{tree.place.Place.{Place}, search.later.Later.{Later}}, Branches.{branches_of, HasOpenBranch, IsBlank}}
 use Rattle.solver.{specs.Searched.{Searched, HasUnmetBranch, HasCandidate}, proofs.RenamedTree.{part_renamed, size_renamed, asserted_renamed, tree_of_names}}

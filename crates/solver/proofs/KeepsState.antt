@@ -10,7 +10,7 @@ use Rattle.pc_ground.proofs.{Turned.{subtree_denied, size_turned}, FlatRows.{chi
 use Rattle.order_graph.specs.State.{Graph, IsCut}
 use Rattle.solver.specs.{Renamed.{tree_over, renamed_tree, node_at}, Places.{place_signed, asserted_at, side_positions, left_side, right_side, IsSideIn}}
 use Rattle.solver.specs.{Opens.{positions, waiting, IsLater, AreLater, opens, KeepsState, state_of, IsFurther}, declared.tree.place.Place.{Place}}
-use Rattle.solver.{specs.declared.{search.later.Later.{Later}, tree.side.Side.{Side}}, proofs.Runs.{runs_split, runs_close}}
+use Rattle.solver.{specs.declared.search.later.Later.{Later}, proofs.Runs.{runs_split, runs_close}}
 use Rattle.solver.proofs.{RenamedTree.{part_renamed, negation_renamed, asserted_renamed, size_renamed}, HasAsserted.{asserted_is, literals_more}}
 use Rattle.solver.proofs.AreTruths.{denied_in}
 

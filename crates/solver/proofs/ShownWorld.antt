@@ -4,7 +4,7 @@ use Rattle.std.{proofs.lemmas.{List.Elements.{All-contains}, Option.{slice_get-g
 use Rattle.pc_common.specs.{World.{Node, Edge, World, IsWorld, has_node, has_edge, same_node}, Chain.{Leads, Chain, Acyclic}}
 use Rattle.pc_common.{specs.Generated.{IsListed, HasEnds, IsGenerated}, proofs.{Nodes.{has_node_is, has_edge_is}, GeneratedWorlds.{generates, node_tells}}}
 use Rattle.pc_ground.specs.{declared.literal.Literal.{Literal, TheVariants.{Node as a_node, Edge as an_edge, NoNode, NoEdge}}, Numbers.{AreDistinct}}
-use Rattle.pc_ground.specs.{Tree.{Tree, always, never, leaf, both, either, tree_true}, Literals.{Joins, IsPresent, as_start, as_end, IsConsistent}}
+use Rattle.pc_ground.specs.{Tree.{Tree, always, never, leaf, both, either, tree_true}, Literals.{Joins, as_start, as_end, IsConsistent}}
 use Rattle.order_graph.specs.Ways.{IsBelow}
 use Rattle.solver.{specs.{Renamed.{tree_over, node_at}, Met.{IsMet}, Shown.{ArePresent, AreEdges}}, proofs.IsKnown.{number_named}}
 

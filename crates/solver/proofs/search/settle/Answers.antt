@@ -1,7 +1,6 @@
-use Rattle.std.proofs.Common.{refl, sym, subst, List, []}
-use Rattle.pc_common.specs.{World.{Node}, Steps.{Step}}
+use Rattle.std.proofs.Common.{refl, []}
 use Rattle.pc_ground.{specs.Refutes.{IsPartial}, proofs.Refuted.{refutation_sound}}
-use Rattle.solver.{specs.{Renamed.{tree_over}, Spelled.{spelled}, Statuses.{IsStatus}, declared.search.find.SearchStatus.{SearchStatus}}, proofs.IsTurn.{searching}}
+use Rattle.solver.{specs.{Renamed.{tree_over}, Spelled.{spelled}}, proofs.IsTurn.{searching}}
 use Rattle.solver.proofs.search.settle.Goals as goal
 
 pub returns-in-Refuted-clause-turn : goal.returns-in-Refuted-clause-turn

@@ -1,6 +1,6 @@
-use Rattle.std.proofs.Common.{◌≡◌, map, arith, subst, ℕ, length}
+use Rattle.std.proofs.Common.{◌≡◌, map, arith, length}
 use Rattle.pc_ground.specs.Keys.{key_node}
-use Rattle.solver.{specs.Shown.{ArePresent}, proofs.Shown.{present_more}}
+use Rattle.solver.proofs.Shown.{present_more}
 use Rattle.solver.proofs.search.answer.present_nodes.Goals as goal
 
 pub loop-k-preserved : goal.loop-k-preserved

@@ -1,5 +1,5 @@
-use Rattle.std.proofs.Common.{false, subst, List}
-use Rattle.std.{proofs.lemmas.{List.{take_all, Elements.{All-more}}, Bool.{MatchBool-at_false}}, specs.Prelude.{All}}
+use Rattle.std.proofs.Common.{false}
+use Rattle.std.proofs.lemmas.{List.{take_all, Elements.{All-more}}, Bool.{MatchBool-at_false}}
 use Rattle.solver.specs.{Spelled.{spelled}, Places.{place_signed, IsChosen}, Opens.{positions}, declared.tree.place.Place.{Place}}
 use Rattle.solver.proofs.IsChosen.{all_chosen}
 use Rattle.solver.proofs.search.candidate.first_candidate.Goals as goal

@@ -1,6 +1,5 @@
-use Rattle.std.{proofs.{Common.{◌≡◌, ℕ, List, Some, subst}, lemmas.Bool.{MatchBool-at_true}}, specs.Prelude.{IsTrue, ◌↔◌}}
-use Rattle.pc_ground.specs.{declared.{literal.Literal.{Literal}, row.Row.{Row}}, Tree.{Tree}, Refutes.{subtree_at}}
-use Rattle.solver.{specs.{Spelled.{spelled}, Met.{IsMet}}, proofs.IsChosen.{pending_candidate}}
+use Rattle.std.proofs.lemmas.Bool.{MatchBool-at_true}
+use Rattle.solver.{specs.Spelled.{spelled}, proofs.IsChosen.{pending_candidate}}
 use Rattle.solver.proofs.search.candidate.is_candidate_now.Goals as goal
 
 pub returns-clause-candidate : goal.returns-clause-candidate

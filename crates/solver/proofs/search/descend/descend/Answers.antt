@@ -1,10 +1,9 @@
-use Rattle.std.{proofs.Common.{◌≡◌, ◌≤◌, ◌++◌, ◌∷◌, List, [], length, ap, sym, ◌∙◌, subst, arith}, specs.Prelude.{Option}}
-use Rattle.pc_common.specs.{World.{Node}, Steps.{Step}}
+use Rattle.std.proofs.Common.{◌≡◌, ◌++◌, ◌∷◌, [], length, ap, sym, ◌∙◌, arith}
 use Rattle.pc_ground.specs.Refutes.{literals_of}
-use Rattle.order_graph.specs.{Clashes.{leaf_of}, declared.clash.Clash.{Clash}}
-use Rattle.solver.specs.{Renamed.{node_at, renamed_leaf}, Spelled.{spelled}, Places.{side_positions, IsSideIn}, Leaves.{clash_step}}
-use Rattle.solver.specs.{Opens.{positions, opens, KeepsState, state_of, HasAsserted}, Branches.{branches_with}, Weights.{weight}, declared.tree.side.Side.{Side}}
-use Rattle.solver.{specs.declared.search.later.Later.{Later}, proofs.{ClashLeaf.{has_nodes, clash_closes}, KeepsState.{closed_kept, closed_all, entered_kept}}}
+use Rattle.order_graph.specs.Clashes.{leaf_of}
+use Rattle.solver.specs.{Renamed.{node_at, renamed_leaf}, Spelled.{spelled}, Places.{side_positions}, Leaves.{clash_step}}
+use Rattle.solver.specs.{Opens.{positions, opens}, Weights.{weight}}
+use Rattle.solver.proofs.{ClashLeaf.{has_nodes, clash_closes}, KeepsState.{closed_kept, closed_all, entered_kept}}
 use Rattle.solver.proofs.HasDescended.{clash_in, longer_push, lighter_closed, next_inside}
 use Rattle.solver.proofs.search.descend.descend.Goals as goal
 

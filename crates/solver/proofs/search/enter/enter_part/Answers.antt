@@ -1,7 +1,6 @@
-use Rattle.std.{proofs.{Common.{◌+◌, ℕ, ◌++◌, refl, sym, ap, ◌∙◌, subst, arith}, Math.Seq.{take-length}}, specs.Prelude.{Option, All}}
-use Rattle.pc_ground.specs.{Tree.{turned}, Rows.{turned_rows}, Refutes.{all_signed, signed, subtree_at}, Walks.{Walk}}
-use Rattle.order_graph.specs.declared.clash.Clash.{Clash}
-use Rattle.solver.specs.{Below.{IsRowBelow}, Spelled.{spelled}, Places.{asserted_in, asserted_at}, Opens.{positions, HasAssertedRow}}
+use Rattle.std.proofs.{Common.{◌+◌, ◌++◌, refl, sym, ap, ◌∙◌, arith}, Math.Seq.{take-length}}
+use Rattle.pc_ground.specs.{Tree.{turned}, Rows.{turned_rows}, Refutes.{all_signed, signed, subtree_at}}
+use Rattle.solver.specs.{Spelled.{spelled}, Places.{asserted_in, asserted_at}, Opens.{positions}}
 use Rattle.solver.proofs.IsSpelled.{turned_flat, turned_at}
 use Rattle.solver.proofs.HasAsserted.{walk_start, walk_step, positions_push, literals_push, further_same, further_more, kept_push, part_clash, whole_push, stride_pos, turned_below, row_below}
 use Rattle.solver.proofs.search.enter.enter_part.Goals as goal

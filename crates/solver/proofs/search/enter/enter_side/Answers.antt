@@ -1,6 +1,4 @@
-use Rattle.std.{proofs.Common.{subst}, specs.Prelude.{Option}}
-use Rattle.order_graph.specs.declared.clash.Clash.{Clash}
-use Rattle.solver.specs.{Spelled.{spelled}, Places.{denied_positions, asserted_at}, Opens.{HasAsserted}}
+use Rattle.solver.specs.{Spelled.{spelled}, Places.{denied_positions, asserted_at}}
 use Rattle.solver.proofs.HasAsserted.{asserted_clash}
 use Rattle.solver.proofs.search.enter.enter_side.Goals as goal
 

@@ -1,6 +1,5 @@
-use Rattle.std.{proofs.Common.{subst, Bool}, specs.Prelude.{Option, MatchOption}}
-use Rattle.solver.specs.{declared.tree.place.Place.{Place}, Spelled.{spelled}, Places.{place_signed, IsCandidate, AreChosen}, Opens.{positions}}
-use Rattle.solver.{specs.Descents.{HasDescended}, proofs.IsTurn.{witness, candidate_small}}
+use Rattle.solver.specs.Opens.{positions}
+use Rattle.solver.proofs.IsTurn.{witness, candidate_small}
 use Rattle.solver.proofs.search.find.find.Goals as goal
 
 pub returns-in-Some-clause-found : goal.returns-in-Some-clause-found

@@ -1,5 +1,5 @@
-use Rattle.std.{proofs.{Common.{ap, sym, ◌∙◌, length, List, subst, ℕ}, lemmas.List.Elements.{All-push}}, specs.Prelude.{All, Some}}
-use Rattle.pc_ground.specs.{declared.row.Row.{Row}, Keys.{renamed_row}}
+use Rattle.std.{proofs.{Common.{ap, sym, ◌∙◌, length}, lemmas.List.Elements.{All-push}}, specs.Prelude.{Some}}
+use Rattle.pc_ground.specs.Keys.{renamed_row}
 use Rattle.solver.{specs.{Renamed.{node_at}, Below.{IsRowBelow}}, proofs.IsKnown.{map_one_more}}
 use Rattle.solver.proofs.tree.numbers.number_rows.Goals as goal
 
