@@ -75,8 +75,7 @@ pub met_leaf : (ls : List (Literal ℕ)) (s : Tree ℕ) (l : Literal ℕ) (b : B
     → IsTrue b ↔ Holds (IsPresent ls) (Chain (Joins ls)) l → IsTrue b ↔ IsMet ls s
 met_leaf ls (leaf m) l b e h =
     let same : l ≡ m = (let other : m ≡ l = cc in sym other) in
-    let P : Literal ℕ → Type 0 = λ x. IsTrue b ↔ Holds (IsPresent ls) (Chain (Joins ls)) x in
-    subst P same h
+    rw same at h
 met_leaf ls s l b e h = cc
 
 pub met_both : (t : Tree ℕ) (ls : List (Literal ℕ)) (p : ℕ) (flags : List Bool) (s : Tree ℕ) (pair : Bool × Bool) → root_kind s ≡ And → subtree_at t p ≡ Some s

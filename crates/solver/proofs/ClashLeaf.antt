@@ -10,7 +10,7 @@ use Rattle.pc_ground.proofs.FlatRows.{literal_by_row, literals_of_row}
 use Rattle.solver.specs.{Spelled.{spelled, IsSpelled}, Below.{IsKindBelow, IsRowBelow}, Renamed.{tree_over, node_at, renamed_leaf}}
 use Rattle.solver.{specs.Leaves.{IsLeafBelow}, proofs.{RenamedTree.{literals_renamed}, IsSpelled.{turned_flat}}}
 use Rattle.solver.proofs.HasAsserted.{turned_below}
-use Rattle.pc_common.specs.{World.{Node as PlainNode}, Chain.{Leads}, Steps.{Leaf, path}}
+use Rattle.pc_common.specs.{World.{Node as PlainNode}, Chain.{Leads}, Steps.{Leaf}}
 use Rattle.pc_common.proofs.Elements.{in_from_contains, contains_from_in, in_map}
 use Rattle.refutation.specs.Steps.{HasItsNodes}
 use Rattle.order_graph.specs.{Ways.{IsBelow}, Clashes.{leaf_of, IsClash}, declared.clash.Clash.{Clash}}
@@ -31,9 +31,8 @@ renamed_present f ls a (as_end b h) = as_end (f b) (renamed_in f (Edge b a) ls h
 contradiction_renamed : {M N : Type 0} (f : M → N) (ls : List (Literal M)) (l : Leaf M) → IsContradiction ls l
     → IsContradiction (map (renamed f) ls) (renamed_leaf f l)
 contradiction_renamed f ls l (a_cycle a via leads) = a_cycle (f a) (map f via) (renamed_leads f ls a via a leads)
-contradiction_renamed {M} {N} f ls l (a_path a via b leads has) =
-    let P : List N → Type 0 = λ xs. IsContradiction (map (renamed f) ls) (path (f a ∷ xs)) in
-    subst P (sym (map_push f via b)) (a_path (f a) (map f via) (f b) (renamed_leads f ls a via b leads) (renamed_in f (NoEdge a b) ls has))
+contradiction_renamed f ls l (a_path a via b leads has) =
+    rw (map_push f via b) (a_path (f a) (map f via) (f b) (renamed_leads f ls a via b leads) (renamed_in f (NoEdge a b) ls has))
 contradiction_renamed f ls l (an_absence a has present) = an_absence (f a) (renamed_in f (NoNode a) ls has) (renamed_present f ls a present)
 
 -- the leaf of a clash closes the branch
@@ -74,10 +73,9 @@ turned_all n m rows all =
 
 row_literals_below : (n : ℕ) (rows : List (Row ℕ)) (p : ℕ) → All (IsRowBelow n) rows → All (IsBelow n) (literals_of_row (slice_get rows p))
 row_literals_below n rows p all =
-    let Q : Option (Row ℕ) → Type 0 = λ o. All (IsBelow n) (literals_of_row o) in
     elim (slice_get_cases rows p).1 [
-      | inl here ↦ subst Q (sym here.2) (literals_of_below n here.0.kind (All-contains (IsRowBelow n) rows here.0 all (p, here.1, here.3)))
-      | inr past ↦ subst Q (sym past.1) (All-nil (IsBelow n))
+      | inl here ↦ rw here.2 (literals_of_below n here.0.kind (All-contains (IsRowBelow n) rows here.0 all (p, here.1, here.3)))
+      | inr past ↦ rw past.1 (All-nil (IsBelow n))
     ]
 
 -- the nodes of a tree's literals are numbers below n
@@ -88,8 +86,7 @@ literals_below n rows (q ∷ ps) flat all =
     let m = q.negated in
     let here : literal_of (part_at t q) ≡ literals_of_row (slice_get (turned_rows m rows) q.position) =
     literal_by_row (turned m t) q.position ∙ ap (λ xs. literals_of_row (slice_get xs q.position)) (sym (turned_flat m rows flat)) in
-    let P : List (Literal ℕ) → Type 0 = λ ls. All (IsBelow n) (ls ++ literals_of t ps) in
-    subst P (sym here) (All-append (IsBelow n) (literals_of_row (slice_get (turned_rows m rows) q.position)) (literals_of t ps)
+    rw here (All-append (IsBelow n) (literals_of_row (slice_get (turned_rows m rows) q.position)) (literals_of t ps)
     (row_literals_below n (turned_rows m rows) q.position (turned_all n m rows all)) (literals_below n rows ps flat all))
 
 pub key_is : (keys : List NodeKey) (k : ℕ) (x : NodeKey) → k < length keys → x ≡ get_or keys k x → key_node x ≡ node_at (map key_node keys) k

@@ -43,19 +43,13 @@ walk_start rows n root r flat inside at =
     let s = there.0 in
     let skip : r.skip ≡ size_of s = ap (λ (x : Row ℕ). x.skip) there.2 in
     let size = subtree_size t root s there.1 in
-    let P : List (Row ℕ) → ℕ → List ℕ → Type 0 = λ xs k ps. Walk xs (root + k) root ps in
-    let walk : P (rows_of t) (size_of s) (asserted s root) = walk_side t root s there.1 in
-    let by_rows = subst (λ xs. P xs (size_of s) (asserted s root)) (sym flat_turned) walk in
-    let by_skip = subst (λ k. P (turned_rows n rows) k (asserted s root)) (sym skip) by_rows in
-    let is : asserted_in (subtree_at t root) root ≡ asserted s root = ap (λ (o : Option (Tree ℕ)). asserted_in o root) there.1 in
-    (omega (arith, skip, size, whole, length_spelled rows flat), subst (P (turned_rows n rows) r.skip) (sym is) by_skip)
+    (omega (arith, skip, size, whole, length_spelled rows flat), rw (flat_turned, skip, there.1) (walk_side t root s there.1))
 
 pub walk_step : (rows : List (Row ℕ)) (end at : ℕ) (ps : List ℕ) (r : Row ℕ) → Walk rows end at ps → at < end → slice_get rows at ≡ Some r
     → (rest : List ℕ) × (ps ≡ at ∷ rest) × Walk rows end (at + stride r) rest × (at + stride r ≤ end)
 walk_step rows end at ps r walk before here =
     let turn = walk_turn walk before in
-    let P : Row ℕ → Type 0 = λ x. Walk rows end (at + stride x) turn.1 in
-    let next = subst P (some_same (sym turn.2 ∙ here)) turn.4 in
+    let next = rw (some_same (sym turn.2 ∙ here)) at turn.4 in
     (turn.1, turn.3, next, walk_within next)
 
 -- literals of some positions more
@@ -138,8 +132,7 @@ whole_push new old q ps rest whole e f g =
 pub asserted_clash : (t : Tree ℕ) (first more : Branch) (old : List Place) (k : Clash) → IsClash (literals_of t (positions old ++ first)) k
     → IsClash (literals_of t (positions old ++ (first ++ more))) k
 asserted_clash t first more old k c =
-    let P : List (Literal ℕ) → Type 0 = λ ls. IsClash ls k in
-    subst P (sym (literals_more t (positions old ++ first) more) ∙ ap (literals_of t) (append_assoc (positions old) first more))
+    rw (← append_assoc (positions old) first more, literals_more t (positions old ++ first) more)
     (contradiction_more (literals_of t (positions old ++ first)) (literals_of t more) (leaf_of k) c)
 
 root_stride : {N : Type 0} (s : Tree N) → 0 < stride (root_of s)
@@ -149,8 +142,7 @@ root_stride s = omega arith
 pub stride_pos : (rows : List (Row ℕ)) (t : Tree ℕ) (p : ℕ) (r : Row ℕ) → rows ≡ rows_of t → slice_get rows p ≡ Some r → 0 < stride r
 stride_pos rows t p r flat at =
     let there = row_subtree t p r (ap (λ xs. slice_get xs p) (sym flat) ∙ at) in
-    let P : Row ℕ → Type 0 = λ x. 0 < stride x in
-    subst P there.2 (root_stride there.0)
+    rw (← there.2) (root_stride there.0)
 
 -- a row turned is over the same numbers
 pub turned_below : (n : ℕ) (negated : Bool) (r q : Row ℕ) → IsRowBelow n r → q ≡ turned_row negated r → IsRowBelow n q

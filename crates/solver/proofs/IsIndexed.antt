@@ -1,5 +1,5 @@
 -- A list of places with its index: what it finds, and one place more.
-use Rattle.std.proofs.Common.{◌≡◌, ◌≤◌, inl, inr, ℕ, ◌+◌, ◌*◌, Bool, true, false, List, [], ◌∷◌, ◌++◌, Some, length, refl, sym, ap, ◌∙◌, subst, arith, length-append}
+use Rattle.std.proofs.Common.{◌≡◌, inl, inr, ℕ, ◌+◌, ◌*◌, Bool, true, false, List, [], ◌∷◌, ◌++◌, Some, length, refl, sym, ap, ◌∙◌, subst, arith, length-append}
 use Rattle.std.{proofs.lemmas.{Bool.{cases_lt}, Option.{same_Some, slice_get_within, slice_get-get_or, get_or_from_slice_get}}, specs.Prelude.{slice_get, slice_index, Contains, if◌then◌else◌}}
 use Rattle.pc_common.proofs.Places.{slice_get-more, get_before, get_last}
 use Rattle.solver.specs.{declared.tree.place.Place.{Place}, Indexed.{slot_of, IsFound, IsIndexed, IsPut}}
@@ -45,10 +45,8 @@ pushed items index q indexed found = λ k x e. elim (cases_lt k (length items)) 
 pub put_kept : (items : List Place) (index new : List ℕ) (q : Place) (slot n : ℕ) → IsIndexed items index → (Contains items q → ⊥) → slot ≡ slot_of q
     → IsPut index slot n new → IsIndexed items new
 put_kept items index new q slot n indexed other at put = λ k x e.
-    let P : Place → Type 0 = Contains items in
-    let same = put.1 (slot_of x) (λ one. other (subst P (one_slot x q (one ∙ at)) (has_at items k x e))) in
-    let Q : ℕ → Type 0 = λ m. (m ≤ k) × (slice_get items m ≡ Some x) in
-    subst Q (sym same) (indexed k x e)
+    let same = put.1 (slot_of x) (λ one. other (rw (one_slot x q (one ∙ at)) at (has_at items k x e))) in
+    rw same (indexed k x e)
 
 pub pushed_new : (items : List Place) (index new : List ℕ) (q : Place) (slot : ℕ) → IsIndexed items index → (Contains items q → ⊥) → slot ≡ slot_of q
     → IsPut index slot (length items) new → IsIndexed (items ++ q ∷ []) new

@@ -4,15 +4,15 @@ use Rattle.std.proofs.lemmas.{List.{append-nil, Elements.{All-contains}}, Option
 use Rattle.std.specs.{Prelude.{Contains, All, slice_get, nat_lt}, Option.{option_map}}
 use Rattle.pc_common.{specs.{World.{Node}, Steps.{Step, close, false_step}}, proofs.Elements.{In, contains_from_in, in_front, in_back}}
 use Rattle.pc_common.proofs.Bools.{true_or_false}
-use Rattle.pc_ground.specs.declared.{literal.Literal.{Literal}, row.{Row.{Row}, RowKind.TheVariants.{False}}, version.Version.{Version}}
+use Rattle.pc_ground.specs.declared.{row.{Row.{Row}, RowKind.TheVariants.{False}}, version.Version.{Version}}
 use Rattle.pc_ground.specs.{Rows.{rows_of, root_kind}, Tree.{Tree, always, never, leaf, both, either, turned, size_of}, Literals.{IsConsistent}}
 use Rattle.pc_ground.specs.Refutes.{Branch, Signed, signed, all_signed, subtree_at, part_at, literals_of, a_falsity, IsPartial, IsRefutation}
 use Rattle.pc_ground.{specs.Folded.{HasNoConstant, IsFolded}, proofs.{FlatRows.{subtree_size, size_pos}, Turned.{size_turned}}}
 use Rattle.graph_text.specs.{Graphs.{graph_nodes, graph_edges}, declared.graph.Graph.{Graph as PlainGraph}}
-use Rattle.order_graph.{specs.{State.{IsGraph}, Ways.{IsBelow}}, proofs.GeneratesWorld.{consistent_generate}}
+use Rattle.order_graph.{specs.State.{IsGraph}, proofs.GeneratesWorld.{consistent_generate}}
 use Rattle.solver.specs.{Spelled.{spelled, IsSpelled}, Numbered.{Numbered, IsNumbered, HasNoFalse}, Renamed.{tree_over, rows_over, node_at, renamed_tree}}
-use Rattle.solver.specs.{Below.{IsRowBelow}, Met.{IsMet, IsMetUnder}, Places.{place_signed, IsCandidate, AreChosen, root_side, side_positions}}
-use Rattle.solver.specs.{Opens.{positions, waiting, opens, KeepsState, state_of}, Shown.{ArePresent, AreEdges}, Answers.{IsWitness}}
+use Rattle.solver.specs.{Below.{IsRowBelow}, Met.{IsMet}, Places.{place_signed, IsCandidate, AreChosen, root_side, side_positions}}
+use Rattle.solver.specs.{Opens.{positions, waiting, KeepsState, state_of}, Shown.{ArePresent, AreEdges}, Answers.{IsWitness}}
 use Rattle.solver.specs.declared.search.branch.Branch.{Branch as OpenBranch}
 use Rattle.solver.specs.{declared.{tree.place.Place.{Place}, search.later.Later.{Later}}, Branches.{branches_of, HasOpenBranch, IsBlank}}
 use Rattle.solver.{specs.Searched.{Searched, HasUnmetBranch, HasCandidate}, proofs.RenamedTree.{part_renamed, size_renamed, asserted_renamed, tree_of_names}}
@@ -39,9 +39,7 @@ grown_back {M} {N} f t ps g = record {
 
 kept_run : (v : Version) (t : Numbered) (b : OpenBranch) → HasOpenBranch v t b []
     → IsPartial v (tree_over t.nodes (spelled t.rows)) b.refutation (branches_of t b)
-kept_run v t b kept =
-    let P : Branch → Type 0 = λ ps. IsPartial v (tree_over t.nodes (spelled t.rows)) b.refutation (opens (spelled t.rows) ps b.asserted b.later.items) in
-    subst P (append-nil (positions b.asserted)) kept.partial
+kept_run v t b kept = rw (append-nil (positions b.asserted)) at kept.partial
 
 kept_grown : (v : Version) (t : Numbered) (b : OpenBranch) → HasOpenBranch v t b [] → IsGrown (spelled t.rows) (positions b.asserted)
 kept_grown v t b kept =
@@ -55,10 +53,8 @@ kept_met : (v : Version) (t : Numbered) (b : OpenBranch) → HasOpenBranch v t b
 kept_met v t b kept consistent chosen none =
     let s = spelled t.rows in
     let ps = positions b.asserted in
-    let P : List (Literal ℕ) → Type 0 = IsConsistent in
-    let Q : List (Literal ℕ) → Type 0 = λ xs. IsMet xs s in
     let grown = kept_grown v t b kept in
-    subst Q (sym kept.literals) (met_at s ps grown (consistent_generate (literals_of s ps) (subst P kept.literals consistent)).met chosen none s 0 grown.root refl)
+    rw kept.literals (met_at s ps grown (consistent_generate (literals_of s ps) (rw kept.literals at consistent)).met chosen none s 0 grown.root refl)
 
 rows_below : (n : ℕ) (t : Tree ℕ) → ((r : Row ℕ) → In r (rows_of t) → IsRowBelow n r) → AreBelow n t
 rows_below n (leaf l) f = f _ (inl refl)
@@ -70,9 +66,7 @@ rows_below n t f = tt
 
 tree_below : (n : ℕ) (rows : List (Row ℕ)) → IsSpelled rows → All (IsRowBelow n) rows → AreBelow n (spelled rows)
 tree_below n rows flat all =
-    let P : List (Row ℕ) → Type 0 = All (IsRowBelow n) in
-    let whole = subst P flat all in
-    rows_below n (spelled rows) (λ r i. All-contains (IsRowBelow n) (rows_of (spelled rows)) r whole (contains_from_in r (rows_of (spelled rows)) i))
+    rows_below n (spelled rows) (λ r i. All-contains (IsRowBelow n) (rows_of (spelled rows)) r (rw flat at all) (contains_from_in r (rows_of (spelled rows)) i))
 
 named_in : (nodes : List Node) (k : ℕ) (a : Node) → k < length nodes → node_at nodes k ≡ a → Contains nodes a
 named_in nodes k a inside e =
@@ -88,9 +82,8 @@ pub witness : (v : Version) (t : Numbered) (b : OpenBranch) (shown : PlainGraph)
 witness v t b shown numbered none kept graph chosen present edges =
     let nodes = t.nodes in
     let ls = b.graph.literals in
-    let B : ℕ → Type 0 = λ m. All (IsBelow m) ls in
     let shows : Shows nodes ls (graph_nodes shown) (graph_edges shown) =
-    record { distinct = numbered.distinct; below = subst B kept.all_nodes graph.below; consistent = graph.consistent; present = present; edges = edges } in
+    record { distinct = numbered.distinct; below = rw kept.all_nodes at graph.below; consistent = graph.consistent; present = present; edges = edges } in
     let met = kept_met v t b kept graph.consistent chosen none in
     let below = tree_below (length nodes) t.rows numbered.tree numbered.below in
     let made = shown_world nodes ls (graph_nodes shown) (graph_edges shown) (spelled t.rows) shows below met in record {
@@ -112,7 +105,6 @@ searching v tree b first searched s is =
     let q = place_signed first in
     let candidate = s.candidate in
     let part = turned q.negated (either candidate.left candidate.right) in
-    let P : List (Literal ℕ) → Type 0 = λ xs. IsMetUnder q.negated xs part in
     let H : Searched → Type 0 = HasUnmetBranch in
     subst H is (record {
       first = positions here;
@@ -125,7 +117,7 @@ searching v tree b first searched s is =
       part = part;
       on_branch = candidate.on_branch;
       at_place = plain_part t q.negated q.position (either candidate.left candidate.right) candidate.is_or;
-      not_met = λ h. candidate.is_false (subst P s.state.literals h);
+      not_met = λ h. candidate.is_false (rw s.state.literals at h);
     })
 
 pub candidate_small : (rows : List (Row ℕ)) (ps : Branch) (q : Place) → IsSpelled rows → length rows < 2 ^ 63
@@ -207,6 +199,4 @@ pub false_refuted : (v : Version) (nodes : List Node) (t : Tree ℕ) (ss : List 
 false_refuted v nodes t ss e f =
     let T = tree_over nodes t in
     let is_never : T ≡ never = ap (tree_over nodes) e in
-    let run : IsPartial v T (close false_step ∷ []) [] = (a_falsity is_never, refl) in
-    let P : List (Step Node) → Type 0 = IsRefutation v T in
-    subst P (sym f) run
+    rw f (a_falsity is_never, refl)

@@ -10,7 +10,7 @@ use Rattle.pc_ground.proofs.{Turned.{subtree_denied, size_turned}, FlatRows.{chi
 use Rattle.order_graph.specs.State.{Graph, IsCut}
 use Rattle.solver.specs.{Renamed.{tree_over, renamed_tree, node_at}, Places.{place_signed, asserted_at, side_positions, left_side, right_side, IsSideIn}}
 use Rattle.solver.specs.{Opens.{positions, waiting, IsLater, AreLater, opens, KeepsState, state_of, IsFurther}, declared.tree.place.Place.{Place}}
-use Rattle.solver.{specs.declared.{search.later.Later.{Later}, tree.side.Side.{Side}}, proofs.Runs.{runs_split, runs_close}}
+use Rattle.solver.{specs.declared.search.later.Later.{Later}, proofs.Runs.{runs_split, runs_close}}
 use Rattle.solver.proofs.{RenamedTree.{part_renamed, negation_renamed, asserted_renamed, size_renamed}, HasAsserted.{asserted_is, literals_more}}
 use Rattle.solver.proofs.AreTruths.{denied_in}
 
@@ -22,26 +22,23 @@ waiting_more t ps qs marks (l ∷ ls) h = rw (take-append-le l.count ps qs h.0.c
 pub later_more : (t : Tree ℕ) (ps qs : Branch) (marks : List ℕ) (ls : List Later) → AreLater t ps marks ls → AreLater t (ps ++ qs) marks ls
 later_more t ps qs marks [] h = tt
 later_more t ps qs marks (l ∷ ls) h =
-    let same = take-append-le l.count ps qs h.0.count in
-    let P : Branch → Type 0 = λ rs. slice_index marks l.mark ≡ length (literals_of t rs) in
-    let Q : Branch → Type 0 = λ rs. AreLater t rs (take (l.mark + 1) marks) ls in (
-      record { count = omega (arith, h.0.count, length-append ps qs); live = h.0.live; literals = subst P (sym same) h.0.literals; side = h.0.side },
-      subst Q (sym same) h.1,
+    let same = take-append-le l.count ps qs h.0.count in (
+      record { count = omega (arith, h.0.count, length-append ps qs); live = h.0.live; literals = rw same h.0.literals; side = h.0.side },
+      rw same h.1,
     )
 
 marks_more : (t : Tree ℕ) (ps : Branch) (marks more : List ℕ) (ls : List Later) → AreLater t ps marks ls → AreLater t ps (marks ++ more) ls
 marks_more t ps marks more [] h = tt
 marks_more t ps marks more (l ∷ ls) h =
     let same : take (l.mark + 1) (marks ++ more) ≡ take (l.mark + 1) marks =
-    take-append-le (l.mark + 1) marks more (omega (arith, h.0.live)) in
-    let Q : List ℕ → Type 0 = λ ms. AreLater t (take l.count ps) ms ls in (
+    take-append-le (l.mark + 1) marks more (omega (arith, h.0.live)) in (
       record {
         count = h.0.count;
         live = omega (arith, h.0.live, length-append marks more);
         literals = get_or_append_left marks more 0 l.mark h.0.live ∙ h.0.literals;
         side = h.0.side;
       },
-      subst Q (sym same) h.1,
+      rw same h.1,
     )
 
 -- what the branches of a split assert, over numbers
@@ -113,9 +110,6 @@ split_kept v nodes t g h aps ls ms ss us l n p a b kept on at same_literals same
     let all_marks : take (l.mark + 1) h.marks ≡ g.marks ++ length g.literals ∷ [] =
     ap (λ k. take (k + 1) h.marks) mark ∙ ap (take (length g.marks + 1)) marks
     ∙ take_all _ (g.marks ++ length g.literals ∷ []) (omega (arith, length-append g.marks (length g.literals ∷ []))) in
-    let M : List ℕ → Type 0 = λ xs. AreLater t ps xs (reverse ls) in
-    let B : Branch → Type 0 = λ rs. AreLater t rs (take (l.mark + 1) h.marks) (reverse ls) in
-    let S : Side → Type 0 = IsSideIn t in
     let inside : IsSideIn t (right_side v (signed n p) (size_of a)) =
     (omega (arith, right_size, size_pos b, turned_size), denied_in v t (p + 1) (omega (arith, left_size, size_pos a, turned_size))) in
     let first : IsLater t ps h.marks l = record {
@@ -123,10 +117,8 @@ split_kept v nodes t g h aps ls ms ss us l n p a b kept on at same_literals same
       live = omega (arith, mark, ap length marks, length-append g.marks (length g.literals ∷ []));
       literals = ap (slice_index h.marks) mark ∙ ap (λ xs. slice_index xs (length g.marks)) marks ∙ get_or-append_seam g.marks (length g.literals) [] 0
           ∙ ap length kept.literals ∙ ap (λ rs. length (literals_of t rs)) (sym whole);
-      side = subst S (sym side) inside;
+      side = rw side inside;
     } in
-    let rest : B (take l.count ps) = subst B (sym whole) (subst M (sym all_marks) (marks_more t ps g.marks (length g.literals ∷ []) (reverse ls) kept.waits)) in
-    let W : List Later → Type 0 = AreLater t ps h.marks in
     let x = tree_over nodes a in
     let y = tree_over nodes b in
     let here = ps ++ side_positions t (left_side (signed n p)) in
@@ -142,7 +134,7 @@ split_kept v nodes t g h aps ls ms ss us l n p a b kept on at same_literals same
       literals = same_literals ∙ kept.literals;
       all_nodes = same_nodes ∙ kept.all_nodes;
       marks = omega (arith, kept.marks, ap length marks, length-append g.marks (length g.literals ∷ []), ap length steps, length-append ss (split n p ∷ []));
-      waits = subst W (sym reversed) (first, rest);
+      waits = rw reversed (first, rw (whole, all_marks) (marks_more t ps g.marks (length g.literals ∷ []) (reverse ls) kept.waits));
       partial = subst (λ u. Q u (opens t here aps ms)) (sym steps) (subst (Q (ss ++ split n p ∷ [])) split_over next);
     }
 
@@ -156,14 +148,12 @@ entered_kept v nodes t g h aps bs ls ss more kept entered stand further =
     ap (λ qs. waiting t qs (reverse ls)) entered ∙ waiting_more t ps more g.marks (reverse ls) kept.waits in
     let all : opens t (positions bs ++ []) bs ls ≡ opens t (ps ++ more) aps ls =
     ap (λ qs. qs ∷ waiting t (positions bs) (reverse ls)) (append-nil (positions bs) ∙ entered) ∙ ap (λ w. (ps ++ more) ∷ w) same in
-    let M : List ℕ → Type 0 = λ marks. AreLater t (positions bs) marks (reverse ls) in
-    let B : Branch → Type 0 = λ qs. AreLater t qs g.marks (reverse ls) in
     let P : List Branch → Type 0 = IsPartial v (tree_over nodes t) ss in (
       record {
         literals = stand;
         all_nodes = further.same_nodes ∙ kept.all_nodes;
         marks = omega (arith, kept.marks, ap length further.same_marks);
-        waits = subst M (sym further.same_marks) (subst B (sym entered) (later_more t ps more g.marks (reverse ls) kept.waits));
+        waits = rw (further.same_marks, entered) (later_more t ps more g.marks (reverse ls) kept.waits);
         partial = subst P (sym all) kept.partial;
       },
       all,
@@ -190,8 +180,7 @@ closed_kept v nodes t g h i aps bs cs ls ms ss us s l more kept closes steps pop
     let ps = positions aps in
     let T = tree_over nodes t in
     let reversed : reverse ls ≡ l ∷ reverse ms = ap reverse popped ∙ reverse-append ms (l ∷ []) in
-    let W : List Later → Type 0 = AreLater t ps g.marks in
-    let waits : AreLater t ps g.marks (l ∷ reverse ms) = subst W reversed kept.waits in
+    let waits : AreLater t ps g.marks (l ∷ reverse ms) = rw reversed at kept.waits in
     let here = waits.0 in
     let length_ps : length ps ≡ length aps = length-map aps place_signed in
     let short : cs ≡ take l.count aps = cut_positions ∙ take_shorter l.count aps bs (omega (arith, here.count, length_ps)) extends in
@@ -204,8 +193,6 @@ closed_kept v nodes t g h i aps bs cs ls ms ss us s l more kept closes steps pop
     ∙ take_shorter (length (literals_of t (take l.count ps))) g.literals h.literals (omega (arith, within, ap length kept.literals)) further.literals
     ∙ ap (take (length (literals_of t (take l.count ps)))) kept.literals ∙ take_length t l.count ps ∙ ap (literals_of t) (sym qs_is) in
     let marks : i.marks ≡ take (l.mark + 1) g.marks = cut.marks ∙ ap (take (l.mark + 1)) further.same_marks in
-    let M : List ℕ → Type 0 = λ xs. AreLater t (positions cs) xs (reverse ms) in
-    let B : Branch → Type 0 = λ rs. AreLater t rs (take (l.mark + 1) g.marks) (reverse ms) in
     let tail : (take l.count ps ++ side_positions t l.side) ∷ waiting t (take l.count ps) (reverse ms)
     ≡ opens t (positions cs ++ side_positions t l.side) cs ms =
     ap (λ rs. (rs ++ side_positions t l.side) ∷ waiting t rs (reverse ms)) (sym qs_is) in
@@ -213,14 +200,13 @@ closed_kept v nodes t g h i aps bs cs ls ms ss us s l more kept closes steps pop
     ap (λ w. (ps ++ more) ∷ waiting t ps w) reversed ∙ ap (λ w. (ps ++ more) ∷ w) tail in
     let P : List Branch → Type 0 = IsPartial v T ss in
     let run : IsPartial v T ss ((ps ++ more) ∷ opens t (positions cs ++ side_positions t l.side) cs ms) = subst P all kept.partial in
-    let closed = runs_close v T ss (ps ++ more) (opens t (positions cs ++ side_positions t l.side) cs ms) s run closes in
-    let Q : List (Step Node) → Type 0 = λ xs. IsPartial v T xs (opens t (positions cs ++ side_positions t l.side) cs ms) in (
+    let closed = runs_close v T ss (ps ++ more) (opens t (positions cs ++ side_positions t l.side) cs ms) s run closes in (
       record {
         literals = stand;
         all_nodes = cut.same_nodes ∙ further.same_nodes ∙ kept.all_nodes;
         marks = omega (arith, kept.marks, ap length marks, length-take (l.mark + 1) g.marks, ap length steps, length-append ss (close s ∷ []));
-        waits = subst M (sym marks) (subst B (sym qs_is) waits.1);
-        partial = subst Q (sym steps) closed;
+        waits = rw (marks, qs_is) waits.1;
+        partial = rw steps closed;
       },
       all,
     )
@@ -233,7 +219,4 @@ pub closed_all : (v : Version) (nodes : List Node) (t : Tree ℕ) (g : Graph) (a
 closed_all v nodes t g aps ls ss us s more kept closes steps none =
     let ps = positions aps ++ more in
     let T = tree_over nodes t in
-    let P : List Later → Type 0 = λ w. IsPartial v T ss (ps ∷ waiting t (positions aps) (reverse w)) in
-    let closed = runs_close v T ss ps [] s (subst P none kept.partial) closes in
-    let Q : List (Step Node) → Type 0 = λ xs. IsPartial v T xs [] in
-    subst Q (sym steps) closed
+    rw steps (runs_close v T ss ps [] s (rw none at kept.partial) closes)

@@ -128,5 +128,4 @@ pub edges_all : (ls : List (Literal ℕ)) (pairs : List (ℕ × ℕ)) (n : ℕ) 
     → ((j k : ℕ) → Contains pairs (j, k) ↔ Contains (take n ls) (an_edge j k))
     → (j k : ℕ) → Contains pairs (j, k) ↔ Joins ls j k
 edges_all ls pairs n past are j k =
-    let P : List (Literal ℕ) → Type 0 = λ xs. Contains pairs (j, k) ↔ Contains xs (an_edge j k) in
-    subst P (take_all n ls past) (are j k)
+    rw (take_all n ls past) at (are j k)

@@ -4,7 +4,7 @@ use Rattle.std.{proofs.lemmas.{List.Elements.{All-contains}, Option.{slice_get-g
 use Rattle.pc_common.specs.{World.{Node, Edge, World, IsWorld, has_node, has_edge, same_node}, Chain.{Leads, Chain, Acyclic}}
 use Rattle.pc_common.{specs.Generated.{IsListed, HasEnds, IsGenerated}, proofs.{Nodes.{has_node_is, has_edge_is}, GeneratedWorlds.{generates, node_tells}}}
 use Rattle.pc_ground.specs.{declared.literal.Literal.{Literal, TheVariants.{Node as a_node, Edge as an_edge, NoNode, NoEdge}}, Numbers.{AreDistinct}}
-use Rattle.pc_ground.specs.{Tree.{Tree, always, never, leaf, both, either, tree_true}, Literals.{Joins, IsPresent, as_start, as_end, IsConsistent}}
+use Rattle.pc_ground.specs.{Tree.{Tree, always, never, leaf, both, either, tree_true}, Literals.{Joins, as_start, as_end, IsConsistent}}
 use Rattle.order_graph.specs.Ways.{IsBelow}
 use Rattle.solver.{specs.{Renamed.{tree_over, node_at}, Met.{IsMet}, Shown.{ArePresent, AreEdges}}, proofs.IsKnown.{number_named}}
 
@@ -64,8 +64,7 @@ acyclic nodes ls ns es s a chain =
     let j = first_number nodes ls ns es s a chain.0 a chain.1 in
     let back = chain_back nodes ls ns es s j.0 j.1 a chain.0 a j.2 chain.1 in
     let same : back.0 ≡ j.0 = one_number nodes s.distinct back.0 j.0 back.1 j.1 (back.2 ∙ sym j.2) in
-    let P : ℕ → Type 0 = λ k. Chain (Joins ls) j.0 k in
-    s.consistent.acyclic j.0 (subst P same back.3)
+    s.consistent.acyclic j.0 (rw same at back.3)
 
 chain_on : (nodes : List Node) (ls : List (Literal ℕ)) (ns : List Node) (es : List Edge) → Shows nodes ls ns es
     → (j : ℕ) (via : List ℕ) (k : ℕ) → Leads (Joins ls) j via k → Leads (IsListed es) (node_at nodes j) (map (node_at nodes) via) (node_at nodes k)
@@ -99,15 +98,13 @@ met_true nodes ls ns es w s g (leaf (NoNode a)) below h =
     let P : List Node → Type 0 = λ xs. Contains xs (node_at nodes a) in
     let k = (s.present (node_at nodes a)).0 (subst P g.nodes_are ((has_node_is w (node_at nodes a)).0 yes)) in
     let same : k.0 ≡ a = one_number nodes s.distinct k.0 a k.1 below k.3 in
-    let Q : ℕ → Type 0 = IsPresent ls in
-    h (subst Q same k.2))
+    h (rw same at k.2))
 met_true nodes ls ns es w s g (leaf (NoEdge a b)) below h =
     not_true (has_edge w (node_at nodes a) (node_at nodes b)) (λ yes.
     let chain = (g.order_is (node_at nodes a) (node_at nodes b)).0 ((has_edge_is w (node_at nodes a) (node_at nodes b)).0 yes) in
     let back = chain_back nodes ls ns es s a below.0 (node_at nodes a) chain.0 (node_at nodes b) refl chain.1 in
     let same : back.0 ≡ b = one_number nodes s.distinct back.0 b back.1 below.1 back.2 in
-    let Q : ℕ → Type 0 = λ k. Chain (Joins ls) a k in
-    h (subst Q same back.3))
+    h (rw same at back.3))
 met_true nodes ls ns es w s g (both a b) below h =
     and_from (tree_true w (tree_over nodes a)) (tree_true w (tree_over nodes b)) (met_true nodes ls ns es w s g a below.0 h.0)
     (met_true nodes ls ns es w s g b below.1 h.1)

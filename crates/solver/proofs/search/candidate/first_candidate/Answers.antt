@@ -1,5 +1,5 @@
-use Rattle.std.proofs.Common.{false, subst, List}
-use Rattle.std.{proofs.lemmas.{List.{take_all, Elements.{All-more}}, Bool.{MatchBool-at_false}}, specs.Prelude.{All}}
+use Rattle.std.proofs.Common.{false}
+use Rattle.std.proofs.lemmas.{List.{take_all, Elements.{All-more}}, Bool.{MatchBool-at_false}}
 use Rattle.solver.specs.{Spelled.{spelled}, Places.{place_signed, IsChosen}, Opens.{positions}, declared.tree.place.Place.{Place}}
 use Rattle.solver.proofs.IsChosen.{all_chosen}
 use Rattle.solver.proofs.search.candidate.first_candidate.Goals as goal
@@ -15,6 +15,5 @@ loop-place-preserved c =
 pub returns : goal.returns
 returns c =
     let xs = c.args.asserted.now in
-    let P : List Place → Type 0 = All (λ q. IsChosen (spelled c.args.tree.now.rows) (positions xs) (place_signed q)) in
     all_chosen (spelled c.args.tree.now.rows) xs
-    (subst P (take_all c.loop-place.place-index xs (rw c.as_slice-place-items.ensures at c.loop-place-test.false)) c.loop-place.invariant)
+    (rw (take_all c.loop-place.place-index xs (rw c.as_slice-place-items.ensures at c.loop-place-test.false)) at c.loop-place.invariant)

@@ -1,7 +1,6 @@
-use Rattle.std.{proofs.{Common.{◌+◌, ℕ, ◌++◌, refl, sym, ap, ◌∙◌, subst, arith}, Math.Seq.{take-length}}, specs.Prelude.{Option, All}}
-use Rattle.pc_ground.specs.{Tree.{turned}, Rows.{turned_rows}, Refutes.{all_signed, signed, subtree_at}, Walks.{Walk}}
-use Rattle.order_graph.specs.declared.clash.Clash.{Clash}
-use Rattle.solver.specs.{Below.{IsRowBelow}, Spelled.{spelled}, Places.{asserted_in, asserted_at}, Opens.{positions, HasAssertedRow}}
+use Rattle.std.proofs.{Common.{◌+◌, ◌++◌, refl, sym, ap, ◌∙◌, arith}, Math.Seq.{take-length}}
+use Rattle.pc_ground.specs.{Tree.{turned}, Rows.{turned_rows}, Refutes.{all_signed, signed, subtree_at}}
+use Rattle.solver.specs.{Spelled.{spelled}, Places.{asserted_in, asserted_at}, Opens.{positions}}
 use Rattle.solver.proofs.IsSpelled.{turned_flat, turned_at}
 use Rattle.solver.proofs.HasAsserted.{walk_start, walk_step, positions_push, literals_push, further_same, further_more, kept_push, part_clash, whole_push, stride_pos, turned_below, row_below}
 use Rattle.solver.proofs.search.enter.enter_part.Goals as goal
@@ -26,8 +25,7 @@ loop-at-init g c =
 pub enter_row-requires-clause-below : goal.enter_row-requires-clause-below
 enter_row-requires-clause-below g c =
     let here = c.loop-at.invariant in
-    let B : ℕ → Type 0 = λ n. All (IsRowBelow n) c.args.tree.now.rows in
-    let below = subst B (sym (here.further.same_nodes ∙ c.requires.nodes)) c.row.ensures.numbered.below in
+    let below = rw (← (here.further.same_nodes ∙ c.requires.nodes)) at c.row.ensures.numbered.below in
     turned_below c.loop-at.graph.nodes c.args.negated c.row-in-loop-at.result c.negate_if-row.result
     (row_below c.loop-at.graph.nodes c.args.tree.now.rows c.loop-at.at c.row-in-loop-at.result below c.row-in-loop-at.ensures.row)
     c.negate_if-row.ensures
@@ -41,8 +39,7 @@ returns-in-Some-clause-entered g c =
     let at = turned_at n rows c.loop-at.at c.row-in-loop-at.result row c.row-in-loop-at.ensures.row c.negate_if-row.ensures in
     let step = walk_step (turned_rows n rows) _ c.loop-at.at here.walk.0 row here.walk.1 c.loop-at-test.true at in
     let old = positions c.loop-at.asserted in
-    let P : Option Clash → Type 0 = HasAssertedRow row _ c.loop-at.graph c.loop-at.asserted c.enter_row.new.graph c.enter_row.new.asserted in
-    let entered = subst P c.in-Some.is c.in_ok-clash.ensures.entered in
+    let entered = rw c.in-Some.is at c.in_ok-clash.ensures.entered in
     let whole = positions c.args.asserted.now ++ asserted_at (spelled rows) n c.args.root in
     part_clash rows (signed n c.loop-at.at) row old (all_signed n step.0) whole c.loop-at.graph.literals c.in-Some.clash
     c.row.ensures.numbered.tree at here.literals
@@ -67,13 +64,11 @@ loop-at-preserved g c =
     let step = walk_step (turned_rows n rows) _ c.loop-at.at here.walk.0 row here.walk.1 c.loop-at-test.true at in
     let old = c.loop-at.asserted in
     let new = c.enter_row.new.asserted in
-    let E : Option Clash → Type 0 = HasAssertedRow row _ c.loop-at.graph old c.enter_row.new.graph new in
-    let entered = subst E c.in_default.is c.in_ok-clash.ensures.entered in
-    let P : ℕ → Type 0 = λ k. Walk (turned_rows n rows) (c.args.root + c.row.result.skip) (c.loop-at.at + k) step.0 in record {
+    let entered = rw c.in_default.is at c.in_ok-clash.ensures.entered in record {
       end = here.end;
       walk = (
         step.0,
-        subst P (sym c.stride-at.ensures) step.2,
+        rw c.stride-at.ensures step.2,
         whole_push new old (record { negated = n; position = c.loop-at.at }) here.walk.0 step.0 _ entered.0 step.1 here.walk.2,
       );
       literals = literals_push rows (signed n c.loop-at.at) row (positions old) (positions new) c.loop-at.graph.literals

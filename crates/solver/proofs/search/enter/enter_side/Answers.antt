@@ -1,6 +1,4 @@
-use Rattle.std.{proofs.Common.{subst}, specs.Prelude.{Option}}
-use Rattle.order_graph.specs.declared.clash.Clash.{Clash}
-use Rattle.solver.specs.{Spelled.{spelled}, Places.{denied_positions, asserted_at}, Opens.{HasAsserted}}
+use Rattle.solver.specs.{Spelled.{spelled}, Places.{denied_positions, asserted_at}}
 use Rattle.solver.proofs.HasAsserted.{asserted_clash}
 use Rattle.solver.proofs.search.enter.enter_side.Goals as goal
 
@@ -10,5 +8,4 @@ returns-in-Some-clause-entered g c =
     let side = c.args.side in
     let old = c.args.asserted.now in
     let first = denied_positions t side.negated side.denied in
-    let E : Option Clash → Type 0 = HasAsserted t first old c.enter_denied.new.graph c.enter_denied.new.asserted in
-    asserted_clash t first (asserted_at t side.negated side.root) old c.in-Some.clash (subst E c.in-Some.is c.in_ok-clash.ensures.entered)
+    asserted_clash t first (asserted_at t side.negated side.root) old c.in-Some.clash (rw c.in-Some.is at c.in_ok-clash.ensures.entered)

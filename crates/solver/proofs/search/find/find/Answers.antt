@@ -1,30 +1,20 @@
-use Rattle.std.{proofs.Common.{subst, Bool}, specs.Prelude.{Option, MatchOption}}
-use Rattle.solver.specs.{declared.tree.place.Place.{Place}, Spelled.{spelled}, Places.{place_signed, IsCandidate, AreChosen}, Opens.{positions}}
-use Rattle.solver.{specs.Descents.{HasDescended}, proofs.IsTurn.{witness, candidate_small}}
+use Rattle.solver.specs.Opens.{positions}
+use Rattle.solver.proofs.IsTurn.{witness, candidate_small}
 use Rattle.solver.proofs.search.find.find.Goals as goal
 
 pub returns-in-Some-clause-found : goal.returns-in-Some-clause-found
 returns-in-Some-clause-found g c =
-    let H : Bool → Type 0 = HasDescended c.args.version c.args.tree.now _ c.descend.new.branch in
-    let descended = subst H c.if-not-is_open.false c.in_ok-is_open.ensures.descended in
+    let descended = rw c.if-not-is_open.false at c.in_ok-is_open.ensures.descended in
     let rows = c.args.tree.now.rows in
-    let here = c.descend.new.branch.asserted in
-    let C : Option Place → Type 0 =
-    λ found. MatchOption found (AreChosen (spelled rows) (positions here)) (λ q. IsCandidate (spelled rows) (positions here) (place_signed q)) in
-    let candidate = subst C c.in-Some.is c.in_ok-place.ensures in record {
+    let candidate = rw c.in-Some.is at c.in_ok-place.ensures in record {
       no_false = c.requires.no_false;
       state = descended.0;
       candidate = candidate;
-      small = candidate_small rows (positions here) c.in-Some.place c.row-root.ensures.numbered.tree c.row-root.ensures.bound candidate;
+      small = candidate_small rows (positions c.descend.new.branch.asserted) c.in-Some.place c.row-root.ensures.numbered.tree c.row-root.ensures.bound candidate;
     }
 
 pub returns-clause-found : goal.returns-clause-found
 returns-clause-found g c =
-    let H : Bool → Type 0 = HasDescended c.args.version c.args.tree.now _ c.descend.new.branch in
-    let descended = subst H c.if-not-is_open.false c.in_ok-is_open.ensures.descended in
-    let rows = c.args.tree.now.rows in
-    let here = c.descend.new.branch.asserted in
-    let C : Option Place → Type 0 =
-    λ found. MatchOption found (AreChosen (spelled rows) (positions here)) (λ q. IsCandidate (spelled rows) (positions here) (place_signed q)) in
+    let descended = rw c.if-not-is_open.false at c.in_ok-is_open.ensures.descended in
     witness c.args.version c.args.tree.now c.descend.new.branch c.in_ok-shown.shown c.row-root.ensures.numbered c.requires.no_false descended.0
-    c.len-asserted_so_far.ensures.graph (subst C c.in_default.is c.in_ok-place.ensures) c.in_ok-shown.ensures.nodes c.in_ok-shown.ensures.edges
+    c.len-asserted_so_far.ensures.graph (rw c.in_default.is at c.in_ok-place.ensures) c.in_ok-shown.ensures.nodes c.in_ok-shown.ensures.edges
