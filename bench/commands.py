@@ -23,14 +23,13 @@ Instructions and the heap are counted by valgrind, and are the same in each run,
 is 1 where the verdict of a row of a sweep differs from that of its check or something could not be counted, 2 where the words
 are others, and else 0.
 """
-import os
 import re
 from collections.abc import Callable
-from concurrent.futures import ThreadPoolExecutor
 from itertools import product
+from pathlib import Path
 
 from counting import (
-    MIB, TOP, Misused, call, counted, heap_peak, instructions, names_of, peak_bytes, program, saved, shipped, show, show_all
+    MIB, TOP, Misused, at_once, call, counted, heap_peak, instructions, names_of, peak_bytes, saved, shipped, show, show_all
 )
 from questions import ONE_WRITE, RING, access, choices, fences_apart, ring, test_of
 
@@ -38,7 +37,6 @@ Words = tuple[str, ...]
 
 
 def of_examples(*names: str) -> list[str]:
-    """The paths of files of examples."""
     return [f"{TOP}/examples/{name}" for name in names]
 
 
@@ -51,9 +49,7 @@ def chosen(names: Words, there: list[str]) -> list[str]:
 
 
 def ask(*models: str) -> bool:
-    """A line for each question, and the greatest ratio."""
-    with open(of_examples("queries/answers.tsv")[0], encoding="ascii") as file:
-        rows = [line.rstrip("\n").split("\t") for line in file][1:]
+    rows = [line.split("\t") for line in Path(*of_examples("queries/answers.tsv")).read_text("ascii").splitlines()[1:]]
     ratios, known = [], chosen(models, sorted({row[1] for row in rows}))
     for query, model, test, word in rows:
         if model in known:
@@ -67,13 +63,11 @@ def ask(*models: str) -> bool:
 
 
 def core(*models: str) -> bool:
-    """A line for each pair, and the greatest ratio."""
     ratios = []
     for model, test in product(chosen(models, names_of("models")), ("MP", "SB", "IRIW")):
         paths = shipped("models", model) + shipped("tests", test)
         found, single = counted("core", *paths), instructions("check", *paths)
-        with open(paths[0], encoding="ascii") as file:
-            axioms = len(re.findall(r"^Axiom ", file.read(), re.M))
+        axioms = len(re.findall(r"^Axiom ", Path(paths[0]).read_text("ascii"), re.M))
         searches = 1 if found.first == "core none" else axioms + 2 + int(found.first.split()[1])
         ratio = found.instructions / (searches * single)
         print(f"{model:12} {test:4} {found.first:9} {searches:3} searches {found.instructions / 1e6:7.1f} million, "
@@ -144,15 +138,11 @@ def lift_of(pair: Words) -> tuple[float, int, int] | None:
 
 
 def lift(which: str = "") -> bool:
-    """What lifting takes, on all shipped models with all tests, or with every tenth one."""
     if which not in ("", "all"):
         raise Misused(f"commands: lift takes all tests by `all`, and no {which}")
     tests = names_of("tests")[:: 1 if which else 10]
     pairs = product(shipped("models", *names_of("models")), shipped("tests", *tests))
-    # it is made before any call, where it has to be
-    program()
-    with ThreadPoolExecutor(os.cpu_count()) as pool:
-        found = [one for one in pool.map(lift_of, pairs) if one is not None]
+    found = [one for one in at_once(lift_of, pairs) if one is not None]
     show(f"the greatest share that `lift` takes of what it may, of {len(found)} pairs", max(share for share, _, _ in found), 1)
     longer = sum(lifted for _, lifted, _ in found) / sum(written for _, _, written in found)
     show("bytes of the lifted texts over those of the refutations", longer, 20)
@@ -190,7 +180,6 @@ def graph(count: int, has_edges: bool) -> str:
 
 
 def verify() -> bool:
-    """What judging takes over finding, how it grows with the text, and its memory."""
     def judged(files: list[str], text: str) -> int:
         return instructions("verify", *files, *saved(text), says="verified ")
 
@@ -243,7 +232,6 @@ class Lifted:
         self.lines.append(" ".join(map(str, words)))
 
     def text(self) -> str:
-        """The text."""
         return "\n".join([*self.lines, "end", ""])
 
     def edge_of_four(self, i: int, j: int) -> tuple[int, int]:
@@ -298,7 +286,6 @@ def long_text(count: int) -> str:
 
 
 def verify_lifted() -> bool:
-    """What judging a lifted refutation takes."""
     says, four = "verified unobservable\n", four_text()
     assert four.count("\n") == LINES
     full = heap_peak("verify-lifted", *saved(FOUR, fences_apart(64), four), says=says)
@@ -324,7 +311,6 @@ MOST = {"sweep": 1, "lift": 1, "verify": 0, "verify-lifted": 0}
 
 
 def main(words: list[str]) -> int:
-    """The tables."""
     if words and (words[0] not in COMMANDS or len(words) - 1 > MOST.get(words[0], len(words))):
         raise Misused(__doc__)
     return 0 if all([COMMANDS[name](*words[1:]) for name in words[:1] or COMMANDS]) else 1

@@ -93,15 +93,8 @@ class Processes:
 
 
 def kit() -> str:
-    """The folder of the toolchain."""
     page = subprocess.run(["rt", "doc"], capture_output=True, text=True, check=True).stdout
     return os.path.dirname(page.strip())
-
-
-def list_crates(text: str) -> dict[str, list[str]]:
-    """What each crate of the text of a crates.txt stands on, in its order, the lowest first."""
-    lines = (line.split("#")[0].partition(":") for line in text.splitlines())
-    return {head.split()[0]: names.split() for head, colon, names in lines if colon}
 
 
 def hash_files(folder: str, parts: tuple[str, ...], onto: str = "") -> str:
@@ -127,7 +120,9 @@ class Tree:
     functions: dict[str, float] = field(default_factory=dict)
 
     def __post_init__(self) -> None:
-        self.below = list_crates(Path(self.folder, "crates.txt").read_text("utf-8"))
+        # what each crate stands on, in the order of crates.txt, the lowest first
+        rows = (line.split("#")[0].partition(":") for line in Path(self.folder, "crates.txt").read_text("utf-8").splitlines())
+        self.below = {head.split()[0]: names.split() for head, colon, names in rows if colon}
         for name, stands_on in self.below.items():
             onto = " ".join(self.sums.get(it, it) for it in stands_on)
             self.sums[name] = hash_files(f"{self.folder}/crates/{name}", PROVED, onto)
@@ -147,9 +142,6 @@ class Tree:
 
     def is_program(self, name: str) -> bool:
         return os.path.isfile(f"{self.folder}/crates/{name}/src/main.rt")
-
-    def has_tests(self, name: str) -> bool:
-        return any("#[test]" in it.read_text("utf-8") for it in Path(self.folder, "crates", name, "src").rglob("*.rt"))
 
     def edits(self, name: str) -> list[str]:
         return sorted(map(str, Path(self.folder, "crates", name, TRIED).glob("*")))
@@ -278,7 +270,7 @@ def measure(tree: Tree, name: str, processes: Processes, is_gate: bool) -> Cost:
         if not is_gate:
             return Cost(proof, 0, 0, 0)
         tests = 0.0
-        if tree.has_tests(name):
+        if any("#[test]" in it.read_text("utf-8") for it in Path(where, "src").rglob("*.rt")):
             more = ["--test", "--toolchain", f"{tree.tools}/toolchain", "--backend", "llvm", "-o", f"{room}/tests.o"]
             status, tests = processes.timed(tree.words("build", name, *more), where)
             if status:
@@ -367,8 +359,5 @@ def simulate(tree: Tree, lanes: int) -> float:
 
 
 def total(costs: list[Cost]) -> Cost:
-    """The sum of all."""
-    return Cost(
-        sum(it.proof for it in costs), sum(it.tests for it in costs), sum(it.again for it in costs),
-        sum(it.edits for it in costs), sum(it.number for it in costs),
-    )
+    proof, tests, again, edits, number, _ = zip(Cost(0, 0, 0, 0), *costs)
+    return Cost(sum(proof), sum(tests), sum(again), sum(edits), sum(number))

@@ -32,19 +32,14 @@ import tempfile
 import time
 
 from costing import PROGRAM, Cost, Tree, kit, measure_all, simulate, total
+from counting import TOP, Misused
 
-TOP = os.path.dirname(os.path.dirname(os.path.realpath(__file__)))
 SLOWEST = 10
 LANES = (2, 4, 8)
 USAGE = "bench/costs.py [--between OLD NEW [--gate]] [--into FOLDER] [--minutes N] [--processors N] [NAME ..]"
 
 
-class Misused(Exception):
-    """Words that mean nothing here: what is wrong."""
-
-
 def commit_of(name: str) -> str:
-    """The whole name of a commit."""
     found = subprocess.run(
         ["git", "-C", TOP, "rev-parse", "--verify", "--quiet", f"{name}^{{commit}}"],
         capture_output=True, text=True, check=False,
@@ -66,7 +61,6 @@ def lay_out(commit: str, kept: str) -> Tree:
 
 
 def numbers(cost: Cost) -> str:
-    """The cells of a crate."""
     return "".join(f"{it:8.0f}" for it in (*cost[:4], cost.whole()))
 
 
@@ -125,7 +119,6 @@ def answer(asked: argparse.Namespace, kept: str) -> int:
 
 
 def main() -> int:
-    """Answers one call."""
     parser = argparse.ArgumentParser(usage=USAGE)
     parser.add_argument("--between", nargs=2, metavar=("OLD", "NEW"))
     parser.add_argument("--gate", action="store_true")

@@ -13,9 +13,13 @@ import subprocess
 import sys
 import tempfile
 from collections.abc import Callable, Iterable
+from concurrent.futures import ThreadPoolExecutor
 from dataclasses import dataclass
 from functools import cache
+from typing import TypeVar
 
+Asked = TypeVar("Asked")
+Answer = TypeVar("Answer")
 TOP = os.path.dirname(os.path.dirname(os.path.realpath(__file__)))
 MIB = 1 << 20
 # of the shipped files of a kind
@@ -57,7 +61,6 @@ class Counted:
 
     @property
     def first(self) -> str:
-        """The first line."""
         return self.text.partition("\n")[0]
 
 
@@ -87,6 +90,13 @@ def program() -> str:
     if done.returncode != 0:
         raise SystemExit(f"there is no program to call in {TOP}")
     return os.fsdecode(done.stdout).rstrip("\n").partition(" ")[2]
+
+
+def at_once(ask: Callable[[Asked], Answer], asked: Iterable[Asked], processors: int | None = os.cpu_count()) -> list[Answer]:
+    """The answers to all of these, on so many processors. The program is made before any call, where it has to be."""
+    program()
+    with ThreadPoolExecutor(processors) as pool:
+        return list(pool.map(ask, asked))
 
 
 class Misused(Exception):
@@ -124,10 +134,10 @@ def names_of(kind: str) -> list[str]:
     return sorted(it.removesuffix(ENDINGS[kind]) for it in os.listdir(f"{TOP}/examples/{kind}") if it.endswith(ENDINGS[kind]))
 
 
-def calls_of(profile: str, functions: tuple[str, ...]) -> list[int]:
-    """How often a profile of callgrind has each of these functions called."""
+def turns_in(profile: str) -> int:
+    """How many turns of searches a profile of callgrind has."""
     names: dict[str, str] = {}
-    calls = dict.fromkeys(functions, 0)
+    calls = {HANDED_OUT: 0, SEARCHED: 0}
     called = ""
     with open(profile, encoding="utf-8", errors="replace") as file:
         for line in file:
@@ -136,15 +146,9 @@ def calls_of(profile: str, functions: tuple[str, ...]) -> list[int]:
                 called = names[named[1]] if line.startswith("c") else ""
             elif (count := CALLS.match(line)) and called in calls:
                 calls[called] += int(count[1])
-    return [calls[function] for function in functions]
-
-
-def turns_in(profile: str) -> int:
-    """How many turns of searches a profile has."""
-    handed_out, searched = calls_of(profile, (HANDED_OUT, SEARCHED))
-    if searched > handed_out:
+    if calls[SEARCHED] > calls[HANDED_OUT]:
         raise SystemExit(f"not counted: the program has no function {HANDED_OUT} any more")
-    return handed_out - searched
+    return calls[HANDED_OUT] - calls[SEARCHED]
 
 
 def under_callgrind(profile: str, *command: str) -> tuple[int, str]:
@@ -168,7 +172,6 @@ def counted(*words: str, says: str = "") -> Counted:
 
 
 def instructions(*words: str, says: str = "") -> int:
-    """How many instructions the program takes."""
     return counted(*words, says=says).instructions
 
 
@@ -194,7 +197,6 @@ def timed(limit: float, out: str, *words: str, calls: int = 1, room: int = 0) ->
 
 
 def peak_bytes(*words: str) -> int:
-    """The peak memory of the program, in bytes."""
     return timed(math.inf, os.devnull, program(), *words).peak
 
 

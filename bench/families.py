@@ -14,11 +14,10 @@ where verdicts differ or a call fails, 2 where the words are others, and else 0.
 import os
 import signal
 import subprocess
-from concurrent.futures import ThreadPoolExecutor
 from dataclasses import dataclass
 from itertools import product
 
-from counting import Misused, call, names_of, program, saved, shipped
+from counting import Misused, at_once, call, names_of, program, saved, shipped
 from makers import FAMILIES, drawn, is_fenced_ring
 
 COMMANDS = ("check", "check2")
@@ -47,7 +46,6 @@ class Asked:
 
     @property
     def name(self) -> str:
-        """The question without the command."""
         return f"{self.family} {self.seed} on {self.model}"
 
     @property
@@ -79,17 +77,13 @@ def asked_of(family: str, seed: int, model: str, command: str, test: str) -> Ask
 
 def ask_all(seeds: range, models: list[str]) -> list[Asked]:
     """All questions of these seeds and models, on all processors."""
-    # it is made before any of them, where it has to be
-    program()
-    with ThreadPoolExecutor(os.cpu_count()) as pool:
-        calls = []
-        for seed, family in product(seeds, FAMILIES):
-            text = drawn(family, seed)
-            [test] = saved(text)
-            for model, command in product(models, COMMANDS):
-                if model != LONG_MODEL or not is_fenced_ring(family, text):
-                    calls.append(pool.submit(asked_of, family, seed, model, command, test))
-        return [it.result() for it in calls]
+    asked: list[tuple[str, int, str, str, str]] = []
+    for seed, family in product(seeds, FAMILIES):
+        text = drawn(family, seed)
+        [test] = saved(text)
+        here = [it for it in models if it != LONG_MODEL or not is_fenced_ring(family, text)]
+        asked += ((family, seed, model, command, test) for model, command in product(here, COMMANDS))
+    return at_once(lambda it: asked_of(*it), asked)
 
 
 def tell(what: str, found: list[Asked], is_barred: bool = False) -> None:
@@ -125,7 +119,6 @@ def tell_all(found: list[Asked]) -> bool:
 
 
 def main(words: list[str]) -> int:
-    """The tables, or one text."""
     if len(words) == 2 and words[0] in FAMILIES and words[1].isdecimal():
         print(drawn(words[0], int(words[1])), end="")
         return 0

@@ -47,11 +47,6 @@ def axioms(size: int) -> str:
     return STAGES + line * ((size - len(STAGES)) // len(line))
 
 
-def peak_over_nothing(model: str, test: str) -> int:
-    """The peak memory of a check, beside that of one that has nothing to ground."""
-    return peak_bytes("check", *saved(model, test)) - peak_bytes("check", *saved(STAGES, test))
-
-
 def writes_of_a_graph() -> float:
     """The calls that write a graph to standard output, by strace, over one for 4,096 bytes and three more."""
     command = [program(), "check", *saved(MANY, writes(64))]
@@ -72,7 +67,6 @@ def show_finding(name: str) -> None:
 
 
 def show_growth() -> None:
-    """How counts grow."""
     def count(model: str, test: str) -> int:
         return instructions("check", *saved(model, test))
 
@@ -82,13 +76,13 @@ def show_growth() -> None:
     show("1 MiB of axioms over half of it", count(axioms(1 << 20), ONE_WRITE) / count(axioms(1 << 19), ONE_WRITE), 2.2)
     show("2,000 pending disjunctions over 1,000, one split in both",
          count(disjunctions(2000), ONE_WRITE) / count(disjunctions(1000), ONE_WRITE), 2.3)
-    show("bytes of memory for each row of three quantifiers over 64 micro-ops",
-         peak_over_nothing(NESTED, writes(64)) / (2 * 64**3), 128)
+    # beside a check that has nothing to ground
+    peak, least = (peak_bytes("check", *saved(model, writes(64))) for model in (NESTED, STAGES))
+    show("bytes of memory for each row of three quantifiers over 64 micro-ops", (peak - least) / (2 * 64**3), 128)
     show("writes of a graph of some 160 KB, over one for 4,096 bytes and three more", writes_of_a_graph(), 1.0)
 
 
 def show_clock() -> None:
-    """What grows by the clock."""
     def seconds(count: int) -> float:
         return timed(math.inf, os.devnull, program(), "check", *saved(SEARCHED["exists"], fences(count)), calls=3).clock
 
@@ -96,7 +90,6 @@ def show_clock() -> None:
 
 
 def main(names: list[str]) -> int:
-    """The tables."""
     unknown = [name for name in names if name not in QUESTIONS]
     if unknown:
         raise Misused(f"growth: there is no question {unknown[0]}; there are {', '.join(QUESTIONS)}")

@@ -62,7 +62,6 @@ def run(seed: int, cores: int, each: int, addresses: int, values: int, stale: in
 
 
 def of_cores(cores: Iterable[Core]) -> str:
-    """A test of what each core does."""
     return test_of((core, [op]) for core, ops in enumerate(cores) for op in ops)
 
 

@@ -14,6 +14,7 @@ such model or test, and else 0.
 import math
 import shutil
 from itertools import product
+from pathlib import Path
 
 import solvers
 from counting import Misused, call, names_of, program, saved, shipped, timed
@@ -26,8 +27,7 @@ def beside(paths: list[str], calls: int, *names: str) -> tuple[float, bool | Non
     """The seconds of `check` by the clock, its verdict, the seconds of these solvers, and whether all verdicts are one."""
     [answer] = saved("")
     ours = timed(math.inf, answer, program(), "check", *paths, calls=calls).clock
-    with open(answer, encoding="ascii") as file:
-        verdict = solvers.verdict_of(file.read())
+    verdict = solvers.verdict_of(Path(answer).read_text("ascii"))
     verdicts, theirs = {verdict}, {}
     for name, found in solvers.asked(paths, *names, calls=calls):
         assert found is not None
@@ -81,7 +81,6 @@ def all_shipped(words: list[str]) -> int:
 
 
 def main(words: list[str]) -> int:
-    """The table."""
     if words[:1] == ["--shipped"]:
         return all_shipped(words[1:])
     if not all(word.isdecimal() for word in words):

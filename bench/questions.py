@@ -65,7 +65,6 @@ FIRST_PAIRS = [
 
 
 def access(kind: str, address: int, value: int | str) -> str:
-    """A micro-op that reads or writes."""
     return f"{kind} (VA {address} 0) (PA {address} 0) (Data {value})"
 
 
@@ -78,7 +77,6 @@ def test_of(instructions: Iterable[tuple[int, list[str]]], stated: str = "") -> 
 
 
 def ring(cores: int) -> str:
-    """The test of a ring."""
     return test_of(
         ((core, [op]) for core in range(cores)
          for op in (access("Write", 0, core + 1), access("Read", 0, (core + 1) % cores + 1))), "Forbidden.\n"

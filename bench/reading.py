@@ -28,6 +28,7 @@ import sys
 import tempfile
 from collections.abc import Callable, Iterable
 from functools import cache
+from pathlib import Path
 
 from counting import MIB, TOP, Misused, Timed, call, instructions, program, saved, shipped, show, timed
 from questions import ONE_WRITE, access, test_of
@@ -47,7 +48,6 @@ def measured(words: list[str], status: int = 0) -> Timed:
 
 
 def checked(model: str, test: str) -> Timed:
-    """Some checks."""
     return measured([program(), "check", *saved(model, test)])
 
 
@@ -79,7 +79,6 @@ def axioms(count: int) -> str:
 
 
 def linear() -> None:
-    """`check` of comments and of axioms."""
     two_writes = test_of([(0, [access("Write", 0, 1)]), (0, [access("Write", 0, 2)])], "Permitted.\n")
 
     def comments(size: int) -> str:
@@ -108,7 +107,6 @@ def stated(kind: str, k: int) -> str:
 
 
 def tests() -> None:
-    """`check` of long tests."""
     count = itertools.count
     kinds: dict[str, Callable[[int], str]] = {
         "1 MiB of relationships": lambda size: filled(size, fences(OPS), map(dependency, count())),
@@ -207,9 +205,7 @@ def on_bench(work: str, text: str, status: int = 0) -> Timed:
 
 
 def parser() -> None:
-    """Parsing a shipped model, again and again."""
-    with open(shipped("models", "tso-buffer")[0], encoding="ascii") as file:
-        text = file.read()
+    text = Path(*shipped("models", "tso-buffer")).read_text("ascii")
     # without the comments at its head
     parts = itertools.repeat(text[text.index("StageName"):])
     whole, half = (on_bench("parse", filled(size, "", parts)) for size in (MIB, MIB // 2))
@@ -218,7 +214,6 @@ def parser() -> None:
 
 
 def models() -> None:
-    """Reading whole models."""
     whole, half = (on_bench("read", expanding(1000 // part, MIB // part)) for part in (1, 2))
     show_growth("1,000 macros in 1 MiB", whole, half)
     show("1,000 macros in 1 MiB, peak memory over its bytes", (whole.peak - empty_memory("read")) / MIB, 200)
@@ -248,7 +243,6 @@ def listing(count: int, comments: int = 0, columns: int = 4) -> str:
 
 
 def listings() -> None:
-    """`check86` of listings."""
     def taken(text: str) -> int:
         return instructions("check86", *saved("", text), says="observable\ntest unstated\nend\n")
 
@@ -259,7 +253,6 @@ def listings() -> None:
 
 
 def macro(name: str, body: str, parameters: Iterable[str] = ()) -> str:
-    """A macro's definition."""
     return " ".join(["DefineMacro", f'"{name}"', *(f'"{it}"' for it in parameters)]) + f": {body}.\n"
 
 
@@ -311,7 +304,6 @@ NAMES = {
 
 
 def names(*words: str) -> None:
-    """Questions with long or many names."""
     def taken(model: str, test: str) -> Timed:
         return timed(60, os.devnull, program(), "check", *saved(model, test), calls=3)
 
@@ -370,7 +362,6 @@ MODELS: dict[str, Callable[[], str]] = {
 
 
 def memory(*words: str) -> None:
-    """Models that ask for the most memory before grounding."""
     for what, make in MODELS.items():
         if not all(word in what for word in words):
             continue
@@ -379,8 +370,7 @@ def memory(*words: str) -> None:
             raise SystemExit(f"not measured: {os.path.getsize(model)} bytes of {what}")
         words_of_check = program(), "check", model, test
         whole = timed(math.inf, out, *words_of_check)
-        with open(out, encoding="ascii") as file:
-            why = file.read().split()[2] if whole.status == 3 else f"STATUS {whole.status}"
+        why = Path(out).read_text("ascii").split()[2] if whole.status == 3 else f"STATUS {whole.status}"
         half = timed(math.inf, os.devnull, *words_of_check, room=whole.peak // 2).status
         show(what, whole.peak / MIB, 1024, f" MiB; {why}; with half of it {'want of memory' if half == 7 else f'STATUS {half}'}")
 
@@ -391,7 +381,6 @@ PARTS: dict[str, Callable[..., None]] = {
 
 
 def main(words: list[str]) -> int:
-    """The parts."""
     if words and (words[0] not in PARTS or words[1:] and words[0] not in ("names", "memory")):
         raise Misused(f"reading: there is no part {' '.join(words)}; there are {', '.join(PARTS)}")
     status = 0

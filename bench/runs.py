@@ -19,11 +19,11 @@ something could not be counted, 2 where there is no such question, and else 0. I
 import marshal
 import os
 from collections.abc import Callable
-from concurrent.futures import ThreadPoolExecutor
-from dataclasses import dataclass, field
+from dataclasses import dataclass
+from pathlib import Path
 
 import solvers
-from counting import MIB, call, counted, program, saved, shipped, timed
+from counting import MIB, at_once, call, counted, program, saved, shipped, timed
 from makers import lock, run
 from questions import FIRST_MODELS, RING, ring
 
@@ -43,7 +43,7 @@ class Question:
     model: str
     make: Callable[[], str]
     # whether its text is a pattern, of which each row is asked
-    is_swept: bool = field(default=False)
+    is_swept: bool = False
 
 
 QUESTIONS = {
@@ -76,9 +76,8 @@ def splits_of_second(command: str, paths: list[str], limit: float, verdicts: set
     entry = [f"{tools}/__main__.py", word]
     if not limit or not timed(limit, answer, *python, "-m", "cProfile", "-o", profile, *entry, command, *paths).has_ended:
         return None
-    with open(answer, encoding="ascii") as text, open(profile, "rb") as file:
-        verdicts.add(solvers.verdict_of(text.read()))
-        calls = {(path, name): how[1] for (path, _, name), how in marshal.load(file).items()}
+    verdicts.add(solvers.verdict_of(Path(answer).read_text("ascii")))
+    calls = {(path, name): how[1] for (path, _, name), how in marshal.loads(Path(profile).read_bytes()).items()}
     found = [count for (path, name), count in calls.items() if path.endswith(SPLIT[0]) and name == SPLIT[1]]
     if len(found) != 1:
         raise SystemExit(f"not counted: the second implementation calls no {SPLIT[1]} of {SPLIT[0]}")
@@ -114,7 +113,6 @@ def tell_solver(name: str, found: solvers.Answered | None, verdicts: set[bool | 
 
 
 def tell_sweep(paths: list[str]) -> None:
-    """One line of `sweep`, of a pattern."""
     took = timed(LIMIT, os.devnull, program(), "sweep", *paths, calls=CALLS)
     count = counted("sweep", *paths)
     rows = [line for line in count.text.split("\n") if line.startswith("row ")]
@@ -146,17 +144,13 @@ def asked_of_many(seed: int) -> tuple[float, str]:
     name = FIRST_MODELS[seed // 12 % len(FIRST_MODELS)]
     test, answer = saved(run(seed, 8, 8, addresses, values, stale), "")
     took = timed(LIMIT, answer, program(), "check", *shipped("models", name), test)
-    with open(answer, encoding="ascii") as file:
-        verdict = file.readline().strip() if took.has_ended else "no end"
+    verdict = Path(answer).read_text("ascii").partition("\n")[0].strip() if took.has_ended else "no end"
     return took.seconds, f"run {seed}, {addresses} addresses, {values} values, {stale} stale reads, on {name}: {verdict}"
 
 
 def ask_many(count: int) -> None:
     """The slowest of many runs."""
-    # it is made before any of them, where it has to be
-    program()
-    with ThreadPoolExecutor(max(1, (os.cpu_count() or 1) // 2)) as pool:
-        calls = sorted(pool.map(asked_of_many, range(count)), reverse=True)
+    calls = sorted(at_once(asked_of_many, range(count), max(1, (os.cpu_count() or 1) // 2)), reverse=True)
     for seconds, what in calls[:10]:
         print(f"{seconds:7.3f} s   {what}")
     past = sum(seconds > MANY_BAR for seconds, _ in calls)
@@ -164,7 +158,6 @@ def ask_many(count: int) -> None:
 
 
 def main(words: list[str]) -> int:
-    """The lines of the questions, or those of many runs."""
     if words[:1] == ["--many"] and all(word.isdecimal() for word in words[1:2]) and len(words) <= 2:
         ask_many(int(words[1]) if words[1:] else MANY)
         return 0

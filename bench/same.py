@@ -40,7 +40,6 @@ def named(path: str, text: str) -> str:
 
 
 def calls(folder: str, is_long: bool) -> Iterator[list[str]]:
-    """The words of each call."""
     for pair in product(*(sorted(glob.glob(f"{TOP}/examples/**/*.{it}", recursive=True)) for it in ("uspec", "test"))):
         yield ["check", *pair]
     for cores in (2, 3, 4):
@@ -145,7 +144,6 @@ def random_words(words: list[str]) -> tuple[int, int, str, str] | None:
 
 
 def main(given: list[str]) -> int:
-    """Compares."""
     words = [word for word in given if word not in ("--long", "--count")]
     asked = random_words(words[1:]) if words[:1] == ["--random"] else None
     if asked is not None:

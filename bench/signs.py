@@ -12,11 +12,10 @@ three calls, in one run. Each ratio stands beside its bar; the exit status is 1 
 else 0. It takes ten minutes on four processors.
 """
 import os
-from concurrent.futures import ThreadPoolExecutor
 from dataclasses import dataclass
 
 import solvers
-from counting import Counted, call, counted, instructions, program, saved, show, timed
+from counting import Counted, at_once, call, counted, instructions, program, saved, show, timed
 from questions import FIRST_PAIRS, ONE_WRITE, choices
 
 COMMANDS = ("check", "check2")
@@ -85,9 +84,7 @@ def random_questions(group: Group) -> bool:
 
 def first_pairs() -> bool:
     """The shipped pairs of 28 November 2026. Whether the verdicts are one."""
-    calls = [(command, *pair) for command in COMMANDS for pair in FIRST_PAIRS]
-    with ThreadPoolExecutor(os.cpu_count()) as pool:
-        counts = list(pool.map(lambda words: counted(*words), calls))
+    counts = at_once(lambda words: counted(*words), [(command, *pair) for command in COMMANDS for pair in FIRST_PAIRS])
     plain, signed = counts[: len(FIRST_PAIRS)], counts[len(FIRST_PAIRS):]
     tell_splits(PAIRS, [plain, signed])
     written = sum(count.text.count("\nsplit ") for count in plain)
@@ -96,7 +93,6 @@ def first_pairs() -> bool:
 
 
 def main(words: list[str]) -> int:
-    """The questions, and then the shipped pairs; or one question."""
     if len(words) not in (0, 2) or not all(word.isdecimal() for word in words):
         raise SystemExit(__doc__)
     if words:

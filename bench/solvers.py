@@ -10,6 +10,7 @@ import shutil
 import sys
 from collections.abc import Iterator
 from dataclasses import dataclass
+from pathlib import Path
 
 from counting import TOP, Timed, saved, timed
 
@@ -57,5 +58,4 @@ def asked(
             continue
         places = {"question": questions[kind], "proof": proof}
         call = timed(limit, out, *(places.get(word, word) for word in words), calls=calls)
-        with open(out, encoding="latin-1") as file:
-            yield name, Answered(call, verdict_of(file.read()), os.path.getsize(questions[kind]))
+        yield name, Answered(call, verdict_of(Path(out).read_text("latin-1")), os.path.getsize(questions[kind]))

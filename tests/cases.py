@@ -9,8 +9,8 @@ import atexit
 import compileall
 import contextlib
 import functools
-import io
 import os
+import re
 import resource
 import runpy
 import shutil
@@ -73,21 +73,15 @@ def program() -> str:
 def lay_apart(folder: str) -> None:
     """Has the scripts stand in this folder as where they are installed, with the program that stands here: which one does is not
     asked there at each call, and what is in Python is compiled."""
-    compileall.compile_dir(f"{TOP}/tools", quiet=1)
-    for it in ("commands.txt", "pipecheck", "script", "tools"):
-        if os.path.isdir(f"{TOP}/{it}"):
-            shutil.copytree(f"{TOP}/{it}", f"{folder}/{it}")
-        else:
-            shutil.copy2(f"{TOP}/{it}", f"{folder}/{it}")
+    # in a checkout that may not be written none of it is
+    compileall.compile_dir(f"{TOP}/tools", quiet=2)
+    for it in ("commands.txt", "docs", "pipecheck", "script", "tools"):
+        _take(f"{TOP}/{it}", f"{folder}/{it}", it != "docs")
     os.remove(f"{folder}/script/build")
     shutil.copy2(program(), f"{folder}/pipecheck_cli")
     os.mkdir(f"{folder}/examples")
-    os.symlink(f"{TOP}/docs", f"{folder}/docs")
     for it in os.listdir(f"{TOP}/examples"):
-        if it == "suite":
-            shutil.copy2(f"{TOP}/examples/suite", f"{folder}/examples/suite")
-        else:
-            os.symlink(f"{TOP}/examples/{it}", f"{folder}/examples/{it}")
+        _take(f"{TOP}/examples/{it}", f"{folder}/examples/{it}", it == "suite")
 
 
 @functools.cache
@@ -175,10 +169,9 @@ def _become(entry: Callable[[], object], words: list[str], cwd: str, env: dict[s
     try:
         for number, file in enumerate(files):
             os.dup2(file, number)
-        sys.stdin = io.TextIOWrapper(io.FileIO(0, closefd=False), encoding="utf-8", errors="surrogateescape")
-        sys.stdout = io.TextIOWrapper(io.BufferedWriter(io.FileIO(1, "w", closefd=False)), encoding="utf-8")
-        err = io.BufferedWriter(io.FileIO(2, "w", closefd=False))
-        sys.stderr = io.TextIOWrapper(err, encoding="utf-8", errors="backslashreplace")
+        sys.stdin = open(0, encoding="utf-8", errors="surrogateescape", closefd=False)
+        sys.stdout = open(1, "w", encoding="utf-8", closefd=False)
+        sys.stderr = open(2, "w", encoding="utf-8", errors="backslashreplace", closefd=False)
         os.environ.clear()
         os.environ.update(env)
         os.chdir(cwd)
@@ -298,9 +291,7 @@ class Cases(unittest.TestCase):
         with self.case(name):
             self.assertEqual((done.status, done.out, done.err), (status, out, err))
 
-    def gives(
-        self, name: str, words: Sequence[str | bytes], status: int = 0, out: str = "", err: str = "", **how: Any
-    ) -> None:
+    def gives(self, name: str, words: Sequence[str | bytes], status: int = 0, out: str = "", err: str = "", **how: Any) -> None:
         """A command ends with this status and writes these two texts; `how` are words of `run`."""
         if self.is_wanted(name):
             self.judge(name, run(words, **how), status, out, err)
@@ -316,6 +307,12 @@ class Cases(unittest.TestCase):
     def holds(self, name: str, condition: object) -> None:
         """This holds."""
         self.same(name, bool(condition))
+
+    def finds(self, name: str, pattern: str, text: str) -> None:
+        """This stands in a text, where `^` and `$` are of each line."""
+        if self.is_wanted(name):
+            with self.case(name):
+                self.assertRegex(text, re.compile(pattern, re.M))
 
     def skips(self, name: str, why: str) -> None:
         """A case that cannot run here, which is said and is no passed one."""
@@ -354,10 +351,7 @@ def copy_checkout(folder: str, copied: Sequence[str] = (), crates: Sequence[str]
     the others, which are only read, are links. Returns the folder."""
     os.makedirs(f"{folder}/crates")
     for name in set(os.listdir(TOP)) - {".git", "crates"}:
-        if os.path.isfile(f"{TOP}/{name}"):
-            shutil.copy2(f"{TOP}/{name}", f"{folder}/{name}")
-        else:
-            _take(f"{TOP}/{name}", f"{folder}/{name}", name in ("script", *copied))
+        _take(f"{TOP}/{name}", f"{folder}/{name}", name in ("script", *copied) or os.path.isfile(f"{TOP}/{name}"))
     for name in os.listdir(f"{TOP}/crates"):
         os.mkdir(f"{folder}/crates/{name}")
         for part in set(os.listdir(f"{TOP}/crates/{name}")) - {"out", "must-fail"}:
@@ -367,10 +361,12 @@ def copy_checkout(folder: str, copied: Sequence[str] = (), crates: Sequence[str]
 
 def _take(path: str, at: str, is_copied: bool) -> None:
     """Copies what stands at this path, or links it."""
-    if is_copied and os.path.isdir(path):
+    if not is_copied:
+        os.symlink(path, at)
+    elif os.path.isdir(path):
         shutil.copytree(path, at, symlinks=True, ignore=shutil.ignore_patterns("out"))
     else:
-        os.symlink(path, at)
+        shutil.copy2(path, at)
 
 
 def within(which: int, size: int) -> Callable[[], None]:
@@ -413,7 +409,8 @@ def without_output(kind: str) -> Iterator[dict[str, Any]]:
     reader, file = os.pipe()
     os.close(reader)
     if kind == "full":
-        os.dup2(os.open("/dev/full", os.O_WRONLY), file)
+        os.close(file)
+        file = os.open("/dev/full", os.O_WRONLY)
     try:
         yield {"stdout": file}
     finally:
@@ -451,6 +448,4 @@ def replaced(owner: object, name: str, value: object) -> Iterator[None]:
 
 def files_below(folder: str) -> list[str]:
     """Each file below a folder, by its path there."""
-    return sorted(
-        os.path.relpath(f"{place}/{it}", folder) for place, _, names in os.walk(folder) for it in names
-    )
+    return sorted(os.path.relpath(f"{place}/{it}", folder) for place, _, names in os.walk(folder) for it in names)

@@ -15,6 +15,7 @@ kept in a folder that is named. The last line is 'N runs, M wrong', and the stat
 Variables of the environment: PIPECHECK, the program (the one that stands); HOSTILE_JOBS, how many run side by side (the
 number of processors); HOSTILE_FOLDER, where wrong runs are kept (out/hostile).
 """
+import io
 import os
 import re
 import resource
@@ -43,18 +44,19 @@ from tools.second.judging import Refused as CertificateRefused
 from tools.second.judging import judge, second_line
 from tools.second.lifted import LiftedJudge, judge_lifted
 from tools.second.models import Model
-from tools.second.patterns import read_pattern, sweep, sweep_text
 from tools.second.scopes import read_model
 from tools.second.searching import is_observable
-from tools.second.main import LIMIT, Refused, ask, core, judged, judged_three
+from tools.second.main import Refused, core, file_bytes, judged, run
 from tools.standing import tested
+from tools.telling.files import rows_of
 
 TESTED = tested(TOP)
 PROGRAM = TESTED.path
 SECONDS_OF_A_CALL = 20
 SECONDS_OF_A_READING = 5
-USAGE = b"pipecheck: bad command line\n"
 UNOBSERVABLE = b"verified unobservable\n"
+# the words that docs/faults.md has for the faults of each file
+WORDS = {kind: dict(rows_of(f"{TOP}/docs/faults.md", f"| word of a {kind} |")) for kind in ("model", "test")}
 Answer = tuple[int, bytes]
 Words = list[str | bytes]
 
@@ -65,22 +67,6 @@ class Wrong(Exception):
 
 class Late(Exception):
     """The program, or the second implementation, took longer than it may."""
-
-
-def fault_words() -> dict[str, set[str]]:
-    """The words that docs/faults.md has for the faults of each file."""
-    words: dict[str, set[str]] = {}
-    with open(os.path.join(TOP, "docs", "faults.md"), encoding="utf-8") as page:
-        for line in page:
-            head = re.match(r"\| word of a (\w+) ", line)
-            if head:
-                found = words.setdefault(head[1], set())
-            elif line.startswith("|") and words:
-                found.update(re.findall(r"`([a-z-]+)`", line.split("|")[1]))
-    return words
-
-
-WORDS = fault_words()
 
 
 def within(work: Callable[..., Any], *args: Any, seconds: float = SECONDS_OF_A_READING) -> Any:
@@ -108,44 +94,17 @@ class Read:
     is_observable: bool
 
 
-def judge_sizes(**texts: bytes) -> None:
-    """No file is read where one of them is too large."""
-    for kind, text in texts.items():
-        if len(text) > LIMIT:
-            raise Refused(f"refused {kind} too-large at 1:1")
-
-
-def read_pair(model_text: bytes, test_text: bytes) -> Read:
+def read_pair(model_path: str, test_path: str) -> Read:
     """Reads a model and a test, and searches."""
-    judge_sizes(model=model_text, test=test_text)
+    model_text, test_text = file_bytes("model", model_path), file_bytes("test", test_path)
     model, case = judged("model", read_model, model_text), judged("test", read_case, test_text)
     return Read(model, case, is_observable(model, case))
 
 
-def sweep_answer(model_text: bytes, pattern_text: bytes) -> Answer:
-    """What `sweep` has to answer to two files."""
-    try:
-        judge_sizes(model=model_text, test=pattern_text)
-        model, pattern = judged("model", read_model, model_text), judged("test", read_pattern, pattern_text)
-    except Refused as refused:
-        return 3, f"{refused}\n".encode()
-    return 0, sweep_text(sweep(model, pattern)).encode()
-
-
-def ask_answer(model_text: bytes, test_text: bytes, query_text: bytes) -> Answer:
-    """What `ask` has to answer to three files."""
-    try:
-        judge_sizes(model=model_text, test=test_text, query=query_text)
-        asked = judged_three(model_text, test_text, query_text)
-    except Refused as refused:
-        return 3, f"{refused}\n".encode()
-    answer, status = ask(*asked)
-    return status, answer.encode()
-
-
-def contents(path: str | bytes) -> bytes:
-    with open(path, "rb") as file:
-        return file.read()
+def of_second(args: Words) -> Answer:
+    """What the second implementation answers to these words."""
+    out = io.StringIO()
+    return run([os.fsdecode(it) for it in args], out), out.getvalue().encode()
 
 
 def judgement(read: Read, text: bytes, takes_version_2: bool = True) -> Answer:
@@ -226,7 +185,7 @@ class Runs:
         """Both kinds of check on a pair, against the second implementation; then what can be done with the certificate."""
         files: Words = [self.write("model", model_text), self.write("test", test_text)]
         try:
-            read = within(read_pair, model_text, test_text)
+            read = within(read_pair, *files)
         except Refused as refused:
             self.refused(files, f"{refused}\n".encode())
             return
@@ -314,8 +273,9 @@ class Runs:
     def failing_output(self, args: Words) -> None:
         """A full device, a closed output, a pipe that nobody reads: status 5."""
         kind = self.random.choice(("full", "closed", "unread"))
-        with cases.without_output(kind) as how:
-            status, _ = self.call(args, **how)
+        # a worker makes so many of these calls that none of them may leave a file open
+        with open("/dev/full", "wb") as full, cases.without_output("closed" if kind == "full" else kind) as how:
+            status, _ = self.call(args, **({"stdout": full} if kind == "full" else how))
         if status != 5:
             raise Wrong(f"{args}: status {status} where the output is {kind}")
 
@@ -344,32 +304,15 @@ class Runs:
         self.demand(args, self.answer_to(args))
 
     def answer_to(self, args: Words) -> Answer:
-        """What the program answers to arguments of the names above, by docs/faults.md."""
+        """What the program answers to arguments of the names above, by docs/faults.md: the second implementation has no `gen`, and
+        takes any bytes."""
         if b"\xff" in args or b"\xc3(" in args:
             return 8, b""
-        word, count = args[0], len(args)
-        if word == "gen" and count == 2 and args[1] in [str(n) for n in range(2, 17)]:
+        if args[0] == "gen" and args[1:] in [[str(n)] for n in range(2, 17)]:
             n = int(args[1])
             splits = n * n - 2 * n + 2
             return 0, f"gen {n}\nunobservable\nnodes {2 * n}\nsplits {splits}\nleaves {splits + 1}\nend\n".encode()
-        of_two, of_three = ("check", "check2", "core", "sweep"), ("verify", "verify-lifted", "lift", "ask")
-        if count != (3 if word in of_two else 4 if word in of_three else 0):
-            return 2, USAGE
-        if any(not os.path.isfile(name) for name in args[1:4 if word == "ask" else 3]):
-            return 4, b""
-        if word == "ask":
-            return ask_answer(*map(contents, args[1:]))
-        kinds = [os.path.basename(name) for name in args[1:3]]
-        if kinds[0] == "test":
-            return 3, b"refused model syntax at 1:1\n"
-        if kinds[1] == "model":
-            return 3, b"refused test syntax at 1:1\n"
-        if word in ("verify", "verify-lifted", "lift"):
-            return (6, b"certificate refused at line 1\n") if os.path.isfile(args[3]) else (4, b"")
-        if word == "sweep":
-            return 0, b"sweep 1\nrow observable\nobservable 1\nunobservable 0\nend\n"
-        graph = b"observable\ntest unstated\nend\n"
-        return 0, b"core none\n" + graph + b"end\n" if word == "core" else graph
+        return of_second(args)
 
     def pattern(self) -> None:
         """A sweep, against the second implementation's."""
@@ -378,8 +321,7 @@ class Runs:
             pattern_text = random_texts.changed_file(self.random, pattern_text)
         model_text = random_texts.ModelMaker(self.random).text()
         files: Words = [self.write("model", model_text), self.write("test", pattern_text)]
-        answer = within(sweep_answer, model_text, pattern_text)
-        self.demand(["sweep", *files], answer)
+        answer = self.demand(["sweep", *files], within(of_second, ["sweep", *files]))
         if self.random.random() < 0.1:
             self.little_memory(["sweep", *files], answer)
 
@@ -391,7 +333,7 @@ class Runs:
             which = self.random.choice((0, 1, 2, 2, 2))
             texts[which] = random_texts.changed_file(self.random, texts[which])
         files: Words = [*map(self.write, ("model", "test", "query"), texts)]
-        answer = within(ask_answer, *texts, seconds=2 * SECONDS_OF_A_READING)
+        answer = within(of_second, ["ask", *files], seconds=2 * SECONDS_OF_A_READING)
         if answer[0] == 3:
             self.word_of(answer[1])
         self.demand(["ask", *files], answer)
@@ -400,7 +342,7 @@ class Runs:
     def machine(self) -> None:
         """A test on a shipped model, against the machine that the model names."""
         path = self.random.choice(SHIPPED)
-        model_text = contents(path)
+        model_text = cases.read(path).encode()
         name = re.search(rb"(?im)^%[ \t]*memory model:[ \t]*([\w-]+)", model_text)[1].decode().lower()  # type: ignore[index]
         text = random_texts.machine_test(self.random)
         self.write("model", model_text)

@@ -254,6 +254,16 @@ def changed_pieces(random: Random, pieces: list[bytes]) -> list[bytes]:
     return pieces
 
 
+def move(lines: list[bytes], at: int, other: int, kind: str) -> None:
+    """A line goes, comes twice or takes another one's place, where that is the kind of a change."""
+    if kind == "drop":
+        del lines[at]
+    elif kind == "twice":
+        lines.insert(other, lines[at])
+    elif kind == "swap":
+        lines[at], lines[other] = lines[other], lines[at]
+
+
 def changed_certificate(random: Random, text: bytes) -> bytes:
     """The certificate with one change of its lines, which may spoil it or not."""
     lines = text.split(b"\n")
@@ -261,13 +271,8 @@ def changed_certificate(random: Random, text: bytes) -> bytes:
     words = lines[at].split(b" ")
     nodes = [word for line in lines for word in line.split(b" ") if b"@" in word] or [b"0.0@0:S"]
     kind = random.choice(("drop", "twice", "swap", "node", "number", "word", "sign", "version", "break", "space", "byte"))
-    if kind == "drop":
-        del lines[at]
-    elif kind == "twice":
-        lines.insert(other, lines[at])
-    elif kind == "swap":
-        lines[at], lines[other] = lines[other], lines[at]
-    elif kind == "node":
+    move(lines, at, other, kind)
+    if kind == "node":
         words[random.randrange(len(words))] = random.choice(nodes)
         lines[at] = b" ".join(words)
     elif kind == "number":
@@ -287,7 +292,7 @@ def changed_certificate(random: Random, text: bytes) -> bytes:
         return text[:random.randrange(len(text) + 1)]
     elif kind == "space":
         lines[at] += random.choice((b" ", b"\r", b"\t", b" 0.0@0:S"))
-    else:
+    elif kind == "byte":
         lines[at] = lines[at][:1] + bytes([random.randrange(256)]) + lines[at][1:]
     return b"\n".join(lines)
 
@@ -317,13 +322,8 @@ def changed_lifted(random: Random, text: bytes) -> bytes:
     words = lines[at].split(b" ")
     place = random.randrange(len(words))
     kind = random.choice(("drop", "twice", "swap", "word", "words", "line", "break", "byte") + 4 * ("number",))
-    if kind == "drop":
-        del lines[at]
-    elif kind == "twice":
-        lines.insert(other, lines[at])
-    elif kind == "swap":
-        lines[at], lines[other] = lines[other], lines[at]
-    elif kind == "word":
+    move(lines, at, other, kind)
+    if kind == "word":
         words[0] = random.choice(b"left right not bind inst member split false cycle path absent end".split())
         lines[at] = b" ".join(words)
     elif kind == "words":
@@ -336,7 +336,7 @@ def changed_lifted(random: Random, text: bytes) -> bytes:
     elif kind == "byte":
         start = random.randrange(len(lines[at]) + 1)
         lines[at] = lines[at][:start] + bytes([random.randrange(256)]) + lines[at][start + 1 :]
-    else:
+    elif kind == "number":
         step = random.choice((-2, -1, -1, 1, 1, 2, 100))
         words[place] = re.sub(rb"\d+", lambda found: str(max(0, int(found[0]) + step)).encode(), words[place], count=1)
         lines[at] = b" ".join(words)

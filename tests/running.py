@@ -6,21 +6,25 @@
 
 Prints which program it is, a line for each case, and then 'N passed, M failed, K skipped'. A family is a module tests/test_NAME.py,
 of which each class is run by a process of its own. The status is 1 where a case failed. With SHOW_FAILED set each failure is shown.
+A signal that asks for an end ends all classes, and what they made that is temporary goes.
 """
 from __future__ import annotations
 
 import gc
 import importlib
 import os
-import shutil
+import signal
 import subprocess
 import sys
 import tempfile
 import traceback
 import unittest
+from contextlib import suppress
 from typing import IO, Any
 
 from tests import cases
+
+from tools.ending import Signals
 
 # those that take longest begin first
 LONGEST = (
@@ -28,6 +32,11 @@ LONGEST = (
     "explain", "agree", "suite_tables", "test86",
 )
 HEADS = {"ok": "ok      ", "failed": "FAILED  ", "skipped": "skipped "}
+# how a process ends that has run all of its class
+AT_ITS_END = 86
+SIGNALS = Signals()
+# how deep Python may go in the classes of each module, which may say so as it is read
+DEPTHS: dict[str, int] = {}
 Class = type[unittest.TestCase]
 
 
@@ -88,9 +97,29 @@ def families() -> list[str]:
 
 def classes_of(family: str) -> list[Class]:
     """The classes of cases of a family: those of its module with a test method of their own."""
-    module = importlib.import_module(f"tests.test_{family}")
+    depth = sys.getrecursionlimit()
+    try:
+        module = importlib.import_module(f"tests.test_{family}")
+    except (Exception, SystemExit) as fault:  # pylint: disable=broad-exception-caught
+        return [unread(family, fault)]
+    finally:
+        # what it says of Python is not for what is read later
+        DEPTHS[f"tests.test_{family}"] = sys.getrecursionlimit()
+        sys.setrecursionlimit(depth)
+        sys.dont_write_bytecode = False
     own = [it for it in vars(module).values() if isinstance(it, type) and it.__module__ == module.__name__]
     return [it for it in own if issubclass(it, unittest.TestCase) and any(name.startswith("test") for name in vars(it))]
+
+
+def unread(family: str, fault: BaseException) -> Class:
+    """The one class of a family whose module cannot be read. It fails."""
+
+    class Unread(unittest.TestCase):
+        def test_module(self) -> None:
+            with self.subTest(case=f"tests/test_{family}.py can be read"):
+                raise AssertionError(repr(fault)) from fault
+
+    return Unread
 
 
 def begin(its: Class) -> tuple[int, IO[bytes]]:
@@ -101,11 +130,13 @@ def begin(its: Class) -> tuple[int, IO[bytes]]:
     if process == 0:
         status = 1
         try:
+            for it in SIGNALS.received:
+                signal.signal(it, signal.SIG_DFL)
+            sys.setrecursionlimit(DEPTHS.get(its.__module__, sys.getrecursionlimit()))
             os.dup2(file.fileno(), 1)
             with open(1, "w", encoding="utf-8", errors="surrogateescape") as sys.stdout:
-                result = Lines()
-                unittest.defaultTestLoader.loadTestsFromTestCase(its).run(result)
-                status = 0 if result.wasSuccessful() else 1
+                unittest.defaultTestLoader.loadTestsFromTestCase(its).run(Lines())
+            status = AT_ITS_END
         except BaseException:  # pylint: disable=broad-exception-caught
             traceback.print_exc()
         finally:
@@ -118,7 +149,7 @@ def lines_of(its: Class, file: IO[bytes], status: int) -> list[str]:
     with file:
         file.seek(0)
         lines = cases.text_of(file.read()).splitlines()
-    if status != 0 and not any(it.startswith("FAILED") for it in lines):
+    if status != AT_ITS_END:
         lines.append(f"FAILED  {its.__module__}.{its.__name__} came to no end: status {cases.status_of(status)}")
     return lines
 
@@ -127,18 +158,29 @@ def run_all(waiting: list[Class]) -> int:
     """Runs these classes on all processors. Prints their lines, and how many cases passed."""
     counts = dict.fromkeys(HEADS, 0)
     running: dict[int, tuple[Class, IO[bytes]]] = {}
-    while waiting or running:
-        # one more than there are processors, since some wait
-        while waiting and len(running) <= len(os.sched_getaffinity(0)):
-            its = waiting.pop(0)
-            process, file = begin(its)
-            running[process] = its, file
-        process, status = os.wait()
-        for line in lines_of(*running.pop(process), os.waitstatus_to_exitcode(status)):
-            sys.stdout.buffer.write(line.encode("utf-8", "surrogateescape") + b"\n")
-            for how, head in HEADS.items():
-                counts[how] += line.startswith(head.rstrip() + " ")
-        sys.stdout.flush()
+    try:
+        while waiting or running:
+            # one more than there are processors, since some wait
+            while waiting and len(running) <= len(os.sched_getaffinity(0)):
+                with SIGNALS.held():
+                    process, file = begin(waiting[0])
+                    running[process] = waiting.pop(0), file
+            process, status = os.wait()
+            # another one is of a shell that this process took the place of, or was left behind, where this is the first of all
+            if process not in running:
+                continue
+            for line in lines_of(*running.pop(process), os.waitstatus_to_exitcode(status)):
+                sys.stdout.buffer.write(line.encode("utf-8", "surrogateescape") + b"\n")
+                for how, head in HEADS.items():
+                    counts[how] += line.startswith(head.rstrip() + " ")
+            sys.stdout.flush()
+    finally:
+        for process, (its, _) in running.items():
+            print(f"tests: {its.__module__}.{its.__name__} is ended", file=sys.stderr)
+            # one may have ended when the signal came
+            with suppress(ProcessLookupError, ChildProcessError):
+                os.kill(process, signal.SIGKILL)
+                os.waitpid(process, 0)
     by = "" if cases.is_proved() else cases.BY_THAT_PROGRAM
     print(f"{counts['ok']} passed, {counts['failed']} failed, {counts['skipped']} skipped{by}")
     return 0 if counts["ok"] and not counts["failed"] else 1
@@ -152,8 +194,8 @@ def shorten_python(folder: str) -> None:
     os.environ["PATH"] = f"{folder}:{os.environ['PATH']}"
 
 
-def start(room: str, names: list[str]) -> int:
-    """Has the program and the scripts stand that are tested, in this folder, and runs these families."""
+def prepare(room: str) -> None:
+    """Has the program and the scripts stand that are tested, in this folder."""
     program = cases.program()
     shorten_python(f"{room}/python")
     # what pages show of explain has lines as where there is no terminal
@@ -165,10 +207,6 @@ def start(room: str, names: list[str]) -> int:
     print(f"on the {which}, sha256 {cases.hash_of(program)}", flush=True)
     with open(os.devnull, "rb") as nothing:
         os.dup2(nothing.fileno(), 0)
-    classes = [it for name in names for it in classes_of(name)]
-    # what is there by now no process that is forked looks through for what is to be freed
-    gc.freeze()
-    return run_all(classes)
 
 
 def main() -> int:
@@ -180,16 +218,20 @@ def main() -> int:
     if unknown:
         print(f"tests: there is no family {unknown[0]}; those that there are: {' '.join(sorted(known))}", file=sys.stderr)
         return 2
-    room = tempfile.mkdtemp(prefix="pipecheck-tests-")
-    try:
-        return start(room, words or known)
-    except subprocess.CalledProcessError as fault:
-        print(f"tests: {fault}", file=sys.stderr)
-        print("0 passed, 1 failed")
-        return 1
-    finally:
-        shutil.rmtree(room, ignore_errors=True)
+    SIGNALS.receive()
+    # what classes leave where temporary files go is in this folder, too
+    with SIGNALS.temporary_folder(lambda: tempfile.TemporaryDirectory("", "pipecheck-tests-", None, True)) as room:
+        try:
+            prepare(room)
+        except subprocess.CalledProcessError as fault:
+            print(f"tests: {fault}", file=sys.stderr)
+            print("0 passed, 1 failed")
+            return 1
+        classes = [it for name in words or known for it in classes_of(name)]
+        # what is there by now no process that is forked looks through for what is to be freed
+        gc.freeze()
+        return run_all(classes)
 
 
 if __name__ == "__main__":
-    sys.exit(main())
+    sys.exit(SIGNALS.status_or_end(main))

@@ -27,7 +27,8 @@ import tools.suite.sarif
 from tools.explain import files as explaining_files
 from tools.lint import linting
 from tools.second import queries
-from tools.suite.beside import LINTED, Lint
+from tools.suite import running
+from tools.suite.beside import LINTED
 from tools.suite.files import File
 
 SC = "examples/models/sc-inorder.uspec"
@@ -38,8 +39,6 @@ MP = "examples/tests/MP.test"
 SB = "examples/tests/SB.test"
 CORR = "examples/tests/CoRR.test"
 TSO = "the machine of tso"
-# how the last line of many tables ends
-NO_FAULTS = "0 stricter, 0 time, 0 faults, in N s\n"
 # the table of message passing and store buffering on the in-order pipeline, which many calls are asked for
 GOOD = """\
 test  sc-inorder
@@ -47,19 +46,32 @@ MP    ok
 SB    ok
 2 pairs: 2 ok, 0 BUG, 0 stricter, 0 time, 0 faults, in N s
 """
+# what the last line counts, some of it where there is any
+COUNTED, SOMETIMES = ("ok", "BUG", "stricter", "unstated", "not taken", "time", "faults"), ("unstated", "not taken")
 LINTING = threading.Lock()
 
 
-def lint_here(self: Lint, model: File) -> list[str]:
+def tabled(models: str, rows: str, counts: str, *below: str) -> str:
+    """The table of these models, with rows of a test and its cells, in which `_` stands for a blank; the lines below it; and the
+    last line, of which all other counts are 0."""
+    cells = [[it.replace("_", " ") for it in row.split()] for row in (f"test {models}", *filter(None, rows.split(", ")))]
+    widths = [max(map(len, column)) for column in zip(*cells, strict=True)]
+    lines = ["  ".join(map(str.ljust, row, widths)).rstrip() for row in cells]
+    found = {word: int(number) for number, word in (it.split(" ", 1) for it in counts.split(", "))}
+    said = ", ".join(f"{found.get(it, 0)} {it}" for it in COUNTED if it in found or it not in SOMETIMES)
+    return "".join(f"{line}\n" for line in (*lines, *below, f"{sum(found.values())} pairs: {said}, in N s"))
+
+
+def lint_here(_: str, tests: Sequence[File], __: object, ___: float, model: File) -> list[str]:
     """What lint says of a model and the tests, by its entry in this process."""
     with LINTING, contextlib.redirect_stdout(io.StringIO()) as out, contextlib.redirect_stderr(io.StringIO()):
-        status = lint.main(model.path, *self.paths)
+        status = lint.main(model.path, *(it.path for it in tests))
     if status not in LINTED:
         raise AssertionError(f"lint ended with {status}")
     return out.getvalue().split("\n")[:-1]
 
 
-def no_lint(_: Lint, __: File) -> list[str]:
+def no_lint(*_: object) -> list[str]:
     """Nothing, where a case is about much that lint takes long for, and that others ask it of."""
     return []
 
@@ -92,7 +104,7 @@ class SuiteCases(Cases):
         super().setUp()
         # the folder of the suite that is called, and how it is told what lint says
         self.top = apart()
-        self.lint_lines: Callable[[Lint, File], list[str]] = lint_here
+        self.lint_lines: Callable[..., list[str]] = lint_here
         os.mkdir(f"{self.work}/tests")
         self.copy("tests", *self.tests)
 
@@ -131,7 +143,7 @@ class SuiteCases(Cases):
         def entry() -> None:
             # no call may wait for what never comes
             signal.alarm(LONGEST)
-            with replaced(Lint, "lines", self.lint_lines), replaced(tools, "TOP", self.top):
+            with replaced(running, "lint_lines", self.lint_lines), replaced(tools, "TOP", self.top):
                 script_entry(path)()
 
         return call(entry, [path, *map(self.at, words)], env=self.variables(env))

@@ -14,19 +14,19 @@ from itertools import permutations, product
 from typing import Callable, Iterable, Iterator
 
 from tests.cases import (
-    PATIENCE, TOP, Cases, Done, apart, call, comes, command, environment, pipecheck, program, read, run, signal_unseen, tool,
-    tool_entry, without_output, write
+    PATIENCE, TOP, Cases, Done, apart, call, comes, command, environment, pipecheck, program, read, replaced, run, signal_unseen,
+    tool, tool_entry, without_output, write
 )
 
 # what is imported here is there in each process that is forked from this one
 from tools import ending
-from tools.agree import comparing_programs, working
+from tools.agree import comments, comparing_programs, table, working
 from tools.agree.programs import Program
 from tools.agree.small_programs import Family, Shape, shapes_of
 
 AGREE = tool("agree", apart())
 BUFFER, DRAIN = "examples/models/tso-buffer.uspec", "examples/models/tso-drain.uspec"
-EARLY = "examples/buggy/tso-ooo-commit-early.uspec"
+EARLY, PAGES = "examples/buggy/tso-ooo-commit-early.uspec", "examples/translation/tlb.uspec"
 MP, LOCKED, PATTERN = "examples/tests/MP.test", "examples/locked/SB+xchgs.test", "examples/patterns/MP.pattern"
 SWEPT = "swept by the program\n"
 NOT_TAKEN = (
@@ -54,30 +54,19 @@ NO_MACHINE = "there is no machine of the memory model {}; there are nmca, pc, ps
 TOLD: tuple[tuple[str, int, str, list[str]], ...] = (
     ("a model with a fault is told, and compared with no test", 3, f"WORK/{FAULT}", ["WORK/fault.uspec", MP]),
     ("a model with a fault is told, and compared with no program", 3, f"WORK/{FAULT}", ["--random", "1", "3", "WORK/fault.uspec"]),
-    (
-        "a test with a fault is told", 3, "WORK/fault.test:1:1: syntax: no test can continue with this token",
-        [BUFFER, "WORK/fault.test"],
-    ),
-    (
-        "a listing with a fault is told", 3, "WORK/fault.litmus:5:9: x86-unloaded: the thread does not load this register",
-        [BUFFER, "WORK/fault.litmus"],
-    ),
+    ("a test with a fault is told", 3, "WORK/fault.test:1:1: syntax: no test can continue with this token",
+     [BUFFER, "WORK/fault.test"]),
+    ("a listing with a fault is told", 3, "WORK/fault.litmus:5:9: x86-unloaded: the thread does not load this register",
+     [BUFFER, "WORK/fault.litmus"]),
     ("a file that is missing is told", 4, "WORK/no.test: No such file or directory", [BUFFER, "WORK/no.test"]),
-    (
-        "a test that no machine reads is told", 125, "WORK/layout.test: the machines cannot read this layout",
-        [BUFFER, "WORK/layout.test"],
-    ),
-    (
-        "that no machine runs the test is no agreement", 125,
-        "nothing is compared: no machine of these models runs one of these tests", [DRAIN, LOCKED],
-    ),
+    ("a test that no machine reads is told", 125, "WORK/layout.test: the machines cannot read this layout",
+     [BUFFER, "WORK/layout.test"]),
+    ("that no machine runs the test is no agreement", 125,
+     "nothing is compared: no machine of these models runs one of these tests", [DRAIN, LOCKED]),
     ("a memory model that has no machine is told", 125, NO_MACHINE.format("none-such"), ["WORK/none.uspec", MP]),
     ("a module that is no machine is none", 125, NO_MACHINE.format("os"), ["--as", "os", BUFFER, MP]),
-    (
-        "no random programs are made for page tables", 125,
-        "examples/translation/tlb.uspec: no programs are made for a machine with page tables",
-        ["--random", "1", "6", "examples/translation/tlb.uspec"],
-    ),
+    ("no random programs are made for page tables", 125, f"{PAGES}: no programs are made for a machine with page tables",
+     ["--random", "1", "6", PAGES]),
 )
 FEW = [f"examples/patterns/{it}.pattern" for it in ("CoRR", "CoWRR", "MP", "MP+own+read", "R", "SB", "SB+fences")]
 ANY_READ, OLDEST_READ = (f"examples/buggy/tso-lines-{it}-read.uspec" for it in ("any", "oldest"))
@@ -86,10 +75,8 @@ CACHES: tuple[tuple[str, str, list[str]], ...] = (
     ("tso-lines agrees with a machine with cache lines", "", ["--as", "caches.lines", "examples/models/tso-lines.uspec"]),
     ("tso-lines-any-read agrees with the machine that has its slip", "", ["--as", "caches.any_read", ANY_READ]),
     ("tso-lines-oldest-read agrees with the machine that has its slip", "", ["--as", "caches.oldest_read", OLDEST_READ]),
-    (
-        "what half of the mend shows is a read from before its fence",
-        "tso-lines-oldest-read.uspec SB+fences.pattern: shown though tso does not allow it: 0 0\n", [OLDEST_READ],
-    ),
+    ("what half of the mend shows is a read from before its fence",
+     "tso-lines-oldest-read.uspec SB+fences.pattern: shown though tso does not allow it: 0 0\n", [OLDEST_READ]),
 )
 
 
@@ -252,12 +239,10 @@ exec "{program()}" "$@"
 
 
 def children_of(process: int) -> list[int]:
-    """The processes that a process started."""
     return [*map(int, run(["pgrep", "-P", str(process)]).out.split())]
 
 
 def is_group(number: int) -> bool:
-    """Whether there is a process in this group."""
     return run(["pgrep", "-g", str(number)]).status == 0
 
 
@@ -314,6 +299,13 @@ tso-buffer-no-write-between.uspec SB+fences+old.test: shown yes, tso allows no
                     others.append(f"{test}: {model}:{verdict}")
         self.same("told-apart.tsv names what the models say", others, [])
         self.gives("the comments of tests are what the table says", [*tool("comments"), "--check"])
+
+        def check_without_table() -> int:
+            with replaced(table, "TOP", self.work):
+                return comments.main(["--check"])
+
+        self.same("without a table nothing says what they are", call(check_without_table, []).status, 1)
+        self.same("verdicts of two tests are asked for one by one", run([*tool("verdicts"), "sc", MP, MP]).status, 1)
 
 
 # the types of fences

@@ -8,7 +8,7 @@ import resource
 import shutil
 from typing import Sequence
 
-from tests.cases import TOP, Cases, command_forms, copy_checkout, pipecheck, program, read, run, unread, within, write
+from tests.cases import TOP, Cases, Done, command_forms, copy_checkout, pipecheck, program, read, run, unread, within, write
 
 PO, REVERSE = "examples/po.uspec", "examples/po-and-reverse.uspec"
 IN_ORDER, BUFFER = "examples/in-order.uspec", "examples/store-buffer.uspec"
@@ -63,6 +63,16 @@ AGAIN = "split 1\npath 0.0@0:S 1.0@0:S\n"
 LAST = "path 1.0@0:S 0.0@0:S 0.0@0:T\nend\n"
 ABSENT = f'{S}Axiom "far": forall microops "i", NodeExists (i, (5, S)) /\\ ~NodeExists (i, (5, S)).\n'
 NEVER = f'{S}Axiom "x": exists microop "i", False.\n'
+# the right side of a split may use that the left one is false
+STAGES = f'{S}StageName 1 "T".\nStageName 2 "U".\n'
+SIGNS = STAGES + """Axiom "s": forall microops "i",
+  ((NodeExists (i, S) /\\ NodeExists (i, T)) \\/ NodeExists (i, U))
+  /\\ ~NodeExists (i, U) /\\ ~NodeExists (i, T).
+"""
+# page-table entries as addresses and values
+WALK = f"""{S}Axiom "walk": forall microops "i", forall microops "j",
+  EntryOf i j /\\ MapsTagOf i j => AddEdge ((i, S), (j, S), "walk").
+"""
 MANY = S + 'Axiom "a": forall microop "i", forall microop "j", ProgramOrder i j => AddEdge ((i, S), (j, S), "").\n' * 10_000
 
 
@@ -317,12 +327,8 @@ pipecheck: these words are no command; how check is called stands above
 
     def test_version_2(self) -> None:
         """The right side of a split keeps that the left one is false."""
-        stages = f'{S}StageName 1 "T".\nStageName 2 "U".\n'
-        sign = self.file("sign.uspec", f"""{stages}Axiom "s": forall microops "i",
-  ((NodeExists (i, S) /\\ NodeExists (i, T)) \\/ NodeExists (i, U))
-  /\\ ~NodeExists (i, U) /\\ ~NodeExists (i, T).
-""")
-        negative = self.file("neg.uspec", f"""{stages}Axiom "n": forall microops "i",
+        sign = self.file("sign.uspec", SIGNS)
+        negative = self.file("neg.uspec", f"""{STAGES}Axiom "n": forall microops "i",
   ((NodeExists (i, S) /\\ EdgeExists ((i, U), (i, S)))
    \\/ (~NodeExists (i, T) /\\ EdgeExists ((i, U), (i, S))))
   /\\ (~NodeExists (i, U) \\/ ~EdgeExists ((i, U), (i, S)))
@@ -575,9 +581,7 @@ class Questions(Answers):
         return self.file("walk.test", lines(f'{word} "w".', read, "Microop 0 0 0 1 (Write (VA 3 0) (PA 7 0) (Data 1))."))
 
     def test_entries(self) -> None:
-        model = self.file("walk.uspec", f"""{S}Axiom "walk": forall microops "i", forall microops "j",
-  EntryOf i j /\\ MapsTagOf i j => AddEdge ((i, S), (j, S), "walk").
-""")
+        model = self.file("walk.uspec", WALK)
         walked = "observable\ntest unstated\nnode 0.0@0:S\nnode 0.1@0:S\nedge 0.0@0:S 0.1@0:S\nend\n"
         test = self.walk("Litmus2", "Maps 7 1 0")
         self.shows("a walk", 0, walked, "check", model, test)
@@ -970,9 +974,8 @@ pipecheck: `Litmus` or `Litmus2` is expected
         """Where it fails, whatever the words, nothing is seen of what was written."""
         check, itself, script = ["check", PO, TWO], [program()], [pipecheck()]
         with open("/dev/full", "wb") as full, open(TWO, "rb") as read_only, open(f"{self.work}/answer", "w+b") as kept:
-            self.gives("a file as standard output", [*itself, *check], stdout=kept)
-            kept.seek(0)
-            self.assertEqual(kept.read().decode(), ORDERED)
+            done = run([*itself, *check], stdout=kept)
+            self.same("a file as standard output", (done, read(kept.name)), (Done(0, "", ""), ORDERED))
             for name, words, said in (
                 ("a full device as standard output", [*itself, *check], ""),
                 ("a full device, with no words", itself, ""),
@@ -996,3 +999,14 @@ pipecheck: `Litmus` or `Litmus2` is expected
         with unread() as pipe:
             self.gives("a pipe that nobody reads", [program(), "check", PO, TWO], 5, stdout=pipe)
             self.gives("a standard error that nobody reads", [pipecheck(), "check", PO, TWO], stdout=pipe, stderr=pipe)
+
+    def test_files_of_hostile(self) -> None:
+        from random import Random
+
+        from tests.hostile import Runs
+
+        runs, before = Runs(self.work, self.work), os.listdir("/proc/self/fd")
+        runs.random = Random(1)
+        for _ in range(30):
+            runs.failing_output(["check", PO, TWO])
+        self.same("outputs of hostile that fail leave no file open", os.listdir("/proc/self/fd"), before)

@@ -14,9 +14,10 @@ import os
 import re
 import runpy
 import shutil
+import signal
 import sys
 
-from tests.cases import TOP, Cases, Done, call, program, read, run, write
+from tests.cases import LONGEST, TOP, Cases, Done, call, program, read, run, write
 
 # a question is whole where its last line, or its first, is there
 SMT = """#!/bin/sh
@@ -141,6 +142,8 @@ class Benches(Cases):
     def again(self, name: str, *words: str) -> Done:
         """A call beside the programs that are there."""
         def entry() -> None:
+            # no call may wait for what never comes
+            signal.alarm(LONGEST)
             sys.path[0] = f"{TOP}/bench"
             runpy.run_path(f"{TOP}/bench/{name}.py", run_name="__main__")
 

@@ -1,14 +1,16 @@
 """Checkers look at the scripts of the repository: shellcheck at those of the shell, and mypy, strictly, at those of Python, at what
-they import, and at the families of tests."""
+they import, and at the families of tests. And what runs those says what comes to no end."""
 from __future__ import annotations
 
 import os
 import re
 import shutil
+import signal
+import subprocess
 from collections import Counter
 from glob import glob
 
-from tests.cases import TOP, Cases, Done, read, run
+from tests.cases import BY_THAT_PROGRAM, TOP, Cases, Done, comes, copy_checkout, environment, read, run, write
 
 SHELL = re.compile(r"#!.*(/|[ \t])(ba|da)?sh$|# shellcheck shell=")
 PYTHON = re.compile(r"#!.*[ \t]python3( -I -S)?$")
@@ -99,3 +101,59 @@ class Types(Checked):
         """modules of scripts have names of their own"""
         names = Counter(os.path.basename(it) for folder in FOLDERS for it in glob(f"{TOP}/{folder}/*.py"))
         self.assertEqual([it for it, count in names.items() if count > 1], [])
+
+
+class Families(Cases):
+    """Families of a copy, of a few cases each."""
+
+    def setUp(self) -> None:
+        super().setUp()
+        self.top = copy_checkout(f"{self.work}/top", ("tests", "tools"))
+        for name, text in (
+            ("good", "self.same('one', 1, 1)\n        self.same('two', 2, 2)"), ("wrong", "self.same('three', 3, 4)"),
+            ("slow", f"open('{self.work}/begun', 'w').close()\n        time.sleep(1)"), ("ended", "os._exit(0)"),
+            ("long", f"open('{self.work}/begun', 'w').close()\n        time.sleep(600)"),
+            ("deep", "self.same('deep', sys.getrecursionlimit(), 5000)\n\n\nsys.setrecursionlimit(5000)"),
+            ("flat", "self.same('flat', sys.getrecursionlimit(), 1000)"),
+        ):
+            case = f"class It(Cases):\n    def test_it(self) -> None:\n        {text}\n"
+            write(f"{self.top}/tests/test_{name}.py", f"import os, sys, time\nfrom tests.cases import Cases\n{case}")
+        write(f"{self.top}/tests/test_unread.py", "import no_such_module\n")
+        os.mkdir(f"{self.work}/room")
+        self.env = {"TESTED_PROGRAM": "/bin/true", "PIPECHECK_PROVED": "no", "TMPDIR": f"{self.work}/room"}
+
+    def runs(self, name: str, status: int, lines: list[str], *words: str, before: str = "") -> None:
+        """These words give these lines, in any order, behind the one that names the program."""
+        done = run(["bash", "-c", f'{before} exec tests/program "$@"', "bash", *words], cwd=self.top, env=self.env)
+        self.same(name, (done.status, sorted(done.out.splitlines()[1:]), done.err), (status, sorted(lines), ""))
+
+    def test_families(self) -> None:
+        good = ["ok      one", "ok      two", f"2 passed, 0 failed, 0 skipped{BY_THAT_PROGRAM}"]
+        slow = ["ok      test it", f"1 passed, 0 failed, 0 skipped{BY_THAT_PROGRAM}"]
+        self.runs("a family of which all cases pass", 0, good, "good")
+        self.runs(
+            "... in place of a shell that began something else", 0, slow, "slow",
+            before=f"until [ -e '{self.work}/begun' ]; do sleep 0.1; done &",
+        )
+        self.runs("one case by a part of its name", 0, [good[1], f"1 passed, 0 failed, 0 skipped{BY_THAT_PROGRAM}"], "good", "wo")
+        self.runs("no case has that name", 1, [f"0 passed, 0 failed, 0 skipped{BY_THAT_PROGRAM}"], "good", "four")
+        both = ["ok      deep", "ok      flat", f"2 passed, 0 failed, 0 skipped{BY_THAT_PROGRAM}"]
+        self.runs("how deep Python goes one family says for itself", 0, both, "deep", "flat")
+        self.runs("one that cannot be read, and one whose process ends, fail, and the others run", 1, [
+            *good[:2], "FAILED  three: AssertionError: 3 != 4",
+            "FAILED  tests/test_unread.py can be read: AssertionError: ModuleNotFoundError(\"No module named 'no_such_module'\")",
+            "FAILED  tests.test_ended.It came to no end: status 0", f"2 passed, 3 failed, 0 skipped{BY_THAT_PROGRAM}",
+        ], "good", "unread", "ended", "wrong")
+
+    def test_signals(self) -> None:
+        """what is ended is told, and leaves nothing where temporary files go"""
+        with open(f"{self.work}/err", "wb") as err, subprocess.Popen(
+            ["tests/program", "long"], cwd=self.top, env=environment(self.env), stdout=subprocess.DEVNULL, stderr=err,
+            start_new_session=True,
+        ) as job:
+            comes(lambda: os.path.exists(f"{self.work}/begun"))
+            os.killpg(job.pid, signal.SIGINT)
+        self.assertEqual(
+            (job.returncode, read(f"{self.work}/err"), os.listdir(f"{self.work}/room")),
+            (-signal.SIGINT, "tests: tests.test_long.It is ended\n", []),
+        )

@@ -11,7 +11,6 @@ import os
 import re
 import signal
 import subprocess
-import sys
 from contextlib import redirect_stderr
 from dataclasses import dataclass
 from functools import cache
@@ -48,6 +47,30 @@ LISTINGS = {
     # what the first load gets is not to be seen at the end
     "again": "X86 again\n{ }\n P0 | P1 ;\n MOV [x],$1 | MOV EAX,[x] ;\n | MOV EAX,[x] ;\nexists (1:EAX=0)\n",
 }
+
+# what is said of a state, by a word
+WORDS = {
+    "both": "shown by both",
+    "unseen": "shown by the model and not seen",
+    "BUG": "BUG: the machine does what the model forbids",
+    "model": "the model shows what herd forbids",
+    "herd": "herd allows what the model forbids",
+}
+
+
+def lines(names: str, states: str, condition: str) -> str:
+    """What is said of a test with these variables: its states, by their values, with how often each came, and its condition in
+    the model and in the log."""
+    title, _, variables = names.partition(": ")
+    found = ""
+    for state in states.split(", "):
+        values, word, times = re.fullmatch(r"([\d ]+) (\w+)(?: (\d+))?", state).groups()  # type: ignore[union-attr]
+        count = f", {times} time{'' if times == '1' else 's'}" if times else ""
+        shown = " ".join(f"{it}={value};" for it, value in zip(variables.split(), values.split(), strict=True))
+        found += f"{title}: {shown}  {WORDS[word]}{count}\n"
+    form, model, log = condition.split()
+    return f"{found}{title}: {form}: {model} in the model, {log} in the log\n"
+
 
 SB_MACHINE = """Test SB Allowed
 Histogram (4 states)
@@ -86,12 +109,7 @@ Hash=8a9c0f9f3b1d6c4b6f6a6d3c0e6f7a11
 Observation R Sometimes 8 4
 Time R 0.10
 """
-R_BOTH = """R: 1:EAX=0; [y]=1;  shown by both, 1 time
-R: 1:EAX=0; [y]=2;  shown by both, 8 times
-R: 1:EAX=1; [y]=1;  shown by both, 3 times
-R: 1:EAX=1; [y]=2;  shown by the model and not seen
-R: exists: Ok in the model, Ok in the log
-"""
+R_BOTH = lines("R: 1:EAX [y]", "0 1 both 1, 0 2 both 8, 1 1 both 3, 1 2 unseen", "exists Ok Ok")
 FRAME = """%%%%%%%%%%%%%%%%%%%%%%%%%
 % Results for SB.litmus %
 %%%%%%%%%%%%%%%%%%%%%%%%%
@@ -132,12 +150,7 @@ Time SB 0.00
 Hash=7dbd6b8e6dd4abc2ef3d48b0376fb2e3
 
 """
-SB_LISTED = """SB: 0:EAX=0; 1:EAX=0;  shown by both
-SB: 0:EAX=0; 1:EAX=1;  shown by both
-SB: 0:EAX=1; 1:EAX=0;  shown by both
-SB: 0:EAX=1; 1:EAX=1;  shown by both
-SB: exists: Ok in the model, Ok in the log
-"""
+SB_LISTED = lines("SB: 0:EAX 1:EAX", "0 0 both, 0 1 both, 1 0 both, 1 1 both", "exists Ok Ok")
 R_HERD = """Test R Allowed
 States 3
 1:EAX=0; y=1;
@@ -152,12 +165,7 @@ Time R 0.01
 Hash=8a9c0f9f3b1d6c4b6f6a6d3c0e6f7a11
 
 """
-R_LISTED = """R: 1:EAX=0; y=1;  shown by both
-R: 1:EAX=0; y=2;  shown by both
-R: 1:EAX=1; y=1;  shown by both
-R: 1:EAX=1; y=2;  the model shows what herd forbids
-R: exists: Ok in the model, Ok in the log
-"""
+R_LISTED = lines("R: 1:EAX y", "0 1 both, 0 2 both, 1 1 both, 1 2 model", "exists Ok Ok")
 
 
 @dataclass(frozen=True)
@@ -171,30 +179,6 @@ class Case:
     told: str = ""
     tests: tuple[str, ...] = ("SB",)
     model: str = BUFFERS
-
-
-# what is said of a state, by a word
-WORDS = {
-    "both": "shown by both",
-    "unseen": "shown by the model and not seen",
-    "BUG": "BUG: the machine does what the model forbids",
-    "model": "the model shows what herd forbids",
-    "herd": "herd allows what the model forbids",
-}
-
-
-def lines(names: str, states: str, condition: str) -> str:
-    """What is said of a test with these variables: its states, by their values, with how often each came, and its condition in
-    the model and in the log."""
-    title, _, variables = names.partition(": ")
-    found = ""
-    for state in states.split(", "):
-        values, word, times = re.fullmatch(r"([\d ]+) (\w+)(?: (\d+))?", state).groups()  # type: ignore[union-attr]
-        count = f", {times} time{'' if times == '1' else 's'}" if times else ""
-        shown = " ".join(f"{it}={value};" for it, value in zip(variables.split(), values.split(), strict=True))
-        found += f"{title}: {shown}  {WORDS[word]}{count}\n"
-    form, model, log = condition.split()
-    return f"{found}{title}: {form}: {model} in the model, {log} in the log\n"
 
 
 def counted(both: int, log_alone: int = 0, model_alone: int = 0, tests: int = 1, of: int = 1) -> str:
@@ -408,6 +392,9 @@ HERD = [
          "log:6: no line of a log: 3 :>0:EAX=1; 1:EAX=1;\n" + cut("3 are")),
     Case("two numbers of states", changed(SB_HERD, "States 4\n", "States 4\nStates 4\n"), 3, SB_LISTED + counted(4),
          "log:3: no line of a log: States 4\n"),
+    Case("two numbers of states, and one state more",
+         changed(changed(SB_HERD, "States 4", "States 3"), "0:EAX=1; 1:EAX=1;", "States 3\n0:EAX=1; 1:EAX=1;"), 3,
+         SB_LISTED + counted(4), "log:6: no line of a log: States 3\nlog:7: 3 states are announced, and here is one more\n"),
     Case("a variable that stands twice", herd("none Forbidden", "1:EAX=0; 1:EAX=0;\n", "Ok", "none Never 0 1"), 3,
          lines("none: 1:EAX", "0 model, 1 model", "~exists Ok Ok") + counted(0, 0, 2), "log:3: a state has a variable twice\n",
          tests=("none",)),

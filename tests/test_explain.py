@@ -18,6 +18,7 @@ from tests.cases import (
     TOP, Cases, Done, call, command, commands_without, pipecheck, program, read, replaced, run, status_of, within,
     without_output, without_proofs, write
 )
+from tests.test_answers import ABSENT, EITHER, NEVER, ONE, SIGNS, SPOILT, UNWRITTEN, WALK
 
 from tools.explain import judged
 from tools.texts import origins
@@ -56,16 +57,6 @@ class Row:
 
 
 KEY, BODY = r"(?ms)^The micro.*?\n\n", r"(?s) cannot be:\n(.*)"
-ONE = 'Litmus "o".\nMicroop 0 0 0 0 (Write (VA 0 0) (PA 0 0) (Data 1)).\n'
-# both sides of a split, a denied order on each
-EITHER = r"""StageName 0 "S".
-StageName 1 "T".
-Axiom "either": forall microops "i", forall microops "j", ProgramOrder i j =>
-  AddEdge ((i, S), (j, S), "") \/ AddEdge ((j, S), (i, S), "").
-Axiom "late": forall microops "i", forall microops "j", ProgramOrder i j =>
-  ~EdgeExists ((i, S), (j, S), "") /\ AddEdge ((i, S), (i, T), "")
-  /\ ~EdgeExists ((j, S), (i, T), "").
-"""
 
 
 def odds(stages: str) -> str:
@@ -95,14 +86,6 @@ ODDS, OF_ODDS = odds("STU"), refutation_of_odds((13, 18), ["split 9"])
 CLOSED = 'All 8 branches end in an order that is denied; each by axiom "T is in some order" and axiom "no order at T".\n'
 LEAVES = "Each split is a choice that the model leaves, and each branch ends in what cannot be:\n"
 DENIED = "      path: this order is asked for and denied\n"
-# the right side of a split may use that the left one is false
-SIGNS = r"""StageName 0 "S".
-StageName 1 "T".
-StageName 2 "U".
-Axiom "s": forall microops "i",
-  ((NodeExists (i, S) /\ NodeExists (i, T)) \/ NodeExists (i, U))
-  /\ ~NodeExists (i, U) /\ ~NodeExists (i, T).
-"""
 SIGNED = "unobservable\ntest unstated\nversion 2\nsplit 1\nabsent 0.0@0:T\nsplit ~2\nabsent 0.0@0:U\nabsent 0.0@0:U\nend\n"
 # fences, types, dependencies and stated values
 EACH = """Litmus "all".
@@ -130,11 +113,6 @@ The micro-ops of the test:
 Places are lines and columns of model.uspec.
 
 The axioms ask for no step: the empty run satisfies them.
-"""
-# page-table entries as addresses and values
-WALK = """StageName 0 "S".
-Axiom "walk": forall microops "i", forall microops "j",
-  EntryOf i j /\\ MapsTagOf i j => AddEdge ((i, S), (j, S), "walk").
 """
 WALKS = """Litmus2 "w".
 Microop 0 0 0 0 (Read (VA 3 0) (Entry 3) (Maps 7 1 0)).
@@ -211,11 +189,10 @@ Every branch is closed.
   0.0@5:S is there   axiom "far" at 2:1, i = 0.0
   0.0@5:S is not there   axiom "far" at 2:1, i = 0.0
 Every branch is closed.
-""", 'StageName 0 "S".\nAxiom "far": forall microops "i", NodeExists (i, (5, S)) /\\ ~NodeExists (i, (5, S)).\n',
-        "examples/two.test", part=BODY),
+""", ABSENT, "examples/two.test", part=BODY),
     Row("axioms that constants make false", """false: the constants of the axioms alone make them false for this test
 Every branch is closed.
-""", 'StageName 0 "S".\nAxiom "x": exists microop "i", False.\n', "examples/two.test", part=BODY),
+""", NEVER, "examples/two.test", part=BODY),
     Row("splits that leave one side", """axiom "Stages are in order" at 46:1, i = 0.0, j = 1.0, in macro Follow:
   split 94 at 41:4: 0.0@0:Decode before 1.0@0:Decode, since 0.0@0:Fetch before 1.0@0:Fetch
       "program order" by axiom "Fetch is in program order" at 35:1, i = 0.0, j = 1.0
@@ -448,8 +425,6 @@ cycle 5 9: no order has one
   1.0@0:S before 0.0@0:S   "rev" from axiom 1 with i = 0.0 and j = 1.0
 Every branch is closed.
 """
-UNWRITTEN = "pipecheck: standard output could not be written: what it got is not the whole answer\n"
-SPOILT = "examples/certificates/mp-spoilt.txt"
 REFUSED = "certificate refused at line 3\n"
 UNTAKEN = (
     ("a full device", "full", SB, UNWRITTEN),

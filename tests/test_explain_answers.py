@@ -6,7 +6,8 @@ from __future__ import annotations
 import re
 
 from tests.cases import Cases, Done, pipecheck, program, run, without_proofs, write
-from tests.test_explain import ONE, PLAIN, explained, odds, refutation_of_odds
+from tests.test_answers import ONE
+from tests.test_explain import PLAIN, explained, odds, refutation_of_odds
 
 SC, TSO, TUTORIAL = (f"examples/models/{name}.uspec" for name in ("sc-inorder", "tso-ooo", "tutorial"))
 LONG = (SC, "examples/tests/3.SB+fences.test", "examples/certificates/3.SB+fences.txt")
@@ -23,46 +24,28 @@ MOST_INDENT = 40
 # a micro-op, and the order of its stages S0, S1 and so on: each step of it is a choice, whose other side is closed by
 # one more split; all steps together are a cycle
 CHOICE = '(AddEdge ((i, S{0}), (i, S{1})) \\/ NodeExists (i, X{0})) /\\ (~NodeExists (i, X{0}) \\/ ~NodeExists (i, X{0}))'
-# two choices with the same sides
-SAID_OF_ODDS = """split 1: axiom "S is in some order" at 3:1, i = 0.0, j = 1.0
-left of split 1: 0.0@0:S before 1.0@0:S
-  split 5: axiom "T is in some order" at 5:1, i = 0.0, j = 1.0
-  left of split 5: 0.0@0:T before 1.0@0:T
+ORDERS = ("0.0@0:{0} before 1.0@0:{0}", "1.0@0:{0} before 0.0@0:{0}")
+
+
+def said_of_odds() -> str:
+    """What is said of a choice at S and one at T: on both sides of the first one the same of both sides of the second."""
+    said = 'split 1: axiom "S is in some order" at 3:1, i = 0.0, j = 1.0\n'
+    for side, (order, other), step in (("left", ORDERS, "split 9"), ("right", ORDERS[::-1], "split 14")):
+        at_s = order.format("S")
+        said += f'{side} of split 1: {at_s}\n  split 5: axiom "T is in some order" at 5:1, i = 0.0, j = 1.0\n'
+        for inner, at_t in (("left", ORDERS[0].format("T")), ("right", ORDERS[1].format("T"))):
+            said += f"""  {inner} of split 5: {at_t}
     axiom "no order at T" at 9:1, i = 0.0, j = 1.0, in macro KeepsTFree:
-      split 9 at 7:35: not 0.0@0:T before 1.0@0:T and not 1.0@0:T before 0.0@0:T, since
-          0.0@0:S before 1.0@0:S
-          left of split 1, axiom "S is in some order"
+      {step} at 7:35: not {order.format("T")} and not {other.format("T")}, since
+          {at_s}
+          {side} of split 1, axiom "S is in some order"
     path: this order is asked for and denied
-      0.0@0:T before 1.0@0:T   left of split 5, axiom "T is in some order"
-      not 0.0@0:T before 1.0@0:T   split 9, axiom "no order at T"
-  right of split 5: 1.0@0:T before 0.0@0:T
-    axiom "no order at T" at 9:1, i = 0.0, j = 1.0, in macro KeepsTFree:
-      split 9 at 7:35: not 0.0@0:T before 1.0@0:T and not 1.0@0:T before 0.0@0:T, since
-          0.0@0:S before 1.0@0:S
-          left of split 1, axiom "S is in some order"
-    path: this order is asked for and denied
-      1.0@0:T before 0.0@0:T   right of split 5, axiom "T is in some order"
-      not 1.0@0:T before 0.0@0:T   split 9, axiom "no order at T"
-right of split 1: 1.0@0:S before 0.0@0:S
-  split 5: axiom "T is in some order" at 5:1, i = 0.0, j = 1.0
-  left of split 5: 0.0@0:T before 1.0@0:T
-    axiom "no order at T" at 9:1, i = 0.0, j = 1.0, in macro KeepsTFree:
-      split 14 at 7:35: not 1.0@0:T before 0.0@0:T and not 0.0@0:T before 1.0@0:T, since
-          1.0@0:S before 0.0@0:S
-          right of split 1, axiom "S is in some order"
-    path: this order is asked for and denied
-      0.0@0:T before 1.0@0:T   left of split 5, axiom "T is in some order"
-      not 0.0@0:T before 1.0@0:T   split 14, axiom "no order at T"
-  right of split 5: 1.0@0:T before 0.0@0:T
-    axiom "no order at T" at 9:1, i = 0.0, j = 1.0, in macro KeepsTFree:
-      split 14 at 7:35: not 1.0@0:T before 0.0@0:T and not 0.0@0:T before 1.0@0:T, since
-          1.0@0:S before 0.0@0:S
-          right of split 1, axiom "S is in some order"
-    path: this order is asked for and denied
-      1.0@0:T before 0.0@0:T   right of split 5, axiom "T is in some order"
-      not 1.0@0:T before 0.0@0:T   split 14, axiom "no order at T"
-Every branch is closed.
+      {at_t}   {inner} of split 5, axiom "T is in some order"
+      not {at_t}   {step}, axiom "no order at T"
 """
+    return f"{said}Every branch is closed.\n"
+
+
 # a choice of three, of which each side closes at once, in the ways that a side may clash
 CLASHES = """StageName 0 "S".
 StageName 1 "T".
@@ -139,7 +122,7 @@ class Refutations(Cases):
 
     def test_sides(self) -> None:
         for name, model, certificate, wanted in (
-            ("both sides of a split that go on have a name", odds("ST"), refutation_of_odds((9, 14)), SAID_OF_ODDS),
+            ("both sides of a split that go on have a name", odds("ST"), refutation_of_odds((9, 14)), said_of_odds()),
             ("why a side cannot be", CLASHES, SPLIT_OF_CLASHES, SAID_OF_CLASHES),
         ):
             files = (write(f"{self.work}/model", model), FORBIDDEN, write(f"{self.work}/given", certificate))

@@ -115,8 +115,7 @@ class Installs(Cases):
 
     def does(self, name: str, status: int, out: str, err: str, words: Sequence[str | bytes], **how: Any) -> None:
         """A command that runs there ends with this status and writes these two texts."""
-        done = self.run_it(words, **how)
-        self.same(name, (done.status, done.out, done.err), (status, out, err))
+        self.same(name, self.run_it(words, **how), Done(status, out, err))
 
     def installs(self, name: str, prefix: str) -> None:
         """An install under this folder."""
@@ -165,12 +164,11 @@ class Installed(Installs):
         return self.run_it(words, {"PATH": f"{self.prefix}/bin:{self.plain}", **(env or {})}, cwd=self.work)
 
     def test_install(self) -> None:
-        with self.case("no program is installed without its proofs"):
-            self.assertEqual((self.without.status, self.without.out, self.without.err), (125, "", NO_TOOLCHAIN))
-        self.same("install", (self.done.status, self.done.out, self.done.err), (0, installed_under(self.prefix), ""))
-        with self.case("... for all to read"):
-            paths = [f"{place}/{it}" for place, folders, files in os.walk(self.prefix) for it in (*folders, *files)]
-            self.assertEqual([it for it in paths if not os.path.islink(it) and os.stat(it).st_mode & 0o444 != 0o444], [])
+        self.same("no program is installed without its proofs", self.without, Done(125, "", NO_TOOLCHAIN))
+        self.same("install", self.done, Done(0, installed_under(self.prefix), ""))
+        paths = [f"{place}/{it}" for place, folders, files in os.walk(self.prefix) for it in (*folders, *files)]
+        hidden = [it for it in paths if not os.path.islink(it) and os.stat(it).st_mode & 0o444 != 0o444]
+        self.same("... for all to read", hidden, [])
 
     def test_commands(self) -> None:
         for name, status, out, err, words in (
@@ -187,8 +185,7 @@ pipecheck: in-order.uspec is a model, and stands for the test: check MODEL TEST
             ("nothing to clean", 125, "", "pipecheck: an installed copy has nothing to clean\n", ("--clean",)),
             ("nothing to prove", 125, "", "pipecheck: an installed copy has nothing to prove\n", ("--prove",)),
         ):
-            done = self.answer("pipecheck", *words)
-            self.same(f"installed: {name}", (done.status, done.out, done.err), (status, out, err))
+            self.same(f"installed: {name}", self.answer("pipecheck", *words), Done(status, out, err))
         shutil.copy2(f"{self.tree}/examples/x86/SB.litmus", self.work)
         examples = f"{self.tree}/examples"
         for name, line, words in (
@@ -199,8 +196,7 @@ pipecheck: in-order.uspec is a model, and stands for the test: check MODEL TEST
             ("explain", '1.0@0:Mem before 2.0@1:Mem   "rf" by axiom "read"', ("explain", "in-order.uspec", "mp.test")),
             ("--version", f"^program sha256 {hash_of(program())}$", ("--version",)),
         ):
-            with self.case(f"installed: {name}"):
-                self.assertRegex(self.answer("pipecheck", *words).out, f"(?m){line}")
+            self.finds(f"installed: {name}", line, self.answer("pipecheck", *words).out)
         self.same("installed: of script/ what an installed copy calls", sorted(os.listdir(f"{self.tree}/script")), [
             "calls", "completion.bash", "completion.fish", "completion.zsh", "standing", "telling",
         ])
@@ -214,9 +210,8 @@ pipecheck: in-order.uspec is a model, and stands for the test: check MODEL TEST
         examples, user = f"{self.tree}/examples", f"{self.work}/user"
         model = f"{examples}/models/tutorial.uspec"
         done = self.answer("pipecheck-suite", model, env={"SUITE_TESTS": "tests", "SUITE_FOLDER": "kept"})
-        with self.case("installed: the suite"):
-            rows = [it for it in done.out.splitlines() if it.startswith(("test ", "mine "))]
-            self.assertEqual((done.status, rows), (0, ["test  tutorial", "mine  ok"]))
+        rows = [it for it in done.out.splitlines() if it.startswith(("test ", "mine "))]
+        self.same("installed: the suite", (done.status, rows), (0, ["test  tutorial", "mine  ok"]))
         self.answer("pipecheck-suite", model, env={"HOME": user, "XDG_CACHE_HOME": "", "SUITE_TESTS": "tests"})
         self.holds(
             "installed: where the suite keeps certificates",
@@ -224,8 +219,8 @@ pipecheck: in-order.uspec is a model, and stands for the test: check MODEL TEST
         )
         its = [f"{examples}/{it}" for it in ("models/tso-ooo.uspec", "tests/SB.test", "patterns/SB.pattern")]
         done = self.run_it([*tool("agree", self.tree), *its], cwd=self.work)
-        with self.case("installed: the machines of memory models, and the program sweeps"):
-            self.assertEqual((done.status, re.findall("swept by .*", done.out)), (0, ["swept by the program"]))
+        swept = done.status, re.findall("swept by .*", done.out)
+        self.same("installed: the machines of memory models, and the program sweeps", swept, (0, ["swept by the program"]))
         self.does(
             "installed: agree, on all small programs", 0,
             "tso-ooo.uspec: 6 programs\nswept by the program\n6 agree, 0 differ\n", "",
@@ -290,10 +285,9 @@ pipecheck: in-order.uspec is a model, and stands for the test: check MODEL TEST
         """They know each word of the languages."""
         for name in ("vim/syntax/uspec.vim", "textmate/uspec.tmLanguage.json"):
             text = read(f"{self.tree}/editors/{name}")
-            with self.case(f"installed: {name} has each word"):
-                # microops? stands for two words
-                words = sorted(RESERVED | PREDICATES.keys())
-                self.assertEqual([it for it in words if not re.search(rf"\b{it}\b|\b{it.removesuffix('s')}s\?", text)], [])
+            # microops? stands for two words
+            lacking = [it for it in RESERVED | PREDICATES.keys() if not re.search(rf"\b{it}\b|\b{it.removesuffix('s')}s\?", text)]
+            self.same(f"installed: {name} has each word", lacking, [])
         for name in sorted(os.listdir(f"{self.tree}/editors/textmate")):
             if name.endswith(".json"):
                 with self.case(f"installed: {name} is JSON"):
@@ -317,8 +311,8 @@ class Refusals(Installs):
         left = f"install: {suite} is not of an installation: it is left as it is\n"
         self.does("a command that was replaced", 1, "", left, ["./install", prefix])
         self.takes_away("uninstall", prefix, left)
-        with self.case("... takes all of it away, and nothing else"):
-            self.assertEqual([it[0] for it in state(prefix)], ["bin", "bin/pipecheck-suite", "share", "share/mine"])
+        left_there = ["bin", "bin/pipecheck-suite", "share", "share/mine"]
+        self.same("... takes all of it away, and nothing else", [it[0] for it in state(prefix)], left_there)
         for name, folder in (("nothing to uninstall", prefix), ("nothing to uninstall where no folder is", none)):
             self.does(name, 1, "", f"install: nothing is installed under {folder}\n", ["./install", "--uninstall", folder])
 
@@ -330,7 +324,7 @@ class Refusals(Installs):
         else:
             installer.TOP = self.top
             done = call(lambda: installer.main("judge", prefix), ["installer.py"])
-        self.same(name, (done.status, done.out, done.err), (1, "", f"install: {said}\n"))
+        self.same(name, done, Done(1, "", f"install: {said}\n"))
         self.holds("... and nothing is changed", before == state(self.work))
 
     @contextlib.contextmanager
@@ -430,16 +424,16 @@ class Folders(Installs):
             self.does("... whose command answers", 1, VERDICT, "", [f"{prefix}/bin/pipecheck", "check", *MP])
             for shell in SHELLS:
                 if shutil.which(shell):
-                    with self.case("... and completes" if shell == "bash" else f"... by {shell}"):
-                        self.assertEqual(completed(shell, prefix, self.work, ["pipecheck sw"]), ["sweep"])
+                    completes = "... and completes" if shell == "bash" else f"... by {shell}"
+                    self.same(completes, completed(shell, prefix, self.work, ["pipecheck sw"]), ["sweep"])
             self.takes_away("... is taken away", prefix)
             with self.case("... all of it"):
                 os.rmdir(f"{self.work}/odd")
 
     def test_folders_on_the_way(self) -> None:
         done = self.run_it([f"{self.top}/install", "./-way/to"], cwd=self.work)
-        with self.case("a folder that is named from here, with folders on the way"):
-            self.assertEqual((done.status, done.out, done.err), (0, installed_under(f"{self.work}/-way/to"), ""))
+        said = Done(0, installed_under(f"{self.work}/-way/to"), "")
+        self.same("a folder that is named from here, with folders on the way", done, said)
         self.holds("... is taken away", self.run_it(["./install", "--uninstall", f"{self.work}/-way/to"]).status == 0)
         self.holds("... with the folders on the way", os.listdir(self.work) == [])
         deep, moved = f"{self.work}/deep/er/prefix", f"{self.work}/moved/prefix"

@@ -18,7 +18,7 @@ from contextlib import suppress
 from itertools import count
 from typing import Callable, NamedTuple, Sequence
 
-from tests.cases import Cases
+from tests.cases import Cases, write
 
 # where these stand tests.cases says
 from tools.install import installer
@@ -62,24 +62,18 @@ class Room(NamedTuple):
         """The prefix that is installed under."""
         return os.path.join(self.around, self.name)
 
-    def program(self, version: str) -> str:
-        """The program of a version."""
-        return os.path.join(self.path, version, "program")
-
     def make(self, version: str) -> None:
         """Makes the checkout of a version. A later one has a file more and one less."""
         files = {**FILES, "program": "#!/bin/sh\n", f"docs/{version}.md": "page\n"}
         for name, text in files.items():
             path = os.path.join(self.path, version, name)
             os.makedirs(os.path.dirname(path), exist_ok=True)
-            with open(path, "w", encoding="ascii") as file:
-                file.write(f"{text}# {version}\n")
-            os.chmod(path, 0o755 if text.startswith("#!") else 0o644)
+            os.chmod(write(path, f"{text}# {version}\n"), 0o755 if text.startswith("#!") else 0o644)
 
     def install(self, version: str) -> None:
         """An install or update from the checkout of a version."""
         installer.TOP = os.path.join(self.path, version)
-        installer.Installation(self.prefix).install(self.program(version), f"version {version}")
+        installer.Installation(self.prefix).install(f"{installer.TOP}/program", f"version {version}")
 
     def uninstall(self) -> None:
         """An uninstall; that there is nothing is no fault."""
@@ -96,15 +90,14 @@ class Room(NamedTuple):
             os.makedirs(os.path.join(self.prefix, folder), exist_ok=True)
         for name in ("README.md", "commands.txt", "docs", "editors", "examples", "pipecheck", "tools"):
             installer.copy(os.path.join(self.path, "1", name), os.path.join(tree, name))
-        installer.copy(self.program("1"), os.path.join(tree, "pipecheck_cli"))
+        installer.copy(os.path.join(self.path, "1", "program"), os.path.join(tree, "pipecheck_cli"))
         os.symlink("../lib/pipecheck/pipecheck", os.path.join(self.prefix, "bin", "pipecheck"))
         os.symlink("../lib/pipecheck/examples/suite", os.path.join(self.prefix, "bin", "pipecheck-suite"))
         for name, begin in FORMER.items():
-            with open(os.path.join(self.prefix, name), "wb") as file:
-                file.write(begin + b"\n")
+            write(os.path.join(self.prefix, name), begin + b"\n")
         lines = [f"file {name}" for name in ("bin/pipecheck", "bin/pipecheck-suite", *FORMER)] + ["tree lib/pipecheck"]
-        with open(os.path.join(tree, "installed"), "w", encoding="ascii") as file:
-            file.write("\n".join(lines + [f"folder {self.prefix}/{name}" for name in reversed(made)]) + "\n")
+        lines += [f"folder {self.prefix}/{name}" for name in reversed(made)]
+        write(os.path.join(tree, "installed"), "".join(f"{it}\n" for it in lines))
 
 
 def texts(folder: str) -> Texts:
@@ -126,22 +119,11 @@ def texts(folder: str) -> Texts:
     return found
 
 
-def tree_of(command: str) -> str:
-    """The folder of the tree that a command is of."""
-    file = LINKS[f"bin/{os.path.basename(command)}"]
-    return os.path.realpath(command).removesuffix(f"/{file}")
-
-
-def texts_of(tree: str) -> Texts:
-    """What a tree has, without its list."""
-    return {name: text for name, text in texts(tree).items() if not name.startswith("installed")}
-
-
 def commands(room: Room) -> list[Texts]:
-    """The trees of the commands that are there."""
-    paths = [os.path.join(room.prefix, "bin", name) for name in ("pipecheck", "pipecheck-suite")]
-    trees = [tree_of(path) for path in paths if os.path.exists(path)]
-    found = {tree: texts_of(tree) for tree in set(trees)}
+    """What the trees of the commands that are there have, without their lists."""
+    names = [name for name in ("bin/pipecheck", "bin/pipecheck-suite") if os.path.exists(f"{room.prefix}/{name}")]
+    trees = [os.path.realpath(f"{room.prefix}/{name}").removesuffix(f"/{LINKS[name]}") for name in names]
+    found = {tree: {name: text for name, text in texts(tree).items() if not name.startswith("installed")} for tree in set(trees)}
     return [found[tree] for tree in trees]
 
 
@@ -238,8 +220,7 @@ def prepare(room: Room, case: Case) -> Texts:
     if not case.is_alone:
         for name in ("bin/mine", "share/man/man1/mine.1", "lib/mine/file"):
             os.makedirs(os.path.dirname(os.path.join(room.prefix, name)), exist_ok=True)
-            with open(os.path.join(room.prefix, name), "w", encoding="ascii") as file:
-                file.write("mine\n")
+            write(os.path.join(room.prefix, name), "mine\n")
     own = texts(room.around)
     if case.before == "installed":
         room.install("1")
@@ -259,8 +240,7 @@ def put(found: Texts, folder: str) -> None:
         elif text.startswith("-> "):
             os.symlink(text[3:], path)
         else:
-            with open(path, "w", encoding="ascii") as file:
-                file.write(text)
+            write(path, text)
 
 
 def run_case(room: Room, case: Case, new: Texts) -> int:
@@ -357,7 +337,7 @@ class InARoom(Cases):
             cls.room.make(version)
         prepare(cls.room, CASES[0])
         cls.room.install("2")
-        cls.new = texts_of(tree_of(os.path.join(cls.room.prefix, "bin", "pipecheck")))
+        cls.new = commands(cls.room)[0]
 
     def walk(self, name: str, cases: Sequence[Case], run_one: Callable[[Room, Case, Texts], int], least: int) -> None:
         """Each of these cases, of which each has at least so many changes."""

@@ -16,6 +16,7 @@ from typing import Any, Callable, Iterable, Sequence
 from tests.cases import (
     TOP, Cases, Done, call, commands_without, pipecheck, program, read, replaced, run, without_output, without_proofs, write
 )
+from tests.test_answers import UNWRITTEN
 
 from tools.lint import main as lint
 from tools.lint import idle as linting_idle
@@ -160,6 +161,17 @@ NODES = [
         model=LINE + HIT + 'Axiom "a": forall microops "l", NodeExists (l, Line) => ~NodeExists (l, (5, @T)).',
         lines=["M@2: two-places: (l, (5, T)) here, and (i, T) in 3 places: where the core is another, these are two nodes"]),
 ]
+# what the first axioms give, so that those on two writes need not be looked at
+GIVEN = """StageName 3 "Memory".
+Axiom "drain": forall microops "w", IsAnyWrite w => AddEdge ((w, T), (w, (0, Memory))).
+DefineMacro "Behind" "v" "w": IsAnyWrite v /\\ IsAnyWrite w /\\ ProgramOrder v w.
+Axiom "queue": forall microops "v", forall microops "w",
+  ExpandMacro Behind v w => AddEdge ((v, (0, Memory)), (w, (0, Memory))).
+"""
+LOOKED_AT = Row("free-node: a node in a test of 64 micro-ops, by a few steps for each",
+    [f"M@1: free-node: no axiom gives stage Line to the write 0.0 of T, {FREE}, and 63 more of them"], LINE + GIVEN + HIT,
+    (ops(*(f"{k} 0 0 0 (Write (VA 0 0) (PA 0 0) (Data {k + 1}))" for k in range(63)),
+         "63 0 0 0 (Read (VA 0 0) (PA 0 0) (Data 0))"),))
 BOUND = "is bound again, so that the body does not see the one further outside"
 NAMES = [
     Row("unused-stage: a stage that no axiom names", ["M@1: unused-stage: no axiom names stage Line"], 'StageName 2 @"Line".',
@@ -176,13 +188,10 @@ NAMES = [
         model='DefineMacro "Pass": NodeExists (i, S).\nAxiom "x": forall microops "i", ExpandMacro Pass.'),
     Row("shadowed: a parameter and a name", [f"M@1: shadowed: a {BOUND}", f"M@2: shadowed: i {BOUND}"],
         'DefineMacro "P" "a": (@forall microops "a", NodeExists (a, S)) /\\ NodeExists (a, S).\n'
-        'Axiom "x": forall microops "i", (@forall microops "i", ExpandMacro P i) /\\ NodeExists (i, S).'),
+        'Axiom "x": forall microops "i", (@forall microops "i", ExpandMacro P i) /\\ NodeExists (i, S).', meant="a i"),
     Row("shadowed: a macro's own name hides nothing of where it is expanded",
         model='DefineMacro "P" "a": forall microops "b", NodesExist [(a, S); (b, S)].\n'
         'Axiom "x": forall microops "b", ExpandMacro P b.'),
-    Row("shadowed: one that is meant",
-        model='Axiom "x": forall microops "i", (forall microops "i", NodeExists (i, S)) /\\ NodeExists (i, S).\n'
-        "% Lint allows: shadowed i"),
 ]
 TWO = "where the core is another, these are two nodes"
 PLACES = [
@@ -240,6 +249,7 @@ EDGES = [
         last('~exists microop "v", IsAnyRead v /\\ @EdgesExist [((w, T), (v, T)); ((v, T), (r, S))]')),
     Row("no-order: that no write comes before has no test", [f"M@1: {NO_ORDER}"],
         last('~exists microop "v", IsAnyWrite v /\\ @EdgesExist [((v, T), (w, T)); ((v, T), (r, S))]')),
+    Row("no-order: a list without an edge", model='Axiom "x": forall microops "i", EdgesExist [] => NodeExists (i, T).'),
 ]
 SYNC = "(Fence SYNC)"
 COUNTS = [
@@ -559,6 +569,10 @@ class Slips(Cases):
             if self.is_wanted(row.name):
                 self.judge_row(row, RIGHT)
 
+    def test_what_is_given(self) -> None:
+        with replaced(linting_nodes, "STEPS", 2_000):
+            self.judge_row(LOOKED_AT, RIGHT)
+
     def judge_row(self, row: Row, base: str) -> None:
         texts = {"M": f"{base}{row.model}\n", **dict(zip("TU", row.tests)), **({"Q.query": row.query} if row.query else {})}
         places = {}
@@ -639,7 +653,6 @@ FORBIDDEN = (
     ("a shipped test that forbids what tso allows", "", "models/tso-ooo", None),
     ("a bug that its memory model forbids", "", "buggy/tutorial-early", MP_OF_OWN),
 )
-UNWRITTEN = "pipecheck: standard output could not be written: what it got is not the whole answer\n"
 # standard output that takes nothing
 UNTAKEN = (
     ("a full device", "full", ["good.uspec", "slip.test"], UNWRITTEN),

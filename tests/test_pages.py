@@ -6,6 +6,7 @@ the text of the next block.
 """
 from __future__ import annotations
 
+import glob
 import os
 import re
 import textwrap
@@ -24,6 +25,8 @@ PAGES = ["README.md", *(f"docs/{it}.md" for it in (
 ))]
 ANY = {"...\n": "(?:.*\n)*", "in N s": r"in \d+ s", "certificates: ...\n": "certificates: .*\n"}
 PART = re.compile("(^\\.\\.\\.\n|in N s|^certificates: \\.\\.\\.\n)", re.M)
+# a row after a line that is none, with no rule under it
+CUT_TABLE = re.compile(r"(?<!\|\n)^\|.*\n(?!\|[-:| ]+\|$)", re.M)
 TO_WRITE = re.compile(r"into a\s+file `([^`]+)`")
 
 
@@ -77,6 +80,11 @@ def shown_by(page: str, folder: str, top: str = TOP) -> list[Shown]:
 
 class Pages(Cases):
     """In a folder that has the program, the examples and the tests."""
+
+    def test_tables(self) -> None:
+        for page in sorted(glob.glob(f"{TOP}/*.md") + glob.glob(f"{TOP}/docs/*.md")):
+            with self.case(f"no line cuts a table of {os.path.relpath(page, TOP)} in two"):
+                self.assertEqual([], CUT_TABLE.findall(read(page)))
 
     def test_pages(self) -> None:
         os.symlink(pipecheck(), f"{self.work}/pipecheck")

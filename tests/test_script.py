@@ -6,18 +6,16 @@ import re
 import resource
 import shutil
 import tempfile
-import time
 from typing import Any, Mapping
 
 from tests.cases import (
-    NO_TOOLCHAIN, TOP, Cases, Done, as_proved, at_once, command, command_forms, commands_without, copy_checkout, files_below,
-    forms_of, hash_of, program, read, run, unread, within, write
+    NO_TOOLCHAIN, TOP, Cases, Done, as_proved, command, command_forms, commands_without, copy_checkout, files_below, forms_of,
+    hash_of, program, read, run, unread, within, write
 )
 
 MP = ("examples/in-order.uspec", "examples/mp.test")
 CHECK = ("check", *MP)
 VERDICT = "unobservable\ntest forbidden: ok\ncycle 0.0@0:Mem 1.0@0:Mem 2.0@1:Mem 3.0@1:Mem\nend\n"
-BEGINS = "pipecheck: proving and building N crates, once; the first time 12 to 35 minutes on four processors\n"
 MEMORY = "pipecheck: memory was refused, so there is no answer\n"
 UNWRITTEN = "pipecheck: standard output could not be written: what it got is not the whole answer\n"
 AXIOM = 'Axiom "a": forall microop "i", forall microop "j", ProgramOrder i j => AddEdge ((i, S), (j, S), "").\n'
@@ -26,11 +24,9 @@ OUT = "crates/pipecheck_cli/out"
 
 
 class InACopy(Cases):
-    """Cases in a copy of the checkout without what was built, where the proved program alone answers, as if it were of fewer crates,
-    which are read at each call."""
+    """Cases in a copy of the checkout without what was built, where the proved program alone answers, as if it were of fewer
+    crates, which are read at each call."""
 
-    # those that cases change
-    crates: tuple[str, ...] = ()
     room: str
     copy: str
     plain: str
@@ -39,7 +35,7 @@ class InACopy(Cases):
     def setUpClass(cls) -> None:
         cls.room = tempfile.mkdtemp(prefix="pipecheck-tests-")
         cls.addClassCleanup(shutil.rmtree, cls.room, ignore_errors=True)
-        cls.copy = copy_checkout(f"{cls.room}/copy", ("tests", "tools"), cls.crates)
+        cls.copy = copy_checkout(f"{cls.room}/copy", ("tests", "tools"))
         write(f"{cls.copy}/crates.txt", "pc_common:\nsolver: pc_common\nmodel_bench: pc_common\npipecheck_cli: pc_common solver\n")
         cls.plain = commands_without(f"{cls.room}/plain", "rt")
 
@@ -76,57 +72,7 @@ class NotBuilt(InACopy):
             self.answers(" ".join(form), form, 0, forms_of("explain"))
         done = self.call_it("help", "agree")
         self.same("help agree", (done.status, "".join(done.out.splitlines(True)[:3]), done.err), (0, forms_of("agree"), ""))
-        with self.case("... has the options too"):
-            self.assertIn("--between MODEL MODEL", done.out)
-
-    def test_a_build(self) -> None:
-        """A toolchain that proves nothing and puts the built program in its place: what the script says of a build. Each check of
-        the libraries is a line in `checks`. Where `unproved` is, that check fails."""
-        tools, checks, unproved, room = (f"{self.work}/{it}" for it in ("tools", "checks", "unproved", "room"))
-        os.mkdir(room)
-        command(f"{tools}/rt", f"""case "$1 $2" in
-'--version ') echo 'a kit logic 0123456789abcdef' ;;
-'ci ')
-    if grep -q '^pipecheck_cli' crates.txt; then
-        mkdir -p {OUT} && cp '{program()}' {OUT}/pipecheck_cli
-        exit
-    fi
-    echo check >>'{checks}'
-    sleep 1
-    [ ! -e '{unproved}' ] || {{ echo 'a clause is not met' && echo 'pc_common: proved' && exit 1; }}
-    ;;
-esac
-""")
-        env = {"PATH": f"{tools}:{self.plain}", "TMPDIR": room}
-
-        def built(name: str, status: int, out: str, err: str, *words: str) -> None:
-            """The script with that toolchain says this, but for numbers, times and the place of the copy."""
-            done = self.call_it(*words, env=env)
-            said = re.sub(r"[0-9]+ crates", "N crates", done.err)
-            said = re.sub(r"[0-9]+:[0-9]{2}$", "TIME", said, flags=re.M).replace(self.copy, "TOP")
-            self.judge(name, Done(done.status, done.out, said), status, out, err)
-
-        built("--version builds nothing", 0, "commit unknown\nlogic 0123456789abcdef\nprogram not built\n", "", "--version")
-        write(unproved, "")
-        built(
-            "a build that fails", 125, "",
-            f"{BEGINS}a clause is not met\npipecheck: the program could not be built: all that rt printed stands in "
-            f"TOP/{OUT}/pipecheck_build.log\n", *CHECK,
-        )
-        with self.case("... leaves no program"):
-            self.assertFalse(os.path.exists(f"{self.copy}/{OUT}/pipecheck_cli"))
-        self.same("... and no copy", os.listdir(room), [])
-        os.remove(unproved)
-        built(
-            "a build is told at its start and its end", 1, VERDICT, f"{BEGINS}pipecheck: proved and built after TIME\n", *CHECK
-        )
-        built("... and is not made again", 1, VERDICT, "", *CHECK)
-        os.remove(f"{self.copy}/{OUT}/pipecheck_cli")
-        os.remove(checks)
-        at_once(3, lambda: self.call_it(*CHECK, env=env))
-        self.same("three calls at once build once", read(checks), "check\n")
-        self.same("a build leaves no copy", os.listdir(room), [])
-        shutil.rmtree(f"{self.copy}/{OUT}")
+        self.finds("... has the options too", "--between MODEL MODEL", done.out)
 
     def test_the_commit(self) -> None:
         done = run(["git", "rev-parse", "HEAD"])
@@ -136,9 +82,8 @@ esac
         tools = f"{self.work}/tools"
         command(f"{tools}/rt", "echo 'a kit logic 0123456789abcdef'\n")
         said = run(["./pipecheck", "--version"], env={"PATH": f"{tools}:{self.plain}", "PIPECHECK_PROVED": "yes"})
-        with self.case("--version names the commit"):
-            self.assertEqual(said.out.splitlines()[0].removesuffix(", changed since"), f"commit {done.out.rstrip()}")
-            self.assertEqual(said.err, "")
+        found = said.out.partition("\n")[0].removesuffix(", changed since")
+        self.same("--version names the commit", (found, said.err), (f"commit {done.out.rstrip()}", ""))
 
     def test_the_script_alone(self) -> None:
         alone = f"{self.work}/alone"
@@ -161,56 +106,19 @@ esac
 class Built(InACopy):
     """A copy where the program that is tested stands as the proved one."""
 
-    crates = ("pc_common", "model_bench")
-
     def setUp(self) -> None:
         super().setUp()
         shutil.rmtree(f"{self.copy}/{OUT}", ignore_errors=True)
         as_proved(self.copy, program())
-
-    def stands(self, name: str) -> None:
-        """The program stands for the sources."""
-        self.answers(name, CHECK, 1, VERDICT)
-
-    def is_lacking(self, name: str, **how: Any) -> None:
-        """No program stands for the sources."""
-        self.answers(name, CHECK, 125, "", NO_TOOLCHAIN, **how)
-
-    def test_which_sources_are_others(self) -> None:
-        for place, _, names in os.walk(self.copy):
-            for it in names:
-                os.utime(f"{place}/{it}", follow_symlinks=False)
-        before = time.time() - 3600
-        os.utime(f"{self.copy}/{OUT}/pipecheck_built", (before, before))
-        self.stands("a copy with new times is not built again")
-        for name in ("find", "awk"):
-            folder = f"{self.work}/without.{name}"
-            command(f"{folder}/{name}", "exit 1\n")
-            self.is_lacking(f"where {name} fails nothing counts as built", env={"PATH": f"{folder}:{self.plain}"})
-        library = f"{self.copy}/crates/pc_common/src/lib.rt"
-        was = read(library)
-        write(library, f"{was}\n")
-        self.is_lacking("a changed source is built again")
-        write(library, was)
-        self.stands("a source that is as it was is not")
-        more = write(f"{self.copy}/crates/pc_common/src/more.rt", "fn more() {}\n")
-        self.is_lacking("a new source is built")
-        os.remove(more)
-        other = f"{self.copy}/crates/model_bench/src/main.rt"
-        write(other, read(other) + "\n")
-        self.stands("a changed source of another program is not")
 
     def test_clean(self) -> None:
         for it in ("pc_common/out/lib.rlib", "pc_common/out/incremental/kept", "solver/out/x", "pipecheck_cli/out/pipecheck_cli.o"):
             os.makedirs(os.path.dirname(f"{self.copy}/crates/{it}"), exist_ok=True)
             write(f"{self.copy}/crates/{it}", "")
         self.judge("--clean", self.call_it("--clean"))
-        with self.case("... leaves the program"):
-            self.assertEqual(
-                [it for it in files_below(f"{self.copy}/crates") if "/out/" in it],
-                [f"pipecheck_cli/out/{it}" for it in ("pipecheck_built", "pipecheck_cli", "pipecheck_lock", "unproved_lock")],
-            )
-        self.stands("... which is called as before")
+        left = [f"pipecheck_cli/out/{it}" for it in ("pipecheck_built", "pipecheck_cli", "pipecheck_lock", "unproved_lock")]
+        self.same("... leaves the program", [it for it in files_below(f"{self.copy}/crates") if "/out/" in it], left)
+        self.answers("... which is called as before", CHECK, 1, VERDICT)
         command(f"{self.work}/tools/rt", "echo 'a kit logic 0123456789abcdef'\n")
         self.answers(
             "--version names the program", ("--version",), 0,

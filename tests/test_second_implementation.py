@@ -17,11 +17,12 @@ from tests.cases import TOP, Cases, read, run, write
 from tools.second.main import Refused, judged
 from tools.second.main import run as answer
 from tools.second.answering import Branch
-from tools.second.cases import Case, read_case
+from tools.second.cases import read_case
 from tools.second.listings import read_listing
 from tools.second.positions import Positions
 from tools.second.predicates import PREDICATES
 from tools.second.scopes import read_model
+from tools.texts.writing_tests import without_names
 
 ONE = 'Litmus "o".; Microop 0 0 0 0 (Write (VA 0 0) (PA 0 0) (Data 1)).'
 STAGES = 'StageName 0 "S".\nStageName 1 "T".\nStageName 2 "U".\n'
@@ -239,7 +240,6 @@ ZEROS, NINES = "0" * 5_000, "9" * 5_000
 
 
 def marked(marks: str) -> str:
-    """The read, with these marks."""
     return READ.replace("1 0))", f"{marks}))")
 
 
@@ -458,22 +458,10 @@ def shipped_lifted(name: str, number: int, lines: str | None) -> str:
     return said("verify-lifted", model, test, "\n".join(text))
 
 
-def told(case: Case) -> str:
-    """What a case says, its addresses by their numbers."""
-    ops = [(it.g, it.n, it.core, it.thread, it.access, *sorted(it.types), *page(it.va), *page(it.pa), it.value) for it in case.ops]
-    states = [[(*page(address), value) for address, value in known.items()] for known in (case.initial, case.final)]
-    return f"{ops} {states} {case.expectation}"
-
-
-def page(address: object) -> tuple[object, ...]:
-    """The numbers of an address; none where there is none."""
-    return () if address is None else (getattr(address, "tag"), getattr(address, "index"))
-
-
 def told_listing(text: str) -> str:
-    """What the case of a listing says, or its refusal."""
+    """What the case of a listing says, its addresses by their numbers, or its refusal."""
     try:
-        return told(judged("test", read_listing, text.encode("ascii")))
+        return str(without_names(judged("test", read_listing, text.encode("ascii"))))
     except Refused as fault:
         return str(fault)
 
@@ -564,7 +552,7 @@ class Second(Cases):
             self.tells(lambda it, of=PREDICATES[name][1]: str(of(case, *map(int, it.split()))), rows)
 
     def test_listings(self) -> None:
-        same = told(read_case(SAME.encode("ascii")))
+        same = str(without_names(read_case(SAME.encode("ascii"))))
         many = LISTING.replace(" MFENCE ", 59 * " MFENCE | ;\n" + " MFENCE ")
         self.tells(told_listing, [
             ("a listing says what a test says", LISTING, same),

@@ -25,13 +25,13 @@ from tests.cases import (
     PATIENCE, TOP, Done, apart, call, comes, files_below, program, read, replaced, signal_unseen, text_of, tool, within,
     without_output, write
 )
-from tests.suite_cases import CORR, EARLY, GOOD, MP, NO_FAULTS, SB, SC, TUTORIAL, SuiteCases, no_lint, of_suite
+from tests.suite_cases import CORR, EARLY, GOOD, MP, SB, SC, TUTORIAL, SuiteCases, no_lint, of_suite, tabled
 
 from tools.ending import SIGNALS as RECEIVED, Interrupted
 from tools.texts.memory_models import memory_model_of
 from tools.texts.quoting import quoted
 from tools.suite import kept
-from tools.suite.beside import Lint
+from tools.suite.beside import lint_lines
 from tools.suite.calling import Calls, side_by_side
 from tools.suite.files import File, model_file, test_file
 from tools.suite.keeping import Folder, State, write_anew
@@ -41,16 +41,9 @@ from tools.suite.refusing import Refusal
 from tools.suite.tables import table_of_models
 
 PATTERN = "examples/patterns/MP.pattern"
-BAD_PATTERN = f"""\
-test        tutorial-early
-MP.pattern  BUG
-{PATTERN}: tutorial-early: shown though tso does not allow it: 1 0
-1 pairs: 0 ok, 1 BUG, {NO_FAULTS}"""
-BAD_PAIR = f"""\
-test  tutorial-early
-MP    BUG
-SB    ok
-2 pairs: 1 ok, 1 BUG, {NO_FAULTS}"""
+BAD_ROW = f"{PATTERN}: tutorial-early: shown though tso does not allow it: 1 0"
+BAD_PATTERN = tabled("tutorial-early", "MP.pattern BUG", "1 BUG", BAD_ROW)
+BAD_PAIR = tabled("tutorial-early", "MP BUG, SB ok", "1 ok, 1 BUG")
 # those that end a process without a fault of its own
 SIGNALS = (
     signal.SIGTERM, signal.SIGHUP, signal.SIGINT, signal.SIGQUIT, signal.SIGUSR1, signal.SIGUSR2, signal.SIGALRM,
@@ -159,13 +152,10 @@ class Checkers(SuiteCases):
         return self.script("liar", f'case $1 in "") exit 2 ;; check) {checks} ;; verify) {verifies} ;; esac')
 
     def test_liars(self) -> None:
-        said = "echo unobservable; echo test forbidden: ok; exit 1"
+        said, judged = "echo unobservable; echo test forbidden: ok; exit 1", "echo verified unobservable; exit 1"
         for name, checks, verifies, cell in (
-            ("a status without its verdict", "exit 1", "echo verified unobservable; exit 1", "status:1"),
-            (
-                "a status with another verdict", "echo observable; echo test forbidden: BUG; exit 1",
-                "echo verified unobservable; exit 1", "status:1",
-            ),
+            ("a status without its verdict", "exit 1", judged, "status:1"),
+            ("a status with another verdict", "echo observable; echo test forbidden: BUG; exit 1", judged, "status:1"),
             ("a judge that is late", said, "sleep 600", "time"),
             ("a checker that is late", "sleep 600", "exit 1", "time"),
             ("a judge without its line", said, "exit 1", "certificate"),
@@ -173,24 +163,18 @@ class Checkers(SuiteCases):
             ("a checker that a signal ends", "kill -9 $$", "exit 1", "status:137"),
             ("a judge that a signal ends", said, "kill -9 $$", "certificate"),
         ):
-            self.table(name, 2, f"""\
-test  sc-inorder
-MP    {cell}
-SB    {cell}
-2 pairs: 0 ok, 0 BUG, 0 stricter, {"2 time, 0 faults" if cell == "time" else "0 time, 2 faults"}, in N s
-""", SC, PIPECHECK=self.liar(checks, verifies), **({"SUITE_SECONDS": "10"} if "late" in name else {}))
-        leaving = self.liar(f"sleep 600 & {said}", "sleep 600 & echo verified unobservable; exit 1")
+            text = tabled("sc-inorder", f"MP {cell}, SB {cell}", "2 time" if cell == "time" else "2 faults")
+            limit = {"SUITE_SECONDS": "10"} if "late" in name else {}
+            self.table(name, 2, text, SC, PIPECHECK=self.liar(checks, verifies), **limit)
+        leaving = self.liar(f"sleep 600 & {said}", f"sleep 600 & {judged}")
         self.table("a checker that leaves something running", 0, GOOD, SC, PIPECHECK=leaving)
 
     def test_memory(self) -> None:
         self.lint_lines = no_lint
         axiom = 'Axiom "a": forall microop "i", forall microop "j", ProgramOrder i j => AddEdge ((i, S), (j, S), "").\n'
         self.put("many.uspec", '% Memory model: tso\nStageName 0 "S".\n' + 3_000 * axiom)
-        self.table("a check under the limit of memory", 2, """\
-test  many
-two   status:7
-1 pairs: 0 ok, 0 BUG, 0 stricter, 0 time, 1 faults, in N s
-""", "WORK/many.uspec", "examples/two.test", PIPECHECK_MEMORY="6")
+        self.table("a check under the limit of memory", 2, tabled("many", "two status:7", "1 faults"), "WORK/many.uspec",
+                   "examples/two.test", PIPECHECK_MEMORY="6")
         said = "PIPECHECK_MEMORY is 1 MiB, and the program takes more to start"
         self.refuses("a limit of memory that the program cannot start in", said, SC, PIPECHECK_MEMORY="1")
         said = "pipecheck: PIPECHECK_MEMORY is a number of MiB, or none, and not much\n"
@@ -202,11 +186,8 @@ two   status:7
         nodes = "".join(f"(i, S{k});" for k in range(32))
         self.put("nodes.uspec", f'% Memory model: tso\n{stages}Axiom "n": forall microops "i", NodesExist [{nodes}].\n')
         limited = within(resource.RLIMIT_FSIZE, 1024)
-        self.writes("a limit of the size of files", self.started("WORK/nodes.uspec", "WORK/four.test", preexec_fn=limited), 2, """\
-test  nodes
-four  status:5
-1 pairs: 0 ok, 0 BUG, 0 stricter, 0 time, 1 faults, in N s
-""")
+        self.writes("a limit of the size of files", self.started("WORK/nodes.uspec", "WORK/four.test", preexec_fn=limited), 2,
+                    tabled("nodes", "four status:5", "1 faults"))
         os.mkdir(f"{self.work}/temporary")
         done = self.started(EARLY, "WORK/four.test", preexec_fn=limited, env={"TMPDIR": "WORK/temporary"})
         self.judge(
@@ -231,11 +212,8 @@ four  status:5
 }}
 exec "{program()}" "$@\"""")
         done = self.called("WORK/replaced", EARLY, "WORK/replaced/mine.uspec", PIPECHECK=replacing, SUITE_JOBS="1")
-        self.writes("files that are replaced or taken away are judged by what they were", done, 1, f"""\
-test  tutorial-early  mine
-CoRR  BUG             BUG
-MP    BUG             BUG
-4 pairs: 0 ok, 4 BUG, {NO_FAULTS}""")
+        self.writes("files that are replaced or taken away are judged by what they were", done, 1,
+                    tabled("tutorial-early mine", "CoRR BUG BUG, MP BUG BUG", "4 BUG"))
         self.copy_suite()
         self.two_programs()
         self.table("a program that is replaced while the suite runs", 1, BAD_PAIR, EARLY, SUITE_JOBS="1")
@@ -268,7 +246,7 @@ check) echo unobservable; echo test forbidden: ok ;;
 verify) echo verified unobservable ;;
 esac
 exit 1""")
-        self.lint_lines = Lint.lines
+        self.lint_lines = lint_lines
         for name, word in (
             ("a b", r"a\ b"), ("a\nb", r"$'a\nb'"), ("a&b", r"a\&b"), ("a\\b", r"a\\b"), ("a'b", r"a\'b"), ('a"b', r"a\"b"),
             ("a;b", r"a\;b"), ("a*", r"a\*"),
@@ -290,12 +268,10 @@ class Machines(SuiteCases):
         ))
         liar = self.script("liar", """\
 case $1 in "") exit 2 ;; check) echo observable; echo test unstated ;; verify) echo verified observable ;; esac""")
-        self.table("a machine that is late", 0, """\
-test   sc-inorder
-large  observable
-not compared with a machine within the limit of time: 1 test, the first WORK/large.test
-1 pairs: 0 ok, 0 BUG, 0 stricter, 1 unstated, 0 time, 0 faults, in N s
-""", SC, "WORK/large.test", PIPECHECK=liar, SUITE_SECONDS="5")
+        self.table("a machine that is late", 0,
+                   tabled("sc-inorder", "large observable", "1 unstated",
+                          "not compared with a machine within the limit of time: 1 test, the first WORK/large.test"), SC,
+                   "WORK/large.test", PIPECHECK=liar, SUITE_SECONDS="5")
 
     def test_environment(self) -> None:
         """What the suite starts of Python has nothing of the environment."""
@@ -340,22 +316,15 @@ Microop 0 0 0 1 (Read (VA 0 0) (PA 0 0) (Data Any)).
             ("gives an answer that is none", "its answer is none", "os._exit(0)"),
         ):
             self.machine(f"import os\ndef outcomes(test: object) -> object:\n    return {fails}\n")
-            self.table(f"a machine that {name}", 2, f"""\
-test        tutorial-early
-MP          BUG
-MP.pattern  machine
-mine        machine
-{PATTERN}: the machine of tso failed: {reason}
-WORK/own/mine.test: tutorial-early says observable, and the machine of tso failed: {reason}
-3 pairs: 0 ok, 1 BUG, 0 stricter, 0 time, 2 faults, in N s
-""", EARLY, PATTERN, "WORK/own", MP)
+            self.table(f"a machine that {name}", 2,
+                       tabled("tutorial-early", "MP BUG, MP.pattern machine, mine machine", "1 BUG, 2 faults",
+                              f"{PATTERN}: the machine of tso failed: {reason}",
+                              f"WORK/own/mine.test: tutorial-early says observable, and the machine of tso failed: {reason}"),
+                       EARLY, PATTERN, "WORK/own", MP)
         shutil.rmtree(f"{self.top}/tools/agree/machines")
-        self.table("a copy without machines", 0, """\
-test  tutorial
-mine  unobservable
-not compared with machines: there are none in WORK/copy/tools/agree/machines
-1 pairs: 0 ok, 0 BUG, 0 stricter, 1 unstated, 0 time, 0 faults, in N s
-""", TUTORIAL, "WORK/own")
+        self.table("a copy without machines", 0,
+                   tabled("tutorial", "mine unobservable", "1 unstated",
+                          "not compared with machines: there are none in WORK/copy/tools/agree/machines"), TUTORIAL, "WORK/own")
 
     def test_several(self) -> None:
         """A machine runs one test after another in one process as long as it does not fail, and the clock has its time."""
@@ -391,12 +360,8 @@ class Folders(SuiteCases):
 
     def test_unwritten(self) -> None:
         self.put("kept/sc-inorder/MP.test.certificate.part/x", "")
-        self.writes("a certificate that cannot be written", self.called(SC), 2, """\
-test  sc-inorder
-MP    unwritten
-SB    ok
-2 pairs: 1 ok, 0 BUG, 0 stricter, 0 time, 1 faults, in N s
-""")
+        self.writes("a certificate that cannot be written", self.called(SC), 2,
+                    tabled("sc-inorder", "MP unwritten, SB ok", "1 ok, 1 faults"))
         shutil.rmtree(f"{self.work}/kept")
         os.makedirs(f"{self.work}/kept/cells")
         said = "suite: WORK/kept/cells cannot be written: Is a directory\n"

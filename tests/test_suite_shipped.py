@@ -8,14 +8,7 @@ import subprocess
 import time
 
 from tests.cases import PATIENCE, TOP, apart, read, text_of, tool
-from tests.suite_cases import BUFFER, SuiteCases, no_lint, of_suite
-
-LOCKED = (
-    "2+2W+xchgs", "IRIW+xchgs", "LB+xchgs", "MP+po+xchg", "MP+po+xchg+seen", "MP+xchgs", "R+po+xchg", "R+xchg+po", "SB+xchg+po",
-    "SB+xchgs", "SB+xchgs+own", "lock+handover", "xchg+between", "xchg+forwards", "xchg+lost", "xchg+misses", "xchg+xchg",
-    "xchg+xchg+seen",
-)
-
+from tests.suite_cases import BUFFER, SuiteCases, no_lint, of_suite, tabled
 
 def names_of(pattern: str) -> list[str]:
     """The files of the examples that such a name stands for, in order."""
@@ -23,7 +16,13 @@ def names_of(pattern: str) -> list[str]:
 
 
 MODELS, TESTS, LISTINGS = names_of("models/*.uspec"), names_of("tests/*.test"), names_of("x86/*.litmus")
-TRANSLATION = names_of("translation/*.test")
+LOCKED, TRANSLATION = names_of("locked/*.test"), names_of("translation/*.test")
+
+
+def rows_of(paths: list[str], cells: str, others: dict[str, str] | None = None) -> str:
+    """Rows of a table: of these files, whose cells are these, but for those that have others."""
+    names = sorted(it.rpartition("/")[2].removesuffix(".test") for it in paths)
+    return ", ".join(f"{it} {(others or {}).get(it, cells)}" for it in names)
 
 
 class Shipped(SuiteCases):
@@ -81,41 +80,18 @@ class Kinds(SuiteCases):
     """Shipped tests with locked instructions and with page-table entries."""
 
     def test_locked(self) -> None:
-        rows = "".join(f"{it:15}  ok\n" for it in LOCKED)
-        self.table(
-            "the shipped tests with locked instructions", 0,
-            f"{'test':15}  tso-buffer\n{rows}18 pairs: 18 ok, 0 BUG, 0 stricter, 0 time, 0 faults, in N s\n",
-            BUFFER, SUITE_TESTS=f"{TOP}/examples/locked",
-        )
+        text = tabled("tso-buffer", rows_of(LOCKED, "ok"), "18 ok")
+        self.table("the shipped tests with locked instructions", 0, text, BUFFER, SUITE_TESTS=f"{TOP}/examples/locked")
 
     def test_translation(self) -> None:
         self.lint_lines = no_lint
-        self.table("the shipped tests with page-table entries", 1, """\
-test                   tlb  tlb-late-hold  tlb-lazy-mark
-MP+read+walk           ok   ok             ok
-MP+walks               ok   ok             ok
-accessed               ok   ok             BUG
-accessed+none          ok   ok             ok
-dirty                  ok   ok             BUG
-dirty+early            ok   ok             ok
-dirty+hit              ok   ok             ok
-dirty+walk             ok   ok             ok
-identity               ok   ok             ok
-mark+kept              ok   ok             ok
-mark+lost              ok   ok             ok
-remap+fence+walk       ok   ok             ok
-remap+hit              ok   ok             ok
-remap+invalidate+walk  ok   BUG            ok
-remap+read             ok   ok             ok
-remap+walk             ok   ok             ok
-shootdown              ok   BUG            ok
-shootdown+none         ok   ok             ok
-synonym                ok   ok             ok
-two-walks              ok   ok             ok
-two-walks+seen         ok   ok             ok
-wrong-frame            ok   BUG            ok
-66 pairs: 61 ok, 5 BUG, 0 stricter, 0 time, 0 faults, in N s
-""", "examples/translation/tlb.uspec", *names_of("translation/buggy/*.uspec"),
+        buggy = {
+            **dict.fromkeys(("remap+invalidate+walk", "shootdown", "wrong-frame"), "ok BUG ok"),
+            **dict.fromkeys(("accessed", "dirty"), "ok ok BUG"),
+        }
+        self.table("the shipped tests with page-table entries", 1,
+                   tabled("tlb tlb-late-hold tlb-lazy-mark", rows_of(TRANSLATION, "ok ok ok", buggy), "61 ok, 5 BUG"),
+                   "examples/translation/tlb.uspec", *names_of("translation/buggy/*.uspec"),
                    SUITE_TESTS=f"{TOP}/examples/translation", SUITE_TABLE="examples/translation/memory-models.tsv")
 
 
@@ -130,7 +106,7 @@ class Agreement(SuiteCases):
         listings = (f"examples/x86/{it}.litmus" for it in ("n6", "SB+mfences", "R+po+mfence"))
         self.agree(
             "the machines agree on final values, on locked instructions, on page tables and on listings", 0, "208 agree, 0 differ\n",
-            *names_of("tests/Final*.test"), *names_of("locked/*.test"), *TRANSLATION, *listings,
+            *names_of("tests/Final*.test"), *LOCKED, *TRANSLATION, *listings,
         )
         self.agree("the buggy TLBs differ from their machine where they should", 1, """\
 tlb-late-hold.uspec remap+invalidate+walk.test: shown yes, tlb allows no

@@ -10,7 +10,7 @@ from typing import Any, Iterator
 from xml.etree import ElementTree
 
 from tests.cases import TOP, program, read, write
-from tests.suite_cases import BUFFER, CORR, EARLY, GOOD, MP, NO_FAULTS, SB, SC, TSO, TUTORIAL, SuiteCases, of_suite
+from tests.suite_cases import BUFFER, CORR, EARLY, GOOD, MP, SB, SC, TSO, TUTORIAL, SuiteCases, of_suite, tabled
 from tests.suite_cases import without_first_line
 
 from tools.second.cores import without
@@ -34,12 +34,7 @@ UNNAMED = (
 )
 # the in-order pipeline as a model of TSO, which it is too strict for, and its table beside one that shows too much
 STRICT = "% Memory model: tso\n" + without_first_line(SC)
-STRICT_ROWS = """\
-test  strict    tutorial-early
-MP    ok        BUG
-SB    stricter  ok
-"""
-STRICT_COUNT = "4 pairs: 2 ok, 1 BUG, 1 stricter, 0 time, 0 faults, in N s\n"
+STRICT_TABLE = "strict tutorial-early", "MP ok BUG, SB stricter ok", "2 ok, 1 BUG, 1 stricter"
 
 
 class OwnTests(SuiteCases):
@@ -49,78 +44,53 @@ class OwnTests(SuiteCases):
         self.copy("tests", MP)
         self.put("tests/broken.test", BROKEN)
         self.put("axiom.uspec", "Axiom\n")
-        self.table("a refused test and a refused model beside others", 2, """\
-test    sc-inorder   axiom
-MP      ok           model:syntax
-broken  test:syntax  model:syntax
-WORK/tests/broken.test:1:16: syntax: no test can continue with this token
-WORK/axiom.uspec:2:1: syntax: no model can continue with this token
-4 pairs: 1 ok, 0 BUG, 0 stricter, 0 time, 3 faults, in N s
-""", SC, "WORK/axiom.uspec")
+        self.table("a refused test and a refused model beside others", 2,
+                   tabled("sc-inorder axiom", "MP ok model:syntax, broken test:syntax model:syntax", "1 ok, 3 faults",
+                          "WORK/tests/broken.test:1:16: syntax: no test can continue with this token",
+                          "WORK/axiom.uspec:2:1: syntax: no model can continue with this token"), SC, "WORK/axiom.uspec")
         for name in "ab":
             self.put(f"refused/{name}.litmus", read("examples/x86/SB.litmus").replace("\nexists", "\nforall"))
         forall = (
             "left-out: a test states one outcome: write a listing with ~exists for each that must not come; beside a log, "
             "compare answers forall"
         )
-        self.table("what to do about a refused listing", 2, f"""\
-test      sc-inorder   tutorial-early
-a.litmus  test:syntax  test:syntax
-b.litmus  test:syntax  test:syntax
-WORK/refused/a.litmus:10:1: syntax: no test can continue with this token
-WORK/refused/a.litmus:10:1: {forall}
-WORK/refused/b.litmus:10:1: syntax: no test can continue with this token
-WORK/refused/b.litmus:10:1: {forall}
-4 pairs: 0 ok, 0 BUG, 0 stricter, 0 time, 4 faults, in N s
-""", SC, EARLY, SUITE_TESTS="WORK/refused")
+        self.table("what to do about a refused listing", 2,
+                   tabled("sc-inorder tutorial-early", "a.litmus test:syntax test:syntax, b.litmus test:syntax test:syntax",
+                          "4 faults", "WORK/refused/a.litmus:10:1: syntax: no test can continue with this token",
+                          f"WORK/refused/a.litmus:10:1: {forall}",
+                          "WORK/refused/b.litmus:10:1: syntax: no test can continue with this token",
+                          f"WORK/refused/b.litmus:10:1: {forall}"), SC, EARLY, SUITE_TESTS="WORK/refused")
 
     def test_stated(self) -> None:
         for state in ("Forbidden", "Permitted"):
             self.put(f"tests/{state}.test", f"{UNSTATED_MP}{state}.\n")
         self.put("tests/unstated.test", UNSTATED_MP)
-        self.table("where the table has no row the test decides", 1, f"""\
-test       sc-inorder    tutorial-early
-Forbidden  ok            BUG
-Permitted  stricter      ok
-unstated   unobservable  observable
-WORK/tests/Permitted.test: the test says permitted, and the machine of sc forbidden
-WORK/tests/Permitted.test: the test says permitted, and {TSO} forbidden
-WORK/tests/unstated.test: tutorial-early says observable, and {TSO} unobservable
-6 pairs: 2 ok, 1 BUG, 1 stricter, 2 unstated, 0 time, 0 faults, in N s
-""", SC, EARLY)
+        self.table("where the table has no row the test decides", 1,
+                   tabled("sc-inorder tutorial-early",
+                          "Forbidden ok BUG, Permitted stricter ok, unstated unobservable observable",
+                          "2 ok, 1 BUG, 1 stricter, 2 unstated",
+                          "WORK/tests/Permitted.test: the test says permitted, and the machine of sc forbidden",
+                          f"WORK/tests/Permitted.test: the test says permitted, and {TSO} forbidden",
+                          f"WORK/tests/unstated.test: tutorial-early says observable, and {TSO} unobservable"), SC, EARLY)
         self.put("nameless.uspec", without_first_line(EARLY))
         line = (
             "WORK/nameless.uspec:1:1: unnamed: the model names no memory model; known are NAMES, named once by a comment "
             "% Memory model: NAME"
         )
-        self.table("without a memory model the word of a test of one's own decides", 1, f"""\
-test       nameless
-Forbidden  BUG
-Permitted  ok
-{line}
-2 pairs: 1 ok, 1 BUG, 0 stricter, 0 time, 0 faults, in N s
-""", "WORK/nameless.uspec", "WORK/tests/Forbidden.test", "WORK/tests/Permitted.test")
-        self.table("without a memory model the word of a shipped test does not", 2, f"""\
-test       nameless
-MP         unnamed
-Permitted  ok
-{line}
-2 pairs: 1 ok, 0 BUG, 0 stricter, 0 time, 1 faults, in N s
-""", "WORK/nameless.uspec", "WORK/tests/Permitted.test", MP)
+        self.table("without a memory model the word of a test of one's own decides", 1,
+                   tabled("nameless", "Forbidden BUG, Permitted ok", "1 ok, 1 BUG", line), "WORK/nameless.uspec",
+                   "WORK/tests/Forbidden.test", "WORK/tests/Permitted.test")
+        self.table("without a memory model the word of a shipped test does not", 2,
+                   tabled("nameless", "MP unnamed, Permitted ok", "1 ok, 1 faults", line), "WORK/nameless.uspec",
+                   "WORK/tests/Permitted.test", MP)
 
     def test_memory_models(self) -> None:
         self.put("tests/unstated.test", UNSTATED_MP)
-        self.table("no expectation is no fault", 0, f"""\
-test      tutorial-early
-unstated  observable
-WORK/tests/unstated.test: tutorial-early says observable, and {TSO} unobservable
-1 pairs: 0 ok, 0 BUG, 0 stricter, 1 unstated, 0 time, 0 faults, in N s
-""", EARLY)
+        self.table("no expectation is no fault", 0,
+                   tabled("tutorial-early", "unstated observable", "1 unstated",
+                          f"WORK/tests/unstated.test: tutorial-early says observable, and {TSO} unobservable"), EARLY)
         table = self.put("table.tsv", "memory model\ttest\tallowed\tsource\nTSO\tunstated\tno\tmine\n")
-        self.table("a table of one's own", 1, f"""\
-test      tutorial-early
-unstated  BUG
-1 pairs: 0 ok, 1 BUG, {NO_FAULTS}""", EARLY, SUITE_TABLE=table)
+        self.table("a table of one's own", 1, tabled("tutorial-early", "unstated BUG", "1 BUG"), EARLY, SUITE_TABLE=table)
         self.refuses("a table that is not there", "the table WORK/gone cannot be read", EARLY, SUITE_TABLE="WORK/gone")
         self.put("maybe.tsv", "memory model\ttest\tallowed\nTSO\tunstated\tmaybe\n")
         line = r"the table WORK/maybe.tsv has a row without yes or no: $'TSO\tunstated\tmaybe'"
@@ -128,21 +98,15 @@ unstated  BUG
         self.put("nameless.uspec", without_first_line(EARLY))
         for end, shown in ((" ", " "), ("\r", r"\r"), (" \t\r", r" \t\r")):
             self.put("mine.uspec", f"% Memory Model: TSO{end}\n{without_first_line(EARLY)}")
-            self.table(f"a memory model in capitals, and '{shown}' after it", 1, f"""\
-test      mine
-unstated  BUG
-1 pairs: 0 ok, 1 BUG, {NO_FAULTS}""", "WORK/mine.uspec", SUITE_TABLE=table)
+            self.table(f"a memory model in capitals, and '{shown}' after it", 1, tabled("mine", "unstated BUG", "1 BUG"),
+                       "WORK/mine.uspec", SUITE_TABLE=table)
         known = self.called("WORK/nameless.uspec", SUITE_TABLE=table).out.partition("known are ")[2].partition(", named")[0]
         for name in ("nmca", "pso", "sc", "tlb", "tso", "weak"):
             self.same(f"the memory models that are known have {name}", name in known.replace(" and ", ", ").split(", "))
         for name, place, sentence, head in UNNAMED:
             self.put("mine.uspec", f"{head}\n{without_first_line(EARLY)}")
-            self.table(name, 2, f"""\
-test      mine
-unstated  unnamed
-WORK/mine.uspec:{place}: unnamed: {sentence}; known are NAMES, named once by a comment % Memory model: NAME
-1 pairs: 0 ok, 0 BUG, 0 stricter, 0 time, 1 faults, in N s
-""", "WORK/mine.uspec", SUITE_TABLE=table)
+            line = f"WORK/mine.uspec:{place}: unnamed: {sentence}; known are NAMES, named once by a comment % Memory model: NAME"
+            self.table(name, 2, tabled("mine", "unstated unnamed", "1 faults", line), "WORK/mine.uspec", SUITE_TABLE=table)
 
     def test_names_of_shipped_ones(self) -> None:
         """A row of the table of memory models is for the shipped test, and not for another one of its name."""
@@ -150,23 +114,15 @@ WORK/mine.uspec:{place}: unnamed: {sentence}; known are NAMES, named once by a c
         self.put("named/SB.litmus", read("examples/x86/SB.litmus").replace("\nexists", "\n~exists"))
         self.copy("named", MP)
         self.put("named/LB.test", read(MP).replace("(Data 0)", "(Data 1)"))
-        self.table("tests of one's own with the names of shipped ones", 1, f"""\
-test       tutorial
-LB         BUG
-MP         ok
-SB         BUG
-SB.litmus  BUG
-WORK/named/LB.test: the test says forbidden, and {TSO} permitted
-WORK/named/SB.litmus: the test says forbidden, and {TSO} permitted
-WORK/named/SB.test: the test says forbidden, and {TSO} permitted
-4 pairs: 1 ok, 3 BUG, {NO_FAULTS}""", TUTORIAL, SUITE_TESTS="WORK/named")
-        self.table("tests with the names of shipped ones go by the rows of a table that is named", 1, f"""\
-test       tutorial
-LB         BUG
-MP         ok
-SB         ok
-SB.litmus  ok
-4 pairs: 3 ok, 1 BUG, {NO_FAULTS}""", TUTORIAL, SUITE_TESTS="WORK/named", SUITE_TABLE="examples/memory-models.tsv")
+        self.table("tests of one's own with the names of shipped ones", 1,
+                   tabled("tutorial", "LB BUG, MP ok, SB BUG, SB.litmus BUG", "1 ok, 3 BUG",
+                          f"WORK/named/LB.test: the test says forbidden, and {TSO} permitted",
+                          f"WORK/named/SB.litmus: the test says forbidden, and {TSO} permitted",
+                          f"WORK/named/SB.test: the test says forbidden, and {TSO} permitted"), TUTORIAL,
+                   SUITE_TESTS="WORK/named")
+        self.table("tests with the names of shipped ones go by the rows of a table that is named", 1,
+                   tabled("tutorial", "LB BUG, MP ok, SB ok, SB.litmus ok", "3 ok, 1 BUG"), TUTORIAL, SUITE_TESTS="WORK/named",
+                   SUITE_TABLE="examples/memory-models.tsv")
 
 
 class Words(SuiteCases):
@@ -174,34 +130,21 @@ class Words(SuiteCases):
 
     def test_options(self) -> None:
         self.copy("tests", MP, SB)
-        self.writes("--differ shows the tests on which models differ", self.called("--differ", TUTORIAL, EARLY), 1, f"""\
-test  tutorial  tutorial-early
-MP    ok        BUG
-4 pairs: 3 ok, 1 BUG, {NO_FAULTS}""")
+        self.writes("--differ shows the tests on which models differ", self.called("--differ", TUTORIAL, EARLY), 1,
+                    tabled("tutorial tutorial-early", "MP ok BUG", "3 ok, 1 BUG"))
         self.same("a certificate has the whole name of its test", self.is_kept("tutorial-early/MP.test"))
-        self.same("the rows of a table are kept", read(f"{self.work}/kept/cells"), """\
-tutorial\tMP\tok
-tutorial\tSB\tok
-tutorial-early\tMP\tBUG
-tutorial-early\tSB\tok
-""")
-        self.table("--bad shows the tests that are not ok", 1, f"""\
-test  tutorial-early  tutorial
-MP    BUG             ok
-4 pairs: 3 ok, 1 BUG, {NO_FAULTS}""", "--bad", EARLY, TUTORIAL)
-        self.table("--bad shows no test where all are ok", 0, f"""\
-test  tutorial
-2 pairs: 2 ok, 0 BUG, {NO_FAULTS}""", "--bad", TUTORIAL)
+        kept = "tutorial\tMP\tok\ntutorial\tSB\tok\ntutorial-early\tMP\tBUG\ntutorial-early\tSB\tok\n"
+        self.same("the rows of a table are kept", read(f"{self.work}/kept/cells"), kept)
+        self.table("--bad shows the tests that are not ok", 1, tabled("tutorial-early tutorial", "MP BUG ok", "3 ok, 1 BUG"),
+                   "--bad", EARLY, TUTORIAL)
+        self.table("--bad shows no test where all are ok", 0, tabled("tutorial", "", "2 ok"), "--bad", TUTORIAL)
         twice = (SC, f"{TOP}/{SC}", "WORK/tests", "WORK/tests/../tests/MP.test")
         self.table("a file that is named twice is taken once", 0, GOOD, *twice)
         self.put("tests/typo.test", read(MP).replace("(Data 0)", "(Data 7)"))
-        self.table("what lint says comes once, for all models and tests", 1, f"""\
-test  sc-inorder  tutorial-early
-MP    ok          BUG
-SB    ok          ok
-typo  ok          ok
-WORK/tests/typo.test:7:47: unwritten: the read gets 7, which is not the value of PA 0 0 at the start, and nothing writes it there
-6 pairs: 5 ok, 1 BUG, {NO_FAULTS}""", SC, EARLY)
+        said = "unwritten: the read gets 7, which is not the value of PA 0 0 at the start, and nothing writes it there"
+        self.table("what lint says comes once, for all models and tests", 1,
+                   tabled("sc-inorder tutorial-early", "MP ok BUG, SB ok ok, typo ok ok", "5 ok, 1 BUG",
+                          f"WORK/tests/typo.test:7:47: {said}"), SC, EARLY)
 
     def is_kept(self, pair: str) -> bool:
         """Whether there is a certificate of a pair."""
@@ -213,17 +156,11 @@ WORK/tests/typo.test:7:47: unwritten: the read gets 7, which is not the value of
         self.put("both/mine.litmus", listing)
         self.put("both/never.litmus", listing.replace("\nexists", "\n~exists"))
         self.put("both/open.litmus", listing.replace(" /\\ 1:EAX=0", ""))
-        self.writes("tests and listings in one folder", self.called(TUTORIAL, SUITE_TESTS="WORK/both"), 2, f"""\
-test          tutorial
-SB            ok
-SB.litmus     ok
-mine.litmus   observable
-never.litmus  BUG
-open.litmus   test:x86-open
-WORK/both/never.litmus: the test says forbidden, and {TSO} permitted
-WORK/both/open.litmus:9:20: x86-open: the condition gives this register no value
-5 pairs: 2 ok, 1 BUG, 0 stricter, 1 unstated, 0 time, 1 faults, in N s
-""")
+        self.writes("tests and listings in one folder", self.called(TUTORIAL, SUITE_TESTS="WORK/both"), 2,
+                    tabled("tutorial", "SB ok, SB.litmus ok, mine.litmus observable, never.litmus BUG, open.litmus test:x86-open",
+                           "2 ok, 1 BUG, 1 unstated, 1 faults",
+                           f"WORK/both/never.litmus: the test says forbidden, and {TSO} permitted",
+                           "WORK/both/open.litmus:9:20: x86-open: the condition gives this register no value"))
         self.same("the certificate of a listing has the whole name of it", self.is_kept("tutorial/SB.litmus"))
         self.same("the certificate of a listing stands beside that of the test", self.is_kept("tutorial/SB.test"))
         self.same("nothing is kept of a refused listing", self.is_kept("tutorial/open.litmus"), False)
@@ -235,44 +172,32 @@ WORK/both/open.litmus:9:20: x86-open: the condition gives this register no value
         """The endings of words say what they are."""
         self.copy("tests", MP, SB)
         self.copy("patterns", "examples/patterns/MP.pattern")
-        table = f"""\
-test        tutorial  tutorial-early
-CoRR        ok        BUG
-MP          ok        BUG
-MP.pattern  ok        BUG
-SB          ok        ok
-SB.litmus   ok        ok
-WORK/patterns/MP.pattern: tutorial-early: shown though tso does not allow it: 1 0
-10 pairs: 7 ok, 3 BUG, {NO_FAULTS}"""
+        table = tabled("tutorial tutorial-early", "CoRR ok BUG, MP ok BUG, MP.pattern ok BUG, SB ok ok, SB.litmus ok ok",
+                       "7 ok, 3 BUG", "WORK/patterns/MP.pattern: tutorial-early: shown though tso does not allow it: 1 0")
         first, *rest = ("examples/x86/SB.litmus", "WORK/patterns", TUTORIAL, "WORK/tests", EARLY, CORR)
         self.table("a listing, a folder of patterns, a model, a folder of tests, a model, a test", 1, table, first, *rest)
         self.table("such words behind --, beside a folder of tests that no word names", 1, table, "--", first, *rest)
         bad = "".join(it for it in table.splitlines(keepends=True) if not it.endswith(" ok\n"))
         self.table("an option among such words", 1, bad, first, "--bad", *rest)
-        self.table("a test before its model", 0, f"""\
-test  sc-inorder
-MP    ok
-1 pairs: 1 ok, 0 BUG, {NO_FAULTS}""", MP, SC)
+        self.table("a test before its model", 0, tabled("sc-inorder", "MP ok", "1 ok"), MP, SC)
 
     def test_what_machines_see(self) -> None:
         """Bytes that are no ASCII, values at the start, addresses that no micro-op names, memory models of one's own."""
         self.put("latin.pattern", b"% by M\303\274ller\n" + read("examples/patterns/MP.pattern").encode("ascii"))
-        self.table("a pattern with a comment that is not ASCII", 1, f"""\
-test           tutorial-early
-latin.pattern  BUG
-WORK/latin.pattern: tutorial-early: shown though tso does not allow it: 1 0
-1 pairs: 0 ok, 1 BUG, {NO_FAULTS}""", "WORK/latin.pattern", EARLY)
+        self.table("a pattern with a comment that is not ASCII", 1,
+                   tabled("tutorial-early", "latin.pattern BUG", "1 BUG",
+                          "WORK/latin.pattern: tutorial-early: shown though tso does not allow it: 1 0"), "WORK/latin.pattern",
+                   EARLY)
         self.put("untouched.pattern", """\
 Litmus "f".
 Microop 0 0 0 0 (Write (VA 0 0) (PA 0 0) (Data 1)).
 Microop 1 0 0 0 (Read (VA 0 0) (PA 0 0) (Data Any)).
 Final (PA 9 0) 0.
 """)
-        self.table("a final value of an address that no micro-op names", 0, f"""\
-test               sc-inorder
-untouched.pattern  ok
-WORK/untouched.pattern:4:1: nobody's: no micro-op is at PA 9 0, so that no axiom can see this
-1 pairs: 1 ok, 0 BUG, {NO_FAULTS}""", "WORK/untouched.pattern", SC)
+        self.table("a final value of an address that no micro-op names", 0,
+                   tabled("sc-inorder", "untouched.pattern ok", "1 ok",
+                          "WORK/untouched.pattern:4:1: nobody's: no micro-op is at PA 9 0, so that no axiom can see this"),
+                   "WORK/untouched.pattern", SC)
         # the machines take the rest of the first line for a comment, as of the longer test below, whose reads then get what
         # nothing writes; nothing is said of that
         self.put("percent.test", """\
@@ -280,47 +205,34 @@ Litmus "100%". Init (PA 0 0) 5.
 Microop 0 0 0 0 (Read (VA 0 0) (PA 0 0) (Data 5)).
 Permitted.
 """)
-        self.table("a value at the start that the machines do not read", 0, f"""\
-test     sc-inorder
-percent  ok
-1 pairs: 1 ok, 0 BUG, {NO_FAULTS}""", "WORK/percent.test", SC)
+        self.table("a value at the start that the machines do not read", 0, tabled("sc-inorder", "percent ok", "1 ok"),
+                   "WORK/percent.test", SC)
         self.put("large.test", """\
 Litmus "100%". Microop 0 0 0 0 (Write (VA 0 0) (PA 0 0) (Data 1)). Microop 1 0 0 0 (Write (VA 1 0) (PA 1 0) (Data 1)).
 Microop 2 1 1 0 (Read (VA 1 0) (PA 1 0) (Data 1)). Microop 3 1 1 0 (Read (VA 0 0) (PA 0 0) (Data 1)). Permitted.
 """)
-        self.table("a test that the machines read otherwise than the program", 0, f"""\
-test   tutorial-early
-large  ok
-1 pairs: 1 ok, 0 BUG, {NO_FAULTS}""", "WORK/large.test", EARLY)
+        self.table("a test that the machines read otherwise than the program", 0, tabled("tutorial-early", "large ok", "1 ok"),
+                   "WORK/large.test", EARLY)
         self.put("table.tsv", "mine\tMP\tno\n")
         self.put("mine.uspec", "% Memory model: mine\n" + without_first_line(EARLY))
         pattern = "examples/patterns/MP.pattern"
-        self.table("a pattern whose memory model has rows and no machine", 1, """\
-test        mine
-MP          BUG
-MP.pattern  swept
-SB          BUG
-3 pairs: 0 ok, 2 BUG, 0 stricter, 1 unstated, 0 time, 0 faults, in N s
-""", "WORK/mine.uspec", pattern, MP, SB, SUITE_TABLE="WORK/table.tsv")
+        self.table("a pattern whose memory model has rows and no machine", 1,
+                   tabled("mine", "MP BUG, MP.pattern swept, SB BUG", "2 BUG, 1 unstated"), "WORK/mine.uspec", pattern, MP, SB,
+                   SUITE_TABLE="WORK/table.tsv")
 
     def test_locked(self) -> None:
         """A model that asks for the type of locked instructions, and one that does not."""
-        self.table("a model without locked instructions takes no test that has some", 0, """\
-test              tso-buffer  tso-ooo
-SB+fences         ok          ok
-SB+xchgs          ok          not taken
-SB+xchgs.pattern  ok          not taken
-examples/locked/SB+xchgs.test:4:23: not-asked: type Locked: no axiom of examples/models/tso-ooo.uspec asks for it, here and in 7 \
-more places
-6 pairs: 4 ok, 0 BUG, 0 stricter, 2 not taken, 0 time, 0 faults, in N s
-""", BUFFER, "examples/models/tso-ooo.uspec", "examples/locked/SB+xchgs.test", "examples/patterns/SB+xchgs.pattern",
+        said = "type Locked: no axiom of examples/models/tso-ooo.uspec asks for it, here and in 7 more places"
+        self.table("a model without locked instructions takes no test that has some", 0,
+                   tabled("tso-buffer tso-ooo", "SB+fences ok ok, SB+xchgs ok not_taken, SB+xchgs.pattern ok not_taken",
+                          "4 ok, 2 not taken", f"examples/locked/SB+xchgs.test:4:23: not-asked: {said}"), BUFFER,
+                   "examples/models/tso-ooo.uspec", "examples/locked/SB+xchgs.test", "examples/patterns/SB+xchgs.pattern",
                    "examples/tests/SB+fences.test")
         buggy = (f"examples/buggy/tso-buffer-{it}.uspec" for it in ("newest-alone", "merges-older"))
-        self.table("two store buffers, each with a test that alone tells it", 1, f"""\
-test        tso-buffer  tso-buffer-newest-alone  tso-buffer-merges-older
-CoWR+other  ok          BUG                      ok
-MP+merge    ok          ok                       BUG
-6 pairs: 4 ok, 2 BUG, {NO_FAULTS}""", BUFFER, *buggy, "examples/tests/CoWR+other.test", "examples/tests/MP+merge.test")
+        self.table("two store buffers, each with a test that alone tells it", 1,
+                   tabled("tso-buffer tso-buffer-newest-alone tso-buffer-merges-older",
+                          "CoWR+other ok BUG ok, MP+merge ok ok BUG", "4 ok, 2 BUG"), BUFFER, *buggy,
+                   "examples/tests/CoWR+other.test", "examples/tests/MP+merge.test")
 
 
 class Beside(SuiteCases):
@@ -335,49 +247,27 @@ class Beside(SuiteCases):
 
     def test_status(self) -> None:
         """The status parts what is lost from what is too much."""
-        self.table("what is lost alone", 3, """\
-test  strict
-MP    ok
-SB    stricter
-2 pairs: 1 ok, 0 BUG, 1 stricter, 0 time, 0 faults, in N s
-""", "WORK/strict.uspec")
-        self.table("what is lost, and too much beside it", 1, f"{STRICT_ROWS}{STRICT_COUNT}", "WORK/strict.uspec", EARLY)
+        self.table("what is lost alone", 3, tabled("strict", "MP ok, SB stricter", "1 ok, 1 stricter"), "WORK/strict.uspec")
+        self.table("what is lost, and too much beside it", 1, tabled(*STRICT_TABLE), "WORK/strict.uspec", EARLY)
 
     def test_baselines(self) -> None:
-        cells = self.put("cells", """\
-strict\tMP\tok
-strict\tSB\tstricter
-tutorial-early\tMP\tBUG
-tutorial-early\tSB\tok
-""")
+        cells = self.put("cells", "strict\tMP\tok\nstrict\tSB\tstricter\ntutorial-early\tMP\tBUG\ntutorial-early\tSB\tok\n")
         both = ("WORK/strict.uspec", EARLY)
-        self.writes("nothing is new", self.called("--baseline", cells, *both), 0, f"""\
-{STRICT_ROWS}nothing is new beside WORK/cells
-{STRICT_COUNT}""")
+        text = tabled(*STRICT_TABLE, "nothing is new beside WORK/cells")
+        self.writes("nothing is new", self.called("--baseline", cells, *both), 0, text)
         self.same("a baseline is what a suite keeps", read(f"{self.work}/kept/cells"), read(cells))
-        self.table("a BUG and a fault are new", 2, """\
-test    strict       tutorial-early
-CoRR    ok           BUG
-MP      ok           BUG
-SB      stricter     ok
-broken  test:syntax  test:syntax
-WORK/broken.test:1:16: syntax: no test can continue with this token
-1 new BUG: tutorial-early CoRR
-2 new test:syntax: strict broken, tutorial-early broken
-8 pairs: 3 ok, 2 BUG, 1 stricter, 0 time, 2 faults, in N s
-""", "--baseline", cells, *both, "WORK/tests", CORR, "WORK/broken.test")
-        self.table("a BUG is new", 1, f"""\
-test  tutorial-early
-CoRR  BUG
-MP    BUG
-1 new BUG: tutorial-early CoRR
-2 gone: model strict, test SB
-2 pairs: 0 ok, 2 BUG, {NO_FAULTS}""", EARLY, MP, CORR, "--baseline", cells)
+        self.table("a BUG and a fault are new", 2,
+                   tabled("strict tutorial-early", "CoRR ok BUG, MP ok BUG, SB stricter ok, broken test:syntax test:syntax",
+                          "3 ok, 2 BUG, 1 stricter, 2 faults",
+                          "WORK/broken.test:1:16: syntax: no test can continue with this token", "1 new BUG: tutorial-early CoRR",
+                          "2 new test:syntax: strict broken, tutorial-early broken"), "--baseline", cells, *both, "WORK/tests",
+                   CORR, "WORK/broken.test")
+        self.table("a BUG is new", 1,
+                   tabled("tutorial-early", "CoRR BUG, MP BUG", "2 BUG", "1 new BUG: tutorial-early CoRR",
+                          "2 gone: model strict, test SB"), EARLY, MP, CORR, "--baseline", cells)
         write(cells, read(cells).replace("stricter", "ok").replace("strict\tMP\tok", "strict\tMP\tBUG"))
-        self.table("what was ok and is lost is new, and a BUG that is mended is gone", 3, f"""\
-{STRICT_ROWS}1 new stricter: strict SB
-1 gone: strict MP (BUG)
-{STRICT_COUNT}""", "--baseline", cells, *both)
+        text = tabled(*STRICT_TABLE, "1 new stricter: strict SB", "1 gone: strict MP (BUG)")
+        self.table("what was ok and is lost is new, and a BUG that is mended is gone", 3, text, "--baseline", cells, *both)
         write(cells, "MP ok\n")
         gone = "the baseline WORK/gone cannot be read: No such file or directory"
         none = r"the baseline WORK/cells has a line that is no model, test and cell: MP\ ok"
@@ -427,7 +317,6 @@ warning unwritten unwritten slip.test 7 47""")
         reader.join()
         self.same("a report goes into a pipe", "\n</testsuites>\n" in got[0])
         self.same("a pipe that gets a report stays one", stat.S_ISFIFO(os.stat(pipe).st_mode))
-
 
 
 class Keeping(SuiteCases):
@@ -506,18 +395,12 @@ exists microop "i", exists microop "j",
         # it says nothing of a test, and is passed over
         other = f"{self.work}/queries/other.query"
         write(other, read(other).partition("\n")[2])
+        text = tabled("tutorial", "commits.query ok, none.query query:stage-unknown, overtakes.query ok, wrong.query BUG_(never)",
+                      "2 ok, 1 BUG, 1 faults", "WORK/queries/none.query:4:69: stage-unknown: no stage has the name")
         for name, said in (
             ("a query is a row", ""), ("the answer to a query is kept", "suite: 3 pairs stand from WORK/store\n"),
         ):
-            self.writes(name, self.called("WORK/queries", TUTORIAL, SUITE_KEPT=self.store), 2, """\
-test             tutorial
-commits.query    ok
-none.query       query:stage-unknown
-overtakes.query  ok
-wrong.query      BUG (never)
-WORK/queries/none.query:4:69: stage-unknown: no stage has the name
-4 pairs: 2 ok, 1 BUG, 0 stricter, 0 time, 1 faults, in N s
-""", said)
+            self.writes(name, self.called("WORK/queries", TUTORIAL, SUITE_KEPT=self.store), 2, text, said)
         form = "% Expect: always, sometimes or never, and % Test: NAME"
         line = f"WORK/queries/other.query is no row of a table: it says so by one comment each, {form}"
         self.refuses("a query that does not say what it is asked of", line, other, SC)

@@ -14,7 +14,7 @@ from dataclasses import dataclass
 from glob import glob
 from random import Random
 
-from tests.cases import TOP, Cases, Done, call, pipecheck, program, run, tool_entry, without_proofs, write
+from tests.cases import TOP, Cases, call, pipecheck, program, run, tool_entry, without_proofs, write
 
 from tools.listings.beyond import Notes
 from tools.listings.test86 import test_of
@@ -237,7 +237,6 @@ class Maker:
 
 
 def line_of(fault: Fault, listing: bytes) -> str:
-    """The line of a refusal."""
     return f"refused test {fault.word} at {line_and_column(listing, fault.place)}\n"
 
 
@@ -253,12 +252,6 @@ def refusal_of(listing: bytes) -> str:
 def shown(*parts: str) -> str:
     """Parts of a listing as they stand in the name of a case."""
     return ", ".join(parts).replace("\n", " ")
-
-
-def said_of(done: Done) -> list[str]:
-    """What the script says by its name, but for what could stand at a fault of syntax."""
-    lines = without_proofs(done).err.splitlines()
-    return [it for it in lines if it.startswith("pipecheck: ") and not it.endswith(" is expected")]
 
 
 class Answers(Cases):
@@ -357,6 +350,8 @@ class Typed(Cases):
                 fault, _, place = refusal.split()
                 self.assertIn(f"{path}:{place}: {fault}: ", done.err)
                 self.assertEqual(f"\npipecheck: {sentence}" in done.err, sentence is not None)
-                self.assertLessEqual(len(said_of(done)), int(sentence is not None))
+                # beside what could stand at a fault of syntax
+                said = [it for it in without_proofs(done).err.splitlines() if it.startswith("pipecheck: ")]
+                self.assertLessEqual(sum(not it.endswith(" is expected") for it in said), int(sentence is not None))
         words = ["bash", "-c", '"$@" < <(cat "$0")', path, pipecheck(), "test86", "/dev/stdin"]
         self.gives("test86: of a listing that can be read once the refusal alone is said", words, 3, f"refused test {refusal}\n")

@@ -72,7 +72,6 @@ class Other:
         return f"shown though {self.name} does not allow it", f"allowed by {self.name} and not shown"
 
     def rows_of(self, pattern: str, by_program: bool) -> set[Reads]:
-        """The rows of a pattern that it has."""
         if self.is_model:
             return rows_shown(self.name, pattern.encode("ascii"), by_program)
         test = test_of_text(pattern)
@@ -96,7 +95,6 @@ def named_memory_model(path: str) -> str:
 
 @lru_cache(None)
 def machine_of(name: str) -> ModuleType:
-    """The machine of a memory model."""
     machines = Machines(TOP)
     if not is_machine(machines.folder, name):
         known = ", ".join(sorted(machines.names))
@@ -255,5 +253,4 @@ def types_asked(model: str) -> set[str]:
 
 
 def asks_for_locked(model: str) -> bool:
-    """Whether a model asks which micro-ops are locked."""
     return LOCKED in Asked(model_of(model)).types

@@ -38,17 +38,14 @@ def read_listing(path: str) -> Test:
 
 
 def address_of(name: str, numbers: dict[str, int]) -> tuple[int, int]:
-    """The address of a location."""
     return numbers.setdefault(name, len(numbers)), 0
 
 
 def stated(values: dict[str, int], numbers: dict[str, int]) -> dict[Address, Value]:
-    """Values by addresses."""
     return {address_of(name, numbers): value for name, value in values.items()}
 
 
 def instruction(place: int, core: int, cell: str, registers: dict[tuple[int, str], int], numbers: dict[str, int]) -> Op:
-    """The micro-op of a cell."""
     store, load = STORE.match(cell), LOAD.match(cell)
     if store is not None:
         return Op(place, core, "Write", frozenset(), address_of(store[1], numbers), int(store[2]), place)

@@ -93,9 +93,10 @@ class Test:
 
     @property
     def memory(self) -> Memory:
-        """The memory at the start: each address in use with its value. One that only a final value names keeps its own."""
+        """The memory at the start: each address in use with its value. One that only a final value names keeps its own.
+        Without a line a page has 0, and an entry its own tag without marks."""
         addresses = sorted({*(op.address for op in self.ops if op.kind != "Fence"), *self.final})
-        return tuple((address, self.initial.get(address, default_at(address))) for address in addresses)
+        return tuple((it, self.initial.get(it, 0 if len(it) == 2 else (it[0], 0, 0))) for it in addresses)
 
     @property
     def opened(self) -> "Test":
@@ -148,7 +149,6 @@ def test_of_text(whole: str) -> Test:
 
 
 def numbers(words: str) -> tuple[int, ...]:
-    """The numbers among words."""
     return tuple(map(int, re.findall(r"\b\d+\b", words)))
 
 
@@ -156,11 +156,6 @@ def value_of(words: str) -> Value:
     """A number, or the three parts of an entry."""
     found = numbers(words)
     return (found[0], found[1], found[2]) if len(found) == 3 else found[0]
-
-
-def default_at(address: Address) -> Value:
-    """What an address holds where no line states it."""
-    return 0 if len(address) == 2 else (address[0], 0, 0)
 
 
 def replaced(pairs: tuple[tuple[Key, Item], ...], key: Key, value: Item) -> tuple[tuple[Key, Item], ...]:

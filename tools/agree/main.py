@@ -49,7 +49,7 @@ from tools.agree.comparing import (
 from tools.agree.comparing_programs import Comparison
 from tools.agree.counts import Counts, tell
 from tools.agree.small_programs import MOST_ACCESSES, MOST_LOCATIONS, Shape, shapes_of
-from tools.agree.table import rows_of
+from tools.agree.table import TABLE, rows_of
 from tools.agree.working import ENDING, Unusable, Workers
 from tools.ending import SIGNALS
 from tools.second.patterns import ENDING as PATTERN
@@ -107,7 +107,8 @@ def compare_files(pairs: list[Pair], counts: Counts) -> None:
 def compare_table() -> int:
     """Prints each row of the tables that its machine does not say, and answers how many there are."""
     differ = 0
-    for name, test, allowed in [*rows_of(""), *rows_of("translation")]:
+    folders = [it for it in ("", "translation") if os.path.exists(os.path.join(TOP, "examples", it, TABLE))]
+    for name, test, allowed in [row for folder in folders for row in rows_of(folder)]:
         if is_allowed(name, shipped_test(test)) != allowed:
             differ += 1
             print(f"the table {name} {test}: the machine says {'no' if allowed else 'yes'}")
@@ -146,7 +147,6 @@ def compare_programs(options: Namespace, by_program: bool, counts: Counts) -> No
 
 
 def compare(options: Namespace) -> int:
-    """Compares everything and answers the exit status."""
     by_program = not options.reading and bool(sweeper().words)
     counts, is_swept = Counts(), True
     if options.random or options.all:
@@ -203,7 +203,6 @@ def parser() -> ArgumentParser:
 
 
 def named_shapes(words: str) -> tuple[Shape, ...]:
-    """The shapes that words name."""
     try:
         return shapes_of(words)
     except ValueError as error:

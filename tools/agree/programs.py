@@ -48,7 +48,6 @@ class Made:
         return [words] if self.kind == "Fence" else [self.access(words, "Any" if self.reads else str(self.value))]
 
     def access(self, words: str, value: str) -> str:
-        """A read or a write."""
         return f"{words} (VA {self.address} 0) (PA {self.address} 0) (Data {value})"
 
 

@@ -69,7 +69,6 @@ class Family:
                 yield lines + rest
 
     def lines(self, length: int) -> Iterator[Line]:
-        """All lines of so many accesses."""
         for accesses in product(self.kinds, repeat=length):
             for fences in product(("", *self.fences), repeat=length - 1):
                 yield Line(accesses, fences)

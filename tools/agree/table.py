@@ -23,6 +23,7 @@ from tools.agree.listing import read_file
 from tools.agree.verdicts import runs
 from tools.texts.contents import contents
 
+TABLE = "memory-models.tsv"
 KINDS = ("tests/*.test", "x86/*.litmus", "locked/*.test")
 MACHINES = ("sc", "tso", "pso", "weak", "nmca", "pc", "rvwmo")
 X86_TSO = "Owens, Sarkar, Sewell, x86-TSO, 2009"
@@ -30,17 +31,15 @@ OF_X86_TSO = ("SB", "MP", "LB", "SB+rfi-pos", "SB+fences", "IRIW", "n4b", "n5", 
 
 
 def rows_of(folder: str) -> Iterator[tuple[str, str, bool]]:
-    """Memory model, test and verdict of each row of the table in a folder of the examples, if there is one."""
-    path = os.path.join(TOP, "examples", folder, "memory-models.tsv")
-    if os.path.exists(path):
-        head, *rows = (line.split("\t") for line in contents(path).decode("ascii").splitlines())
-        for row in rows:
-            cells = dict(zip(head, row))
-            yield cells["memory model"], cells["test"], cells["allowed"] == "yes"
+    """Memory model, test and verdict of each row of the table in a folder of the examples."""
+    text = contents(os.path.join(TOP, "examples", folder, TABLE)).decode("ascii")
+    head, *rows = (line.split("\t") for line in text.splitlines())
+    for row in rows:
+        cells = dict(zip(head, row))
+        yield cells["memory model"], cells["test"], cells["allowed"] == "yes"
 
 
 def main(words: list[str]) -> None:
-    """Writes the header and the rows."""
     kinds, machines = (("translation/*.test",), ("tlb",)) if words == ["translation"] else (KINDS, MACHINES)
     paths = [path for kind in kinds for path in glob(f"{escape(TOP)}/examples/{kind}")]
     named = sorted((os.path.basename(path).removesuffix(".test"), path) for path in paths)

@@ -100,10 +100,11 @@ def limit_time(seconds: int, standing: tuple[int, int]) -> None:
 def main(name: str, *words: str) -> int:
     """Says what the machine allows, and answers the exit status."""
     machine = import_module(f"tools.agree.machines.{name}")
-    if words[0] == "--within":
+    if len(words) == 2 and words[0] == "--within":
         say_all(machine, int(words[1]))
         return 0
-    lines = lines_of(machine, words[0])
+    (path,) = words
+    lines = lines_of(machine, path)
     if lines is None:
         return NOT_RUN
     print(*lines, sep="\n")

@@ -16,11 +16,11 @@ import os
 import shutil
 import subprocess
 import sys
-from typing import Iterator
+from typing import Callable, Iterator
 
 from tools import TOP
 from tools.build import make_program, make_unproved
-from tools.build.making import OUT, Failed, Job, NothingMade, asked, put, put_over, say
+from tools.build.making import OUT, Failed, Job, NothingMade, asked, crates, put, put_over, say
 from tools.build.processes import SIGNALS
 from tools.build.versions import origin, program_line
 from tools.ending import Interrupted
@@ -31,11 +31,6 @@ MAKERS = {"pipecheck": make_program.make, "unproved": make_unproved.make}
 
 class Hindered(Exception):
     """Nothing is done, and why."""
-
-
-def crates() -> list[str]:
-    """The crates that the program is made of; none where they could not be read."""
-    return (asked("parts") or "").split()
 
 
 def stands(kind: str) -> bool:
@@ -137,10 +132,8 @@ def main(work: str, *words: str) -> int:
     """Does it, and says what hinders it."""
     SIGNALS.receive()
     try:
-        if work == "make":
-            make(*words)
-        else:
-            {"prove": prove, "clean": clean, "version": version}[work]()
+        works: dict[str, Callable[..., None]] = {"make": make, "prove": prove, "clean": clean, "version": version}
+        works[work](*words)
     except (Hindered, Failed) as problem:
         say(str(problem))
         return 1

@@ -22,8 +22,7 @@ HELD = "/sys/fs/cgroup/memory.stat"
 def free_memory() -> int:
     """What the machine has free."""
     with open("/proc/meminfo", encoding="ascii") as lines:
-        found = [int(line.split()[1]) << 10 for line in lines if line.startswith("MemAvailable:")]
-    return found[0] if found else 0
+        return next((int(line.split()[1]) << 10 for line in lines if line.startswith("MemAvailable:")), 0)
 
 
 def group_memory() -> float:

@@ -68,6 +68,11 @@ def asked(words: str) -> Optional[str]:
     return os.fsdecode(done.stdout).rstrip("\n") if done.returncode == 0 else None
 
 
+def crates() -> list[str]:
+    """The crates that the program is made of; none where they could not be read."""
+    return (asked("parts") or "").split()
+
+
 def put(text: str) -> None:
     """Writes to standard error, which nobody need read."""
     with contextlib.suppress(OSError):
@@ -130,12 +135,10 @@ def refuse_changes(job: Job) -> None:
         raise Failed("a source changed while it was copied, so call again")
 
 
-def run_tool(
-    job: Job, words: list[str], folder: str, temporary: str, said: IO[bytes], progress: Callable[[], str]
-) -> int:
-    """Runs a command of the toolchain to its end, with a line on a terminal that says how far it is. What it says goes to
-    a file. Returns its status."""
-    with running(words, folder, temporary, said, said) as call:
+def run_tool(job: Job, words: list[str], folder: str, temporary: str, said: IO[bytes], progress: Callable[[], str]) -> int:
+    """Runs a command of the toolchain to its end, with a line on a terminal that says how far it is. What it says goes to a file.
+    Returns its status."""
+    with running(words, folder, temporary, said) as call:
         while True:
             if os.isatty(2):
                 put(f"\rpipecheck: {progress()}, {elapsed(job)} ")

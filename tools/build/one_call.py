@@ -30,20 +30,19 @@ def toolchain() -> str:
     return os.path.dirname(os.fsdecode(asked.stdout.strip()))
 
 
-def uses_of(crates: str) -> dict[str, list[str]]:
-    """What each crate stands on, by the text of crates.txt."""
-    rows = (line.partition("#")[0].partition(":") for line in crates.splitlines())
+def uses_of(checkout: str) -> dict[str, list[str]]:
+    """What each crate of a checkout stands on."""
+    with open(f"{checkout}/crates.txt", encoding="utf-8") as given:
+        rows = [line.partition("#")[0].partition(":") for line in given]
     return {head.split()[0]: below.split() for head, colon, below in rows if colon and head.strip()}
 
 
 def proof(tools: str, libraries: str, checkout: str, crates: list[str], processors: int) -> list[str]:
     """The call that proves and compiles the program, in its folder of the checkout. The other repository has the crates
     that it stands on, as `rt ci` left them."""
-    with open(f"{checkout}/crates.txt", encoding="utf-8") as given:
-        names = uses_of(given.read()).get(PROGRAM, [])
     places = {name: f"{libraries}/crates/{name}/out/rlib" for name in crates if name != PROGRAM}
     words = [f"{tools}/bin/rattle", "build", "--crate-name", PROGRAM, "src/main.rt", "-L", f"dependency={tools}/rlibs"]
-    for name in ["std", *names]:
+    for name in ["std", *uses_of(checkout).get(PROGRAM, [])]:
         words += ["--extern", f"{name}={places.get(name, f'{tools}/rlibs')}/{name}.rlib"]
     for place in places.values():
         words += ["-L", f"dependency={place}"]

@@ -11,8 +11,6 @@ from typing import IO, Iterable, Iterator, Optional
 
 from tools import ending
 
-Process = subprocess.Popen
-
 # how long what is asked to end has for it, in seconds
 PATIENCE = 5
 
@@ -24,7 +22,7 @@ class Signals(ending.Signals):
     def __init__(self) -> None:
         super().__init__()
         self.is_stop_held = False
-        self.leaders: list[Process[bytes]] = []
+        self.leaders: list[subprocess.Popen[bytes]] = []
 
     def receive(self, numbers: Iterable[int] = ending.ENDING) -> None:
         super().receive(numbers)
@@ -58,12 +56,12 @@ class Signals(ending.Signals):
 SIGNALS = Signals()
 
 
-def signal_group(leader: Process[bytes], number: int) -> None:
+def signal_group(leader: subprocess.Popen[bytes], number: int) -> None:
     with contextlib.suppress(ProcessLookupError):
         os.killpg(leader.pid, number)
 
 
-def end_group(leader: Process[bytes]) -> None:
+def end_group(leader: subprocess.Popen[bytes]) -> None:
     """Ends a group of processes, and waits until its first one has ended."""
     if leader.poll() is None:
         signal_group(leader, signal.SIGTERM)
@@ -76,19 +74,11 @@ def end_group(leader: Process[bytes]) -> None:
 
 
 @contextlib.contextmanager
-def running(
-    words: list[str], folder: str, temporary: str, out: IO[bytes], err: IO[bytes]
-) -> Iterator[Process[bytes]]:
+def running(words: list[str], folder: str, temporary: str, said: IO[bytes]) -> Iterator[subprocess.Popen[bytes]]:
     """Runs a command as a group of processes of its own, which ends at the end."""
-    environment = {**os.environ, "TMPDIR": temporary}
     with SIGNALS.held():
-        leader = Process(
-            words,
-            cwd=folder,
-            env=environment,
-            stdin=subprocess.DEVNULL,
-            stdout=out,
-            stderr=err,
+        leader = subprocess.Popen(
+            words, cwd=folder, env={**os.environ, "TMPDIR": temporary}, stdin=subprocess.DEVNULL, stdout=said, stderr=said,
             start_new_session=True,
         )
         SIGNALS.leaders.append(leader)

@@ -6,7 +6,7 @@ import os
 import subprocess
 
 from tools import TOP
-from tools.build.making import OUT, asked
+from tools.build.making import OUT, asked, crates
 
 
 def here(*words: str) -> bytes | None:
@@ -38,8 +38,7 @@ def hash_of(path: str, kind: str) -> str:
 
 def has_changed() -> bool:
     """Whether a source of the program is not as in the commit, by the hashes of both: git may be told to look away from a file."""
-    names = (asked("parts") or "").split()
-    paths = ["crates.txt", *(f"crates/{name}/{folder}" for name in names for folder in ("src", "specs", "proofs"))]
+    paths = ["crates.txt", *(f"crates/{name}/{folder}" for name in crates() for folder in ("src", "specs", "proofs"))]
     wanted = committed(paths)
     kind = "sha256" if any(len(it) == 64 for it in wanted.values()) else "sha1"
     found = [f"{place}/{name}" for it in paths for place, _, files in os.walk(f"{TOP}/{it}", followlinks=True) for name in files]

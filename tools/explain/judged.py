@@ -88,7 +88,7 @@ def meaning(status: int, text: bytes, word: str, paths: Sequence[str]) -> Unexpl
 
 
 def look_for_verdict(status: int, text: bytes) -> None:
-    """Whether a judge's answer is a verdict that agrees with its status, as that of any command need not be."""
+    """Tells where a judge's answer is no verdict that agrees with its status, as that of any command need not be one."""
     if not text.startswith(VERDICTS[status]):
         raise failed(f"no judge: the checker ended with status {status} and not with its verdict")
 

@@ -26,14 +26,6 @@ class Source:
     side: str
 
 
-@dataclass(frozen=True)
-class Group:
-    """The splits that stand below one heading, the last of them by its name."""
-
-    heading: str
-    last: str
-
-
 class Refutation(Branches[Side]):
     """The lines of a refutation. What is asserted on the present branch is kept with what asserted it."""
 
@@ -43,8 +35,8 @@ class Refutation(Branches[Side]):
         self.positions = positions
         # the facts in the order in which they came
         self.facts: dict[Fact, Source] = {}
-        # where the last line was of a split one of whose sides closes at once
-        self.group: Group | None = None
+        # the heading above the last line, and the split of it, where a side of that closes at once
+        self.group = "", ""
 
     def lines(self) -> Iterator[str]:
         """What the refutation is, and its steps."""
@@ -87,18 +79,18 @@ class Refutation(Branches[Side]):
         """The line of a split of which one side, closed by the step there, leaves the other. Those that come from one
         formula stand below one heading."""
         heading = self.names.formula(self.origin_of(step))
-        last = self.group.last if self.group is not None and self.group.heading == heading else ""
+        last = self.group[1] if self.group[0] == heading else ""
         if not last:
             yield f"{self.indent()}{heading}:"
         said, (reason, *facts) = self.said_of(self.unknown(other)), self.reason(closed, closed_at, last)
         yield f"{self.indent()}  {step}{self.names.inside(self.origin_of(step))}: {said}, since {reason}"
         yield from (f"{self.indent()}    {fact}" for fact in facts)
-        self.group = Group(heading, step)
+        self.group = heading, step
         self.add(other, step)
 
     def begin(self, name: str, side: Side) -> Iterator[str]:
         yield f"{self.indent()}{name}: {self.said_of(side)}"
-        self.group = None
+        self.group = "", ""
         self.add(side, name)
 
     def leaf(self) -> Iterator[str]:

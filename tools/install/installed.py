@@ -88,9 +88,7 @@ class Prefix:
         try:
             self.path.encode("utf-8")
         except UnicodeEncodeError as error:
-            raise Refused(
-                "no folder is taken whose path is not UTF-8: the program could not be called there"
-            ) from error
+            raise Refused("no folder is taken whose path is not UTF-8: the program could not be called there") from error
         if any(unicodedata.category(it) == "Cc" for it in self.path):
             raise Refused("no folder is taken whose path has a control character")
         depth = len([part for part in self.path.split("/") if part])

@@ -117,7 +117,6 @@ class Installation(Prefix):
         folder = self.at(tree)
         self.empty(tree)
         for name in COPIED:
-            os.makedirs(os.path.dirname(os.path.join(folder, name)), exist_ok=True)
             copy(os.path.join(TOP, name), os.path.join(folder, name))
         copy(program, os.path.join(folder, "pipecheck_cli"))
         write_new(os.path.join(folder, "version"), version + "\n")

@@ -3,6 +3,7 @@
 import os
 import re
 import subprocess
+from itertools import dropwhile
 from typing import Iterator
 
 from tools.telling.forms import Forms
@@ -53,55 +54,45 @@ def line_of(text: str) -> str:
     return ("\\&" if text.startswith((".", "'")) else "") + text
 
 
-class Markdown:
-    """Markdown to roff: headings, paragraphs, lists, tables (a row is an item: its first cell, and the others after it) and blocks
-    of text. Of a page that is not taken whole the title is left out, and what stands before the first heading below it."""
+def roff(text: str, is_whole: bool) -> Iterator[str]:
+    """Markdown as roff: headings, paragraphs, lists, tables (a row is an item: its first cell, and the others after it) and blocks of
+    text. Of a page that is not taken whole the title is left out, and what stands before the first heading below it."""
+    sections = {"# ": ".SH", "## ": ".SS"} if is_whole else {"## ": ".SH"}
+    is_block = is_table = False
+    for line in dropwhile(lambda it: not is_whole and not it.startswith("## "), text.splitlines()):
+        if re.match(" *```", line):
+            is_block = not is_block
+            yield BEGIN_BLOCK if is_block else END_BLOCK
+        elif is_block:
+            yield line_of(plain(line))
+        elif not line.startswith("|"):
+            is_table = False
+            yield roff_line(line, {**sections, "### ": ".SS"})
+        elif not line.startswith("|---"):
+            cells = [marked(it) for it in re.split(r" *\| *", line)[1:-1]]
+            # the heading of a table is one line
+            others = line_of("; ".join(it for it in cells[1:] if it))
+            yield f".TP\n{cells[0]}\n{others}" if is_table else f".PP\n\\fI{'; '.join(cells)}\\fR"
+            is_table = True
 
-    def __init__(self, is_whole: bool) -> None:
-        self.is_begun = is_whole
-        self.sections = {"# ": ".SH", "## ": ".SS"} if is_whole else {"## ": ".SH", "### ": ".SS"}
-        self.is_block = self.is_table = False
 
-    def lines(self, text: str) -> Iterator[str]:
-        for line in text.splitlines():
-            self.is_begun = self.is_begun or line.startswith("## ")
-            if not self.is_begun:
-                continue
-            if re.match(" *```", line):
-                self.is_block = not self.is_block
-                yield BEGIN_BLOCK if self.is_block else END_BLOCK
-            elif self.is_block:
-                yield line_of(plain(line))
-            elif not line.startswith("|---"):
-                yield self.line(line)
-
-    def line(self, line: str) -> str:
-        """A line that is no block's, as roff has it."""
-        if line.startswith("|"):
-            return self.row([marked(it) for it in re.split(r" *\| *", line)[1:-1]])
-        self.is_table = False
-        for head, request in {**self.sections, "### ": ".SS"}.items():
-            if line.startswith(head):
-                title = line.removeprefix(head)
-                return f"{request} {marked(title.upper() if request == '.SH' else title)}"
-        if found := re.match(r"\d+\. ", line):
-            return f".IP {found[0].rstrip()} 4\n{line_of(marked(line[found.end():]))}"
-        if line.startswith("- "):
-            return f".IP \\(bu 2\n{line_of(marked(line[2:]))}"
-        return line_of(marked(line.lstrip(" "))) if line else ".PP"
-
-    def row(self, cells: list[str]) -> str:
-        """A row of a table; its heading is one line."""
-        if not self.is_table:
-            self.is_table = True
-            return f".PP\n\\fI{'; '.join(cells)}\\fR"
-        return f".TP\n{cells[0]}\n{line_of('; '.join(it for it in cells[1:] if it))}"
+def roff_line(line: str, sections: dict[str, str]) -> str:
+    """A line that is no table's and no block's."""
+    for head, request in sections.items():
+        if line.startswith(head):
+            title = line.removeprefix(head)
+            return f"{request} {marked(title.upper() if request == '.SH' else title)}"
+    if found := re.match(r"\d+\. ", line):
+        return f".IP {found[0].rstrip()} 4\n{line_of(marked(line[found.end():]))}"
+    if line.startswith("- "):
+        return f".IP \\(bu 2\n{line_of(marked(line[2:]))}"
+    return line_of(marked(line.lstrip(" "))) if line else ".PP"
 
 
 def page(top: str, name: str, is_whole: bool) -> Iterator[str]:
     """The lines of a page of docs/."""
     with open(os.path.join(top, "docs", f"{name}.md"), encoding="utf-8") as file:
-        yield from Markdown(is_whole).lines(file.read())
+        yield from roff(file.read(), is_whole)
 
 
 def program_page(top: str) -> Iterator[str]:

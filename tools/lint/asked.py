@@ -1,10 +1,10 @@
 """Names of types, kinds of dependencies and values: what the axioms ask of a test, and what the tests have of it."""
 from typing import Iterator, Sequence
 
-from tools.lint.formulas import reached
 from tools.lint.slips import Meant, Slip, TestFile, allowed, unless_meant
 from tools.second.cases import DependencyItem, Entry, OpItem, ValueItem
-from tools.second.models import Formula, Model, Number, Static
+from tools.second.models import Expand, Formula, Model, Number, Static
+from tools.second.scopes import parts
 from tools.texts.quoting import shown
 
 
@@ -32,8 +32,14 @@ class Asked:
 
     def follow(self, formula: Formula) -> None:
         """Takes in a formula; each macro is followed once."""
-        for part in reached(formula, self.macros, self.expanded):
-            if isinstance(part, Static):
+        waiting = [formula]
+        while waiting:
+            part = waiting.pop()
+            waiting += reversed(parts(part))
+            if isinstance(part, Expand) and part.macro.name not in self.expanded:
+                self.expanded.add(part.macro.name)
+                waiting.append(self.macros[part.macro.name].body)
+            elif isinstance(part, Static):
                 self.predicates.add(part.predicate.name)
                 for name, table in (("AccessType", self.types), ("HasDependency", self.kinds)):
                     if part.predicate.name == name and not isinstance(part.args[0], Number):

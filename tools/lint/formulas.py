@@ -16,18 +16,6 @@ def below(formula: Formula) -> Iterator[Formula]:
         waiting += reversed(parts(here))
 
 
-def reached(formula: Formula, macros: dict[str, Macro], expanded: set[str]) -> Iterator[Formula]:
-    """The same, and in its place what stands in each macro that is expanded there and was not before."""
-    waiting = [formula]
-    while waiting:
-        here = waiting.pop()
-        yield here
-        waiting += reversed(parts(here))
-        if isinstance(here, Expand) and here.macro.name not in expanded:
-            expanded.add(here.macro.name)
-            waiting.append(macros[here.macro.name].body)
-
-
 def nodes_of(formula: Formula) -> list[NodeTerm]:
     """The nodes of a list, as they stand in it."""
     if isinstance(formula, Edges):

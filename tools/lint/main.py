@@ -48,18 +48,16 @@ class Files:
         try:
             return read_within(reader, self.texts[path])
         except Fault as fault:
-            self.tell(kind, self.model_path if isinstance(fault, InModel) else path, fault)
+            path = self.model_path if isinstance(fault, InModel) else path
+            self.is_refused = True
+            print(line_of(path, self.texts[path], fault.place, f"{fault.word}: {sentence(TOP, kind, fault.word)}"))
+            expected = sentence_of(fault)
+            if expected:
+                print(f"pipecheck: {expected}", file=sys.stderr)
+            if fault.word == "syntax" and path == self.model_path and is_test(self.texts[path]):
+                form = "lint MODEL [TEST..] [QUERY..]"
+                print(f"pipecheck: {shown(path)} is a test, and stands for the model: {form}", file=sys.stderr)
             return None
-
-    def tell(self, kind: str, path: str, fault: Fault) -> None:
-        """The line of a fault."""
-        self.is_refused = True
-        print(line_of(path, self.texts[path], fault.place, f"{fault.word}: {sentence(TOP, kind, fault.word)}"))
-        expected = sentence_of(fault)
-        if expected:
-            print(f"pipecheck: {expected}", file=sys.stderr)
-        if fault.word == "syntax" and path == self.model_path and is_test(self.texts[path]):
-            print(f"pipecheck: {shown(path)} is a test, and stands for the model: lint MODEL [TEST..] [QUERY..]", file=sys.stderr)
 
 
 def main(model_path: str, *paths: str) -> int:

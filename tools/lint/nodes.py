@@ -8,7 +8,7 @@ it likes.
 from dataclasses import dataclass
 from typing import Iterable, Iterator
 
-from tools.lint.formulas import nodes_of, reached
+from tools.lint.places import ANY, OWN, Place, Places
 from tools.lint.slips import Slip, TestFile
 from tools.lint.truth import OutOfSteps, Steps, Walk
 from tools.second.cases import Case, Op
@@ -32,9 +32,8 @@ class FreeNodes:
         self.macros = model.macros
         self.stages = {stage.name.name: stage.number.value for stage in model.stages}
         self.from_outside = from_outside
-        # the stages of the nodes that each axiom names; None for a node at another core than the micro-op's own
-        named = [[node for part in reached(axiom.body, self.macros, set()) for node in nodes_of(part)] for axiom in axioms]
-        self.stages_named = [{node.stage.name if node.core is None else None for node in nodes} for nodes in named]
+        places = Places(self.macros, from_outside)
+        self.places = [places.of(axiom.body, {}) for axiom in axioms]
         self.guards = Guards()
         self.steps = Steps(STEPS)
 
@@ -119,22 +118,27 @@ class NodeUses(Walk):
     def free_nodes(self) -> list[tuple[Op, NodeTerm]]:
         """The micro-ops of the nodes that are free in this test, each with the first term that names the node."""
         whole = Use()
-        # stages that are given to each micro-op
-        full: set[str | None] = set()
-        for axiom, stages in zip(self.model.axioms, self.model.stages_named):
+        # places whose nodes are given
+        full: set[Place] = set()
+        for axiom, places in zip(self.model.axioms, self.model.places):
+            full |= {place for place in places - full if self.is_full(place, whole.given)}
             # what names no other nodes makes none free, and one that the test makes True or False asks for no node
-            use = True if stages <= full else self.use(axiom.body, {}, True, False)
+            use = True if places <= full else self.use(axiom.body, {}, True, False)
             if isinstance(use, Use):
                 whole = both(whole, use)
-                full |= {stage for stage in stages if stage is not None and self.is_full(stage, whole.given)}
         free = whole.asked & ~(whole.given | whole.bare | whole.denied)
         nodes = ((node, number) for node, number in self.numbers.items() if free >> number & 1)
         return [(self.case.ops[op], self.terms[number]) for (op, _, _), number in nodes]
 
-    def is_full(self, stage: str, given: int) -> bool:
-        """Whether each micro-op has a node at a stage, on its own core, that is among those that are given."""
-        nodes = ((number, op.core, self.model.stages[stage]) for number, op in enumerate(self.case.ops))
-        return all(node in self.numbers and given >> self.numbers[node] & 1 for node in nodes)
+    def is_full(self, place: Place, given: int) -> bool:
+        """Whether each node at a place is among those that are given."""
+        stage = self.model.stages[place.stage]
+        for number, op in enumerate(self.case.ops):
+            cores = [op.core] if place.core == OWN else self.case.cores if place.core == ANY else [place.core]
+            nodes = [(number, core, stage) for core in cores] if op.access == place.access else []
+            if not all(node in self.numbers and given >> self.numbers[node] & 1 for node in nodes):
+                return False
+        return True
 
     def use(self, formula: Formula, env: Environment, wanted: bool, in_premise: bool) -> Use | bool:
         """The use of a formula, or of its denial where it is not wanted; its truth where the test decides it. A premise

@@ -1,5 +1,5 @@
 """Stages that no axiom names, and stages whose place is named in two ways, or once as nowhere else."""
-from dataclasses import dataclass, field
+from collections import defaultdict
 from typing import Iterable, Iterator
 
 from tools.lint.formulas import below, nodes_of, written
@@ -8,23 +8,16 @@ from tools.second.models import Formula, Model, NodeTerm, Number
 
 # where a stage stands so often on one core, and once on another, this one may be a slip
 MANY = 3
+# of a stage the nodes on the micro-op's own core, and on a core that they name
+Mentions = tuple[list[NodeTerm], list[NodeTerm]]
 
 
-@dataclass
-class Mentions:
-    """The nodes of a stage in the order of sight: on the micro-op's own core, and on a core that they name."""
-
-    own: list[NodeTerm] = field(default_factory=list)
-    named: list[NodeTerm] = field(default_factory=list)
-
-
-def mentions_in(formulas: Iterable[Formula]) -> dict[str, Mentions]:
-    """The mentions of each stage in formulas, macros not followed."""
-    found: dict[str, Mentions] = {}
+def mentions_in(formulas: Iterable[Formula]) -> defaultdict[str, Mentions]:
+    """The nodes of each stage in formulas, in the order of sight, macros not followed; of any other stage none."""
+    found: defaultdict[str, Mentions] = defaultdict(lambda: ([], []))
     nodes = [node for formula in formulas for part in below(formula) for node in nodes_of(part)]
     for node in sorted(nodes, key=lambda node: node.stage.at):
-        mentions = found.setdefault(node.stage.name, Mentions())
-        (mentions.own if node.core is None else mentions.named).append(node)
+        found[node.stage.name][node.core is not None].append(node)
     return found
 
 
@@ -32,15 +25,13 @@ def stage_slips(path: str, model: Model, bodies: list[Formula]) -> Iterator[Slip
     """Stages that no axiom names, and stages that axioms name in two ways; the rarer one is where the slip may be."""
     found = mentions_in(bodies)
     for stage in model.stages:
-        name = stage.name.name
-        mentions = found.get(name)
-        if mentions is None:
-            yield Slip(path, stage.name.at, "unused-stage", name, f"no axiom names stage {name}")
-        elif mentions.own and mentions.named:
-            here, others = sorted((mentions.own, mentions.named), key=len)
-            yield two_places(path, here, others)
-        else:
-            yield from odd_places(path, mentions.named)
+        own, named = found[stage.name.name]
+        if own and named:
+            yield two_places(path, *sorted((own, named), key=len))
+        elif named:
+            yield from odd_places(path, named)
+        elif not own:
+            yield Slip(path, stage.name.at, "unused-stage", stage.name.name, f"no axiom names stage {stage.name.name}")
 
 
 def odd_places(path: str, nodes: list[NodeTerm]) -> Iterator[Slip]:
@@ -50,7 +41,7 @@ def odd_places(path: str, nodes: list[NodeTerm]) -> Iterator[Slip]:
         if not isinstance(node.core, Number):
             return
         by_core.setdefault(node.core.value, []).append(node)
-    rare, *others = sorted(by_core.values(), key=len) or [[]]
+    rare, *others = sorted(by_core.values(), key=len)
     if len(rare) == 1 and len(others) == 1 and len(others[0]) >= MANY:
         there = f"{written(others[0][0])} in {counted(len(others[0]), 'place')}"
         yield Slip(path, rare[0].stage.at, "odd-place", rare[0].stage.name, f"{written(rare[0])} here alone, and {there}")
@@ -59,12 +50,12 @@ def odd_places(path: str, nodes: list[NodeTerm]) -> Iterator[Slip]:
 def query_stage_slips(path: str, formula: Formula, bodies: list[Formula]) -> Iterator[Slip]:
     """Stages that a query names in another way than the model, or in two ways itself."""
     of_model = mentions_in(bodies)
-    for name, mentions in mentions_in([formula]).items():
-        known = of_model.get(name, Mentions())
-        if mentions.own and known.named + mentions.named and not known.own:
-            yield two_places(path, mentions.own, known.named + mentions.named)
-        elif mentions.named and known.own + mentions.own and not known.named:
-            yield two_places(path, mentions.named, known.own + mentions.own)
+    for name, (own, named) in mentions_in([formula]).items():
+        known_own, known_named = of_model[name]
+        if own and known_named + named and not known_own:
+            yield two_places(path, own, known_named + named)
+        elif named and known_own + own and not known_named:
+            yield two_places(path, named, known_own + own)
 
 
 def two_places(path: str, here: list[NodeTerm], others: list[NodeTerm]) -> Slip:

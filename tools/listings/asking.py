@@ -37,14 +37,6 @@ class Question:
     program: Program
     variables: Sequence[Variable]
 
-    def judge(self) -> None:
-        """Refuses a variable that the listing has not."""
-        for variable in self.variables:
-            if variable.thread is None and variable.name not in self.program.locations:
-                raise Unasked(f"the listing has no location {variable.name}")
-            if variable.thread is not None and variable.thread >= len(self.program.written.head):
-                raise Unasked(f"the listing has no thread {variable.thread}")
-
     @property
     def choices(self) -> list[list[int]]:
         """What each read may get: the value at the start, and what is written there."""
@@ -58,7 +50,12 @@ class Question:
 
     def sweeps(self) -> list[Sweep]:
         """The sweeps: for each combination of the values at the end, and of what so many of the first reads get that the
-        others have no more combinations than one sweep takes."""
+        others have no more combinations than one sweep takes. A variable that the listing has not is refused."""
+        for variable in self.variables:
+            if variable.thread is None and variable.name not in self.program.locations:
+                raise Unasked(f"the listing has no location {variable.name}")
+            if variable.thread is not None and variable.thread >= len(self.program.written.head):
+                raise Unasked(f"the listing has no thread {variable.thread}")
         reads, choices = self.program.reads, self.choices
         closed = 0
         while prod(map(len, choices[closed:])) > MOST_ROWS:
@@ -78,7 +75,6 @@ class Question:
             yield tuple(self.value(variable, reads, sweep.finals) for variable in self.variables)
 
     def value(self, variable: Variable, reads: Mapping[int, int], finals: Mapping[Location, int]) -> int:
-        """The value of a variable at the end."""
         if variable.thread is None:
             location = self.program.locations[variable.name]
             return finals.get(location, self.program.initial.get(location, 0))

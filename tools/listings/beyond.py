@@ -1,6 +1,8 @@
 """What is read of a listing though `check86` refuses it."""
 from enum import Enum
 
+from tools.lint.slips import counted
+
 
 class Beyond(Enum):
     """What is there, and what becomes of it."""
@@ -25,14 +27,12 @@ class Notes:
         self.places: dict[Beyond, list[int]] = {}
 
     def note(self, what: Beyond, at: int) -> None:
-        """One more place."""
         self.places.setdefault(what, []).append(at)
 
     def lines(self) -> list[tuple[int, str]]:
         """The first place of each, with what is said of it, in the order of the text."""
         found = []
         for what, places in self.places.items():
-            more = len(places) - 1
-            rest = f", here and in {more} more {'place' if more == 1 else 'places'}" if more else ""
+            rest = f", here and in {counted(len(places) - 1, 'more place')}" if places[1:] else ""
             found.append((places[0], what.value + rest))
         return sorted(found)

@@ -23,7 +23,7 @@ from tools.listings.asking import MOST_SWEEPS, Sweep, Swept, Unasked, swept
 from tools.listings.beyond import Notes
 from tools.listings.comparing import Comparison
 from tools.listings.logs import Log, Result
-from tools.listings.programs import LOCKED, Program, read_program
+from tools.listings.programs import LOCKED, Program
 from tools.second.models import Model
 from tools.second.scopes import read_model
 from tools.second.standard_output import FAILED, UNREAD, status_of
@@ -111,7 +111,7 @@ def read_listings(answer: Answer, listings: Sequence[tuple[str, bytes]]) -> dict
     found: dict[str, tuple[str, Program]] = {}
     for path, text in listings:
         try:
-            program = read_within(lambda it: read_program(it, Notes()), text)
+            program = read_within(lambda it: Program(it, Notes()), text)
         except Fault as fault:
             sentence = f"{fault.word}: the listing is refused; pipecheck test86 says what to do"
             answer.tell("refused listings", line_of(path, text, fault.place, sentence), REFUSED)
@@ -169,7 +169,6 @@ def ask(answer: Answer, comparisons: Sequence[Comparison], checker: Checker, mod
     waiting: list[tuple[Comparison, Sweep]] = []
     for comparison in comparisons:
         try:
-            comparison.question.judge()
             waiting += [(comparison, sweep) for sweep in comparison.question.sweeps()]
             done.append(comparison)
         except Unasked as problem:

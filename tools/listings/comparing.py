@@ -31,7 +31,8 @@ class Comparison:
         condition."""
         if not self.result.states:
             return self.program.condition.variables
-        return [plain(variable, self.program.written.is_wide) for variable in self.result.variables]
+        is_wide = self.program.written.is_wide
+        return [it if it.thread is None else Variable(it.thread, register_name(it.name, is_wide)) for it in self.result.variables]
 
     @property
     def question(self) -> Question:
@@ -84,8 +85,3 @@ class Comparison:
         said = f"{condition.quantifier}: {ANSWERS[condition.is_met(self.question.variables, self.shown)]} in the model"
         in_log = self.met_by_log(condition.quantifier)
         return said if in_log is None else f"{said}, {ANSWERS[in_log]} in the log"
-
-
-def plain(variable: Variable, is_wide: bool) -> Variable:
-    """A variable of a log as the listing names it."""
-    return variable if variable.thread is None else Variable(variable.thread, register_name(variable.name, is_wide))

@@ -64,7 +64,6 @@ class Condition:
         return any(truths) == (self.quantifier == "exists")
 
     def holds(self, state: Mapping[Variable, int]) -> bool:
-        """Whether the formula holds in a state."""
         known: list[bool] = []
         for part in self.formula:
             if isinstance(part, Equation):

@@ -68,7 +68,9 @@ class Result:
     def read(self, line: str) -> str:
         """Takes in a line. What is wrong with it; nothing where nothing is."""
         head, observation = STATES.fullmatch(line), OBSERVATION.fullmatch(line)
-        if self.announced is None and head is not None:
+        if head is not None:
+            if self.announced is not None:
+                return no_line(line)
             self.announced, self.is_counted, self.is_open = int(head[1] or head[2]), head[1] is not None, True
             return ""
         if self.is_open:
@@ -84,7 +86,6 @@ class Result:
         return "" if PASSED.fullmatch(line) else no_line(line)
 
     def take(self, found: list[tuple[str, Variable, int]], times: int) -> str:
-        """Takes in a state."""
         self.there += 1
         self.times += times
         spelled, variables, state = zip(*found)

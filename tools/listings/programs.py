@@ -3,8 +3,8 @@ from dataclasses import replace
 from typing import NamedTuple
 
 from tools.listings.beyond import Beyond, Notes
-from tools.listings.conditions import Equation, Variable
-from tools.listings.reading import Instruction, Written, read_written
+from tools.listings.conditions import Variable
+from tools.listings.reading import Instruction, read_written
 from tools.second.cases import GREATEST_CORE, MOST_OPS, Location, Op
 from tools.second.tokens import Fault, Token
 
@@ -18,16 +18,11 @@ class Loaded(NamedTuple):
     token: Token
 
 
-def read_program(data: bytes, notes: Notes) -> "Program":
-    """What the bytes of a listing say, or their first fault."""
-    return Program(read_written(data, notes), notes)
-
-
 class Program:
-    """What a listing says, which is judged in the order of its text. A read has no value: it is open."""
+    """What the bytes of a listing say, which are judged in their order up to the first fault. A read has no value: it is open."""
 
-    def __init__(self, written: Written, notes: Notes) -> None:
-        self.written = written
+    def __init__(self, data: bytes, notes: Notes) -> None:
+        self.written = written = read_written(data, notes)
         self.condition = written.condition
         self.notes = notes
         # by their names, and numbered as they are named first
@@ -43,8 +38,12 @@ class Program:
         self.made: list[Op] = []
         self.texts: list[str] = []
         for start in written.starts:
-            self.judge_start(start)
-        self.judge_head()
+            self.judge_start(*start)
+        for number, name in enumerate(written.head):
+            if number > GREATEST_CORE:
+                raise Fault("core-number", name.at)
+            if name.piece != f"P{number}":
+                raise Fault("x86-column", name.at)
         self.judge_rows()
         for variable in self.condition.variables:
             if variable.thread is None:
@@ -67,7 +66,6 @@ class Program:
 
     @property
     def has_locked(self) -> bool:
-        """Whether a micro-op is locked."""
         return any(LOCKED in op.types for op in self.made)
 
     def writes_to(self, location: Location) -> list[int]:
@@ -76,29 +74,17 @@ class Program:
         return list(dict.fromkeys(value for value in values if isinstance(value, int)))
 
     def location(self, name: str) -> Location:
-        """The location of a name."""
         return self.locations.setdefault(name, Location(len(self.locations), 0, name))
 
-    def judge_start(self, start: Equation) -> None:
+    def judge_start(self, variable: Variable, value: int, token: Token) -> None:
         """A location, or a register, has one value at the start."""
-        variable, value, token = start
-        if variable.thread is None:
-            location = self.location(variable.name)
-            is_known = location in self.initial
-            self.initial[location] = value
-        else:
-            is_known = variable in self.registers
-            self.registers[variable] = value
-        if is_known:
+        location = self.location(variable.name) if variable.thread is None else None
+        if location in self.initial or variable in self.registers:
             raise Fault("again-initial", token.at)
-
-    def judge_head(self) -> None:
-        """The names of the columns."""
-        for number, name in enumerate(self.written.head):
-            if number > GREATEST_CORE:
-                raise Fault("core-number", name.at)
-            if name.piece != f"P{number}":
-                raise Fault("x86-column", name.at)
+        if location is None:
+            self.registers[variable] = value
+        else:
+            self.initial[location] = value
 
     def judge_rows(self) -> None:
         """The instructions, and how many cells a line has."""
@@ -113,7 +99,6 @@ class Program:
                 raise Fault("x86-column", end.at)
 
     def make(self, column: int, one: Instruction) -> None:
-        """Makes the micro-ops of an instruction."""
         target, source = one.target, one.source
         if target is None or source is None:
             self.add(column, "Fence", "MFENCE", types=("MFENCE",))
@@ -130,7 +115,7 @@ class Program:
             self.add(column, "Write", f"MOV [{target.piece}],{stored}", target, value)
         elif source.kind == "number":
             self.notes.note(Beyond.CONSTANT, one.word.at)
-            self.hold(column, target, int(source.piece))
+            self.hold(column, target, source.value)
         else:
             self.hold(column, target, Loaded(len(self.made), target))
             self.add(column, "Read", f"MOV {target.piece},[{source.piece}], and {target.piece}", source)
@@ -147,7 +132,7 @@ class Program:
     def number_in(self, column: int, source: Token) -> int:
         """What is written: a number, or what a register holds that was not loaded."""
         if source.kind == "number":
-            return int(source.piece)
+            return source.value
         held = self.registers.get(Variable(column, source.piece), 0)
         if isinstance(held, Loaded):
             raise Fault("syntax", source.at)

@@ -97,26 +97,20 @@ class HerdReader(ListingReader):
         """The token behind the next one, which is not the end."""
         return self.all_tokens[self.next_index + 1]
 
-    def passes(self, piece: str) -> bool:
-        """Whether this symbol comes next, which is passed over."""
-        is_there = self.sees(piece)
-        if is_there:
-            self.take()
-        return is_there
-
     def sees_after(self, *pieces: str) -> bool:
         """Whether the token behind the next one is one of these symbols."""
         return self.later.kind == "symbol" and self.later.piece in pieces
 
     def written(self, title: str, start: int) -> Written:
-        """The whole of it."""
         starts = self.within("{", "}", self.start_value)
         head, _ = self.cells(lambda: self.expect_kind("name"))
         rows = []
         while not self.sees("~", "exists", "forall", "locations"):
             rows.append(self.cells(self.instruction))
+        # what herd is to print beside the condition's
         while self.sees("locations"):
-            self.pass_locations()
+            self.notes.note(Beyond.LOCATIONS, self.take().at)
+            self.within("[", "]", self.variable)
         condition = self.condition()
         self.expect_kind("end")
         return Written(self.is_wide, title, start, tuple(starts), head, tuple(rows), condition)
@@ -203,13 +197,7 @@ class HerdReader(ListingReader):
 
     # what stands behind them
 
-    def pass_locations(self) -> None:
-        """What herd is to print beside the condition's."""
-        self.notes.note(Beyond.LOCATIONS, self.take().at)
-        self.within("[", "]", self.variable)
-
     def condition(self) -> Condition:
-        """The quantifier and the formula."""
         first = self.next
         quantifier = "~exists" if self.passes("~") else "forall" if self.sees("forall") else "exists"
         self.expect(quantifier.lstrip("~"))

@@ -3,7 +3,7 @@ from dataclasses import replace
 from typing import Mapping
 
 from tools.listings.beyond import Beyond, Notes
-from tools.listings.programs import Loaded, Program, read_program
+from tools.listings.programs import Loaded, Program
 from tools.second.cases import Location
 from tools.second.tokens import Fault
 from tools.texts.writing_tests import notes as comments
@@ -13,7 +13,7 @@ from tools.texts.writing_tests import op_text, printable, value_line, within_lim
 def test_of_herd(data: bytes, notes: Notes) -> str:
     """The text of the test that a listing says, or the listing's first fault. What is read of it beyond `check86` is
     noted."""
-    program = read_program(data, notes)
+    program = Program(data, notes)
     if program.reloads:
         raise Fault("x86-reload", program.reloads[0].at)
     lines = lines_of(program, *outcome_of(program, notes))

@@ -7,11 +7,16 @@ from typing import Iterator, Sequence
 from tools.mend.copies import Final, Outcome, Program, text_of
 from tools.mend.worlds import Edge, World
 from tools.second.models import Model
+from tools.second.patterns import ENDING, value_text
 from tools.second.positions import NodeNames
+from tools.suite.allowing import Machines
+from tools.suite.calling import memory_limit
 from tools.suite.pairs import Checker
 from tools.texts.answers import Asked, read_answer
 
-OBSERVABLE, UNOBSERVABLE = "observable", "unobservable"
+OBSERVABLE = "observable"
+# the status of a machine that does not run such tests
+NOT_RUN = 3
 
 
 class Unanswered(Exception):
@@ -96,6 +101,23 @@ class Questions:
             for outcome, row in zip(self.program.rows(final), rows):
                 if row.endswith(f" {OBSERVABLE}"):
                     yield outcome
+
+    def allowed(self, machines: Machines, name: str) -> set[Outcome] | None:
+        """The outcomes that come up on the machine of a memory model; None where it does not run the program."""
+        found: set[Outcome] = set()
+        for final in self.program.finals:
+            command = machines.command(name, self.file(f"machine{ENDING}", self.pattern(final)))
+            with tempfile.TemporaryFile() as out:
+                status = self.checker.calls.status(command, memory_limit(""), self.checker.seconds, out)
+                out.seek(0)
+                lines = out.read().decode("ascii", "replace").splitlines()
+            if status == NOT_RUN:
+                return None
+            if status != 0 or lines[-1:] != ["end"]:
+                raise Unanswered(f"the machine {name}", status, b"")
+            rows = self.program.rows(final)
+            found.update(it for it in rows if " ".join(["row", *map(value_text, it.reads)]) in lines)
+        return found
 
     def formula(self, edge: Edge) -> str:
         """That an edge is there."""

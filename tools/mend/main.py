@@ -12,7 +12,6 @@ from typing import Iterator
 
 from tools import TOP
 from tools.ending import SIGNALS
-from tools.mend.allowed import outcomes_allowed
 from tools.mend.asking import Questions, Unanswered, answer_of
 from tools.mend.copies import Outcome, free_name, program_of
 from tools.mend.orders import Found, Search
@@ -80,7 +79,7 @@ class Mending:
         others = [outcome for outcome in shown if outcome != stated]
         allowed = None
         if self.memory_model in self.machines.names:
-            allowed = outcomes_allowed(self.questions, self.machines, self.memory_model)
+            allowed = self.questions.allowed(self.machines, self.memory_model)
         kept = others if allowed is None else [outcome for outcome in others if outcome in allowed]
         is_allowed = None if allowed is None else stated in allowed
         heading = [*self.telling.heading(is_allowed, len(others), len(kept)), ""]

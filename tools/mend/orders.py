@@ -134,7 +134,6 @@ class Search:
         return not self.is_akin(order) or all(self.gets(op, outcome) == self.gets(op, self.program.stated) for op in reads)
 
     def gets(self, op: int, outcome: Outcome) -> Value:
-        """What an open read gets."""
         return outcome.reads[self.program.opens.index(op)]
 
     def choices(self) -> list[Choice]:

@@ -47,7 +47,6 @@ class Place:
     core: int
 
     def node(self, case: Case, op: int, other: int) -> Node:
-        """The node of a micro-op there."""
         cores = {OWN: case.ops[op].core, OTHERS: case.ops[other].core}
         return op, cores.get(self.core, self.core), self.stage
 

@@ -1,7 +1,6 @@
 """What an axiom does to the shipped tests of a memory model: of how many the verdict changes."""
 import os
 from dataclasses import dataclass
-from typing import Sequence
 
 from tools.mend.asking import answer_of
 from tools.suite.allowing import Rows
@@ -49,9 +48,5 @@ class SuiteTests:
 
     def counts(self, model_path: str) -> Counts:
         """What a model with one axiom more changes."""
-        gone = {is_allowed: self.gone(model_path, tests) for is_allowed, tests in self.shown.items()}
+        gone = {it: sum(not self.is_shown(model_path, test) for test in tests) for it, tests in self.shown.items()}
         return Counts(gone[True], len(self.shown[True]), gone[False], len(self.shown[False]))
-
-    def gone(self, model_path: str, tests: Sequence[File]) -> int:
-        """How many of these tests a model does not show."""
-        return sum(not self.is_shown(model_path, test) for test in tests)

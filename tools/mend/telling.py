@@ -65,7 +65,6 @@ class Telling:
         return ", ".join([*reads, *final])
 
     def lost(self, order: Order) -> Iterator[str]:
-        """Which outcomes an order loses."""
         for outcome in order.lost[:3]:
             yield f"    forbids, too: {self.outcome(outcome)}"
         if len(order.lost) > 3:

@@ -10,7 +10,7 @@ import os
 import re
 from collections.abc import Iterable
 from dataclasses import dataclass, field
-from functools import cache
+from functools import cache, cached_property
 
 from tools import TOP
 
@@ -38,7 +38,7 @@ class Import:
     module: list[str]
     name: str
 
-    @property
+    @cached_property
     def path(self) -> str:
         """Where that file stands. A constructor may be named after the type that it is of."""
         folder = f"{TOP}/crates/{self.crate}/{self.folder}"

@@ -57,7 +57,8 @@ def answer(positions: Positions, version: int = 1) -> Graph | list[Step]:
             steps.append(clash)
             if not waiting:
                 return steps
-            failures.learn(branch.levels_of(clash))
+            # the literal that was not asserted has no level
+            failures.learn({branch.levels[literal] for literal in clash.literals if literal in branch.levels})
             branch, side = waiting.pop()
             clash = branch.assert_side(side, failures.level)
             continue
@@ -108,10 +109,6 @@ class Branch:
                 self.levels.setdefault(fact, level)
         return None
 
-    def levels_of(self, clash: Clash) -> set[int]:
-        """The levels of the literals that clash, but for that of the one that was not asserted."""
-        return {self.levels[literal] for literal in clash.literals if literal in self.levels}
-
     def chain(self, start: int, end: int) -> list[int]:
         """The shortest chain of edges that rule 2 takes; one node where both ends are one."""
         edges = self.edges
@@ -161,10 +158,9 @@ class Branch:
                 one_sided = choice
         if one_sided is not None or not candidates:
             return one_sided
-        return self.choice_by_failures(candidates, failures) if failures.count else candidates[0]
-
-    def choice_by_failures(self, candidates: list[Signed], failures: Failures) -> Signed:
-        """Which of the candidates is split, none of which has a closed side, where something has failed."""
+        # none of the candidates has a closed side
+        if not failures.count:
+            return candidates[0]
         forced = self.alternatives.forced(self.order, candidates)
         if forced is not None:
             return forced

@@ -260,7 +260,6 @@ class CaseReader(Reader):
         return ExpectationItem(first.piece, first.at)
 
     def numbers(self, count: int) -> list[Token]:
-        """So many numbers."""
         return [self.expect_kind("number") for _ in range(count)]
 
     def address(self, *words: str) -> Address:

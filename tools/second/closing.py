@@ -5,18 +5,8 @@ one. A part is *closed* where a literal that it asserts would clash by itself. A
 where two literals would clash together: two of its own, or one of its own and one of each alternative of a disjunction
 that it asserts.
 """
-from dataclasses import dataclass
-
 from tools.second.orders import Order
 from tools.second.positions import Inner, Leaf, Positions, Signed
-
-
-@dataclass
-class Parts:
-    """What a position asserts: the literals in preorder, and the choices."""
-
-    literals: list[Leaf]
-    choices: list[Signed]
 
 
 class Alternatives:
@@ -24,14 +14,14 @@ class Alternatives:
 
     def __init__(self, positions: Positions) -> None:
         self.positions = positions
-        self.known: dict[Signed, Parts] = {}
+        self.known: dict[Signed, tuple[list[Leaf], list[Signed]]] = {}
 
-    def parts(self, place: Signed) -> Parts:
-        """What the position asserts with this sign."""
+    def parts(self, place: Signed) -> tuple[list[Leaf], list[Signed]]:
+        """What the position asserts with this sign: the literals in preorder, and the choices."""
         if place not in self.known:
             found = list(self.positions.asserted(place))
             literals = [part for part in found if isinstance(part, Leaf)]
-            self.known[place] = Parts(literals, [part for part in found if not isinstance(part, Leaf)])
+            self.known[place] = literals, [part for part in found if not isinstance(part, Leaf)]
         return self.known[place]
 
     def of(self, choice: Signed) -> list[Signed]:
@@ -48,20 +38,20 @@ class Alternatives:
 
     def is_closed(self, order: Order, place: Signed) -> bool:
         """Whether a literal of the position would clash."""
-        return any(map(order.would_clash, self.parts(place).literals))
+        return any(map(order.would_clash, self.parts(place)[0]))
 
     def is_closed_beside(self, order: Order, place: Signed, others: list[Leaf]) -> bool:
         """Whether a literal of the position would clash, by itself or with one of the others."""
         return any(
             order.would_clash(leaf) or any(clash_together(order, leaf, other) for other in others)
-            for leaf in self.parts(place).literals
+            for leaf in self.parts(place)[0]
         )
 
     def is_as_good_as_closed(self, order: Order, place: Signed) -> bool:
         """Whether the alternative would close the branch: by its literals, or by a disjunction of closed alternatives."""
-        parts = self.parts(place)
-        return self.is_closed_beside(order, place, parts.literals) or any(
-            all(self.is_closed_beside(order, inner, parts.literals) for inner in self.of(choice)) for choice in parts.choices
+        literals, choices = self.parts(place)
+        return self.is_closed_beside(order, place, literals) or any(
+            all(self.is_closed_beside(order, inner, literals) for inner in self.of(choice)) for choice in choices
         )
 
     def forced(self, order: Order, choices: list[Signed]) -> Signed | None:
@@ -70,7 +60,6 @@ class Alternatives:
         return next((choice for count in (0, 1) for choice in choices if left[choice] == count), None)
 
     def open_count(self, order: Order, choice: Signed) -> int:
-        """How many alternatives are not closed."""
         return sum(not self.is_closed(order, place) for place in self.of(choice))
 
 

@@ -13,7 +13,6 @@ def with_axioms(model: Model, numbers: list[int]) -> Model:
 
 
 def without(numbers: list[int], left_out: int) -> list[int]:
-    """The numbers but for this one."""
     return [number for number in numbers if number != left_out]
 
 

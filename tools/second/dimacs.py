@@ -8,7 +8,7 @@ alone, so that one direction is enough).
 """
 from itertools import permutations
 
-from tools.second.grounding import Conjunction, Literal, Tree, nodes_of
+from tools.second.grounding import Literal, Tree, nodes_of
 from tools.second.meaning import Node
 
 
@@ -33,7 +33,6 @@ class Clauses:
         return self.variables
 
     def truth(self) -> int:
-        """A variable that is true."""
         variable = self.new_variable()
         self.clauses.append([variable])
         return variable
@@ -46,7 +45,7 @@ class Clauses:
             return self.atom(tree) if tree.wanted else -self.atom(tree)
         below = [self.literal_of(member) for member in tree.members]
         variable = self.new_variable()
-        if isinstance(tree, Conjunction):
+        if tree.is_conjunction:
             self.clauses += [[-variable, member] for member in below]
         else:
             self.clauses.append([-variable, *below])

@@ -8,8 +8,9 @@ from tools.second.meaning import Environment, Meaning, Node, holds
 from tools.second.models import Binary, Edges, Expand, Formula, Model, Nodes, Not, Quantified, Static
 
 
-def later_nodes(nodes: list[Node], edges: list[tuple[Node, Node]]) -> dict[Node, set[Node]]:
-    """Of each node those that a chain of edges leads to (Warshall's algorithm)."""
+def false_axioms(model: Model, case: Case, nodes: list[Node], edges: list[tuple[Node, Node]]) -> list[str]:
+    """What is wrong with a witness: the titles of the axioms that are false in its world."""
+    # of each node those that a chain of edges leads to (Warshall's algorithm)
     later: dict[Node, set[Node]] = {node: set() for node in nodes}
     for start, end in edges:
         later[start].add(end)
@@ -17,12 +18,6 @@ def later_nodes(nodes: list[Node], edges: list[tuple[Node, Node]]) -> dict[Node,
         for reached in later.values():
             if middle in reached:
                 reached |= later[middle]
-    return later
-
-
-def false_axioms(model: Model, case: Case, nodes: list[Node], edges: list[tuple[Node, Node]]) -> list[str]:
-    """What is wrong with a witness: the titles of the axioms that are false in its world."""
-    later = later_nodes(nodes, edges)
     if any(node in reached for node, reached in later.items()):
         return ["the edges are no order of the nodes"]
     evaluator = Evaluator(model, case, later)

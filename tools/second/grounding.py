@@ -23,20 +23,14 @@ class Literal:
 
 
 @dataclass(frozen=True)
-class Conjunction:
-    """Each member holds; there are at least two."""
+class Group:
+    """A conjunction, each member of which holds, or a disjunction, of which one does; there are at least two members."""
 
+    is_conjunction: bool
     members: tuple["Tree", ...]
 
 
-@dataclass(frozen=True)
-class Disjunction:
-    """Some member holds; there are at least two."""
-
-    members: tuple["Tree", ...]
-
-
-Tree = Union[bool, Literal, Conjunction, Disjunction]
+Tree = Union[bool, Literal, Group]
 # makes one tree of members, a conjunction or not
 Join = Callable[[bool, list[Tree]], Tree]
 
@@ -49,19 +43,18 @@ def ground(model: Model, case: Case) -> Tree:
 def joined(conjunction: bool, members: list[Tree]) -> Tree:
     """The members as one tree: constants are folded, a member of the same kind is taken apart, and equal ones count
     once."""
-    kind: type[Conjunction] | type[Disjunction] = Conjunction if conjunction else Disjunction
     kept: dict[Tree, None] = {}
     for member in members:
         if isinstance(member, bool):
             if member is not conjunction:
                 return member
-        elif isinstance(member, (Conjunction, Disjunction)) and isinstance(member, kind):
+        elif isinstance(member, Group) and member.is_conjunction is conjunction:
             kept.update(dict.fromkeys(member.members))
         else:
             kept.setdefault(member)
     if not kept:
         return conjunction
-    return list(kept)[0] if len(kept) == 1 else kind(tuple(kept))
+    return list(kept)[0] if len(kept) == 1 else Group(conjunction, tuple(kept))
 
 
 def nested(conjunction: bool, members: list[Tree]) -> Tree:
@@ -70,10 +63,8 @@ def nested(conjunction: bool, members: list[Tree]) -> Tree:
     for member in reversed(members):
         if member is conjunction or tree is (not conjunction):
             continue
-        if tree is conjunction or member is (not conjunction):
-            tree = member
-        else:
-            tree = Conjunction((member, tree)) if conjunction else Disjunction((member, tree))
+        is_alone = tree is conjunction or member is (not conjunction)
+        tree = member if is_alone else Group(conjunction, (member, tree))
     return tree
 
 
@@ -122,7 +113,6 @@ class Grounder(Meaning):
                 yield inside
 
     def atoms(self, formula: Nodes | Edges, env: Environment) -> list[tuple[Node, Node | None]]:
-        """The nodes and edges of a list."""
         if isinstance(formula, Nodes):
             return [(self.node(term, env), None) for term in formula.members]
         return [(self.node(term.start, env), self.node(term.end, env)) for term in formula.members]

@@ -139,6 +139,5 @@ class TreeJudge:
         return True
 
     def below(self, branch: Branch, side: list[Signed]) -> Branch:
-        """A branch with these positions asserted, too."""
         facts = set(self.positions.asserted(*side))
         return branch.union(facts, *(fact.implied for fact in facts if isinstance(fact, Leaf)))

@@ -33,12 +33,8 @@ class Instruction:
     register: Token | None = None
 
 
-@dataclass(frozen=True)
-class Row:
-    """The cells of a line, and the `;` after them."""
-
-    cells: tuple[Instruction | None, ...]
-    end: Token
+# the cells of a line, and the `;` after them
+Row = tuple[tuple[Instruction | None, ...], Token]
 
 
 @dataclass(frozen=True)
@@ -107,7 +103,7 @@ class ListingReader(Reader):
         head, _ = self.cells(lambda: self.expect_kind("name"))
         rows = []
         while not self.sees("~", "exists"):
-            rows.append(Row(*self.cells(self.cell)))
+            rows.append(self.cells(self.cell))
         condition = self.next
         self.passes("~")
         self.expect("exists")
@@ -123,7 +119,6 @@ class ListingReader(Reader):
         return tuple(cells), self.expect(";")
 
     def cell(self) -> Instruction | None:
-        """A cell, which may be empty."""
         if self.sees("MFENCE"):
             return Instruction(self.take())
         if not self.sees("MOV"):
@@ -225,16 +220,16 @@ class Judge:
     def judge_rows(self) -> None:
         """The instructions, and how many cells a line has."""
         count = 0
-        for row in self.listing.rows:
-            for column, one in enumerate(row.cells):
+        for cells, end in self.listing.rows:
+            for column, one in enumerate(cells):
                 if one is None:
                     continue
                 if count == MOST_OPS:
                     raise Fault("too-many-ops", one.word.at)
                 count += 1
                 self.judge_instruction(column, one)
-            if len(row.cells) != len(self.listing.head):
-                raise Fault("x86-column", row.end.at)
+            if len(cells) != len(self.listing.head):
+                raise Fault("x86-column", end.at)
 
     def judge_instruction(self, column: int, one: Instruction) -> None:
         """A thread loads a register once."""
@@ -262,8 +257,8 @@ class Judge:
         """The micro-ops, column by column."""
         found: list[Item] = []
         for column in range(len(self.listing.head)):
-            for row in self.listing.rows:
-                one = row.cells[column]
+            for cells, _ in self.listing.rows:
+                one = cells[column]
                 if one is not None:
                     found.append(self.op(len(found), column, one))
         return found

@@ -57,7 +57,6 @@ class Refused(Exception):
 
 
 def file_bytes(kind: str, path: str) -> bytes:
-    """The bytes of a file within its limit."""
     with open(path, "rb") as file:
         data = file.read(LIMIT + 1)
     if len(data) > LIMIT:

@@ -271,7 +271,6 @@ class ModelReader(Reader):
         return Nodes(tuple(self.within("[", "]", self.node)), first.at)
 
     def args(self) -> tuple[Arg, ...]:
-        """All names and numbers that follow."""
         found = []
         while self.is_name() or self.sees_kind("number"):
             found.append(self.arg())
@@ -284,7 +283,6 @@ class ModelReader(Reader):
         return self.name()
 
     def node(self) -> NodeTerm:
-        """A micro-op at a location."""
         self.expect("(")
         op = self.name()
         self.expect(",")

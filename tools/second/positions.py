@@ -9,7 +9,7 @@ from dataclasses import dataclass
 from typing import Iterator
 
 from tools.second.cases import GREATEST_CORE, Case
-from tools.second.grounding import Conjunction, Disjunction, Grounder, Literal, Tree, nested
+from tools.second.grounding import Grounder, Group, Literal, Tree, nested
 from tools.second.meaning import Node
 from tools.second.models import Model
 from tools.second.tokens import GREATEST_NUMBER
@@ -104,8 +104,8 @@ class Positions:
         """Adds a tree and answers its position. It loops on right members, which may be nested deeply."""
         first = len(self.rows)
         waiting: list[tuple[int, bool]] = []
-        while isinstance(tree, (Conjunction, Disjunction)):
-            waiting.append((len(self.rows), isinstance(tree, Disjunction)))
+        while isinstance(tree, Group):
+            waiting.append((len(self.rows), not tree.is_conjunction))
             # the place is taken before the members have theirs
             self.rows.append(Leaf(0, None, False))
             left, tree = tree.members

@@ -13,12 +13,10 @@ Row = tuple[tuple[str, ...], Callable[..., bool]]
 
 
 def of_one(test: Callable[[Op], bool]) -> Row:
-    """A predicate of a micro-op."""
     return (MICROOP,), lambda case, i: test(case.ops[i])
 
 
 def of_pair(test: Callable[[Op, Op], bool]) -> Row:
-    """A predicate of two micro-ops."""
     return (MICROOP, MICROOP), lambda case, i, j: test(case.ops[i], case.ops[j])
 
 
@@ -31,21 +29,6 @@ def virtual(op: Op) -> Page:
     """The virtual address of a read or a write."""
     assert op.va is not None
     return op.va
-
-
-def same_physical_tag(i: Op, j: Op) -> bool:
-    """Both are at pages, of one tag."""
-    return isinstance(i.pa, Page) and isinstance(j.pa, Page) and i.pa.tag == j.pa.tag
-
-
-def maps_tag_of(i: Op, j: Op) -> bool:
-    """i's value is an entry that maps to the tag of j's page."""
-    return isinstance(i.value, Entry) and isinstance(j.pa, Page) and i.value.tag == j.pa.tag
-
-
-def on_core(case: Case, core: int, i: int) -> bool:
-    """The micro-op is on this core."""
-    return case.ops[i].core == core
 
 
 def has_initial(case: Case, i: int) -> bool:
@@ -67,7 +50,7 @@ PREDICATES: dict[str, Row] = {
     "IsAnyWrite": of_one(lambda i: i.access == "Write"),
     "IsAnyFence": of_one(lambda i: i.access == "Fence"),
     "AccessType": ((PLAIN, MICROOP), lambda case, word, i: word in case.ops[i].types),
-    "OnCore": ((CORE, MICROOP), on_core),
+    "OnCore": ((CORE, MICROOP), lambda case, core, i: bool(case.ops[i].core == core)),
     "SameCore": of_pair(lambda i, j: i.core == j.core),
     "SameThread": of_pair(lambda i, j: i.thread == j.thread),
     "SameMicroop": of_pair(lambda i, j: (i.g, i.n) == (j.g, j.n)),
@@ -77,7 +60,7 @@ PREDICATES: dict[str, Row] = {
     "SameVirtualAddress": of_accesses(virtual),
     "SamePhysicalAddress": of_accesses(lambda op: op.pa),
     "SameVirtualTag": of_accesses(lambda op: virtual(op).tag),
-    "SamePhysicalTag": of_pair(same_physical_tag),
+    "SamePhysicalTag": of_pair(lambda i, j: isinstance(i.pa, Page) and isinstance(j.pa, Page) and i.pa.tag == j.pa.tag),
     "SameIndex": of_accesses(lambda op: virtual(op).index),
     "SameData": of_accesses(lambda op: op.value),
     "DataFromInitialStateAtPA": ((MICROOP,), has_initial),
@@ -85,7 +68,8 @@ PREDICATES: dict[str, Row] = {
     "HasDependency": ((PLAIN, MICROOP, MICROOP), lambda case, kind, i, j: (kind, i, j) in case.dependencies),
     # i is at the page-table entry of j's virtual tag
     "EntryOf": of_pair(lambda i, j: j.va is not None and i.pa == EntryAddress(j.va.tag)),
-    "MapsTagOf": of_pair(maps_tag_of),
+    # i's value is an entry that maps to the tag of j's page
+    "MapsTagOf": of_pair(lambda i, j: isinstance(i.value, Entry) and isinstance(j.pa, Page) and i.value.tag == j.pa.tag),
     "MarkedAccessed": of_one(lambda i: isinstance(i.value, Entry) and i.value.accessed == 1),
     "MarkedDirty": of_one(lambda i: isinstance(i.value, Entry) and i.value.dirty == 1),
 }

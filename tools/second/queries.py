@@ -32,7 +32,6 @@ class QueryJudge(NameJudge):
     """Judges the names of a query as those of an axiom. The bodies of its macros stand in the model."""
 
     def body(self, formula: Formula, scope: Scope) -> None:
-        """The body of a macro, where it is expanded."""
         try:
             NameJudge(self.model).formula(formula, scope)
         except Fault as fault:

@@ -6,32 +6,26 @@ clash by themselves are struck out. A last member left is asserted; with none le
 open, the least world is the witness.
 """
 from copy import copy
-from dataclasses import dataclass, replace
+from dataclasses import replace
 from typing import Callable
 
 from tools.second.cases import Case
 from tools.second.evaluating import false_axioms
-from tools.second.grounding import Conjunction, Disjunction, Literal, Tree, ground, nodes_of
+from tools.second.grounding import Group, Literal, Tree, ground, nodes_of
 from tools.second.meaning import Node
 from tools.second.models import Model
 from tools.second.orders import Order
 from tools.second.positions import Leaf
 
 Edge = tuple[Node, Node]
-
-
-@dataclass(frozen=True)
-class Witness:
-    """The nodes of a world, and the edges whose chains are its order."""
-
-    nodes: list[Node]
-    edges: list[Edge]
+# the nodes of a world, and the edges whose chains are its order
+Witness = tuple[list[Node], list[Edge]]
 
 
 def is_observable(model: Model, case: Case) -> bool:
     """Whether some world makes every axiom true; the witness is judged again by the written axioms."""
     witness = search(ground(model, case))
-    if witness is not None and false_axioms(model, case, witness.nodes, witness.edges):
+    if witness is not None and false_axioms(model, case, *witness):
         raise AssertionError("the witness makes an axiom false")
     return witness is not None
 
@@ -42,7 +36,7 @@ def search(tree: Tree) -> Witness | None:
     done = explore(branch) if branch.assert_tree(tree) else None
     if done is None:
         return None
-    return Witness([node for node, k in done.number.items() if done.order.present >> k & 1], list(done.edges))
+    return [node for node, k in done.number.items() if done.order.present >> k & 1], list(done.edges)
 
 
 def explore(branch: "Branch") -> "Branch | None":
@@ -73,7 +67,7 @@ class Branch:
         self.number = {node: k for k, node in enumerate(nodes)}
         self.order = Order(len(nodes))
         self.edges: dict[Edge, None] = {}
-        self.disjunctions: list[Disjunction] = []
+        self.disjunctions: list[Group] = []
 
     def copy(self) -> "Branch":
         other = copy(self)
@@ -88,9 +82,9 @@ class Branch:
         """Asserts a tree; False where the branch clashes, and is then of no further use."""
         if isinstance(tree, bool):
             return tree
-        if isinstance(tree, Conjunction):
+        if isinstance(tree, Group) and tree.is_conjunction:
             return all(self.assert_tree(member) for member in tree.members)
-        if isinstance(tree, Disjunction):
+        if isinstance(tree, Group):
             self.disjunctions.append(tree)
             return True
         leaf = self.leaf(tree)
@@ -108,13 +102,13 @@ class Branch:
         if isinstance(tree, Literal):
             return is_true(self.leaf(tree))
         found = (self.holds(member, is_true) for member in tree.members)
-        return all(found) if isinstance(tree, Conjunction) else any(found)
+        return all(found) if tree.is_conjunction else any(found)
 
-    def members_left(self, disjunction: Disjunction) -> list[Tree]:
+    def members_left(self, disjunction: Group) -> list[Tree]:
         """The members that are not struck out: those that do not close the branch by one literal alone."""
         return [it for it in disjunction.members if self.holds(it, lambda leaf: not self.order.would_clash(leaf))]
 
-    def open_disjunctions(self) -> list[Disjunction]:
+    def open_disjunctions(self) -> list[Group]:
         """The disjunctions that the least world does not make true."""
         return [it for it in self.disjunctions if not self.holds(it, self.order.is_true)]
 

@@ -6,7 +6,6 @@ literals that it names. Where the left side of a split does not need the split's
 was split, so that they stand for the split and both of its sides; else where the right side does not, its steps do. Where
 both sides need it, the split needs the levels of both but its own, and the one of its choice.
 """
-from dataclasses import dataclass
 from typing import Iterator
 
 from tools.second.answering import Step
@@ -14,14 +13,8 @@ from tools.second.positions import Clash, Leaf, Positions, Signed
 
 # the levels of the choices and of the literals of a branch
 Levels = dict[Signed | Leaf, int]
-
-
-@dataclass(frozen=True)
-class Refuted:
-    """Steps that close a branch, and the levels that they need."""
-
-    steps: list[Step]
-    needed: set[int]
+# steps that close a branch, and the levels that they need
+Refuted = tuple[list[Step], set[int]]
 
 
 def shortened(positions: Positions, steps: list[Step], version: int) -> list[Step]:
@@ -37,18 +30,19 @@ def shortened(positions: Positions, steps: list[Step], version: int) -> list[Ste
                 levels.setdefault(fact, level)
         step = next(waiting)
         if isinstance(step, Clash):
-            return Refuted([step], {levels[literal] for literal in step.literals})
+            return [step], {levels[literal] for literal in step.literals}
         left_side, right_side = positions.sides(step, version)
-        left = branch(left_side, levels, level + 1)
-        if level + 1 not in left.needed:
+        left, needed_left = branch(left_side, levels, level + 1)
+        if level + 1 not in needed_left:
             pass_branch(waiting)
-            return left
-        right = branch(right_side, levels, level + 1)
-        if level + 1 not in right.needed:
-            return right
-        return Refuted([step, *left.steps, *right.steps], (left.needed | right.needed) - {level + 1} | {levels[step]})
+            return left, needed_left
+        right, needed_right = branch(right_side, levels, level + 1)
+        if level + 1 not in needed_right:
+            return right, needed_right
+        return [step, *left, *right], (needed_left | needed_right) - {level + 1} | {levels[step]}
 
-    return branch([(0, False)], {}, 0).steps
+    found, _ = branch([(0, False)], {}, 0)
+    return found
 
 
 def pass_branch(steps: Iterator[Step]) -> None:

@@ -6,12 +6,11 @@ numbers one is at most the other.
 """
 from itertools import permutations
 
-from tools.second.grounding import Conjunction, Literal, Tree, nodes_of
+from tools.second.grounding import Literal, Tree, nodes_of
 from tools.second.meaning import Node
 
 
 def name(node: Node) -> str:
-    """A node's part of a symbol."""
     return "_".join(map(str, node))
 
 
@@ -30,8 +29,7 @@ def term(tree: Tree) -> str:
     if isinstance(tree, bool):
         return "true" if tree else "false"
     if not isinstance(tree, Literal):
-        word = "and" if isinstance(tree, Conjunction) else "or"
-        return f"({word} {' '.join(map(term, tree.members))})"
+        return f"({'and' if tree.is_conjunction else 'or'} {' '.join(map(term, tree.members))})"
     if tree.end is None:
         symbol = there(tree.start)
     else:

@@ -50,7 +50,6 @@ class Token:
 
     @property
     def value(self) -> int:
-        """What a number says."""
         return int(self.piece)
 
 

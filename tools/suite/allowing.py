@@ -78,12 +78,7 @@ def line_of_unnamed(model: File, known: set[str]) -> str:
     text = model.text or b""
     named = memory_model_of(text)
     sentence = named.fault or f"no row and no machine has the memory model {named.name}"
-    said = f"unnamed: {sentence}; known are {listed(sorted(known))}, named once by a comment {FORM}"
+    *names, last = sorted(known) or ["none"]
+    listed = " and ".join([", ".join(names), last] if names else [last])
+    said = f"unnamed: {sentence}; known are {listed}, named once by a comment {FORM}"
     return line_of(model.path, text, named.at, said)
-
-
-def listed(names: list[str]) -> str:
-    """Names as a part of a sentence."""
-    if len(names) < 2:
-        return "".join(names) or "none"
-    return ", ".join(names[:-1]) + " and " + names[-1]

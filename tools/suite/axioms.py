@@ -25,12 +25,10 @@ NEEDED = "untested or not needed"
 def row_of(title: str, tests: Sequence[File], whole: Sequence[Found], rest: Sequence[Found]) -> list[str]:
     """The row of an axiom: how many verdicts change without it, and the first test whose does, or that none does; and on how many
     there is none with it or without it."""
-    unknown = [test.name for test, here, there in zip(tests, whole, rest) if here.fault or there.fault]
-    changed = [
-        test.name for test, here, there in zip(tests, whole, rest)
-        if not here.fault and not there.fault and here.verdict != there.verdict
-    ]
-    said = [changed[0]] if changed else []
+    pairs = list(zip(tests, whole, rest))
+    unknown = [test.name for test, here, there in pairs if here.fault or there.fault]
+    changed = [test.name for test, here, there in pairs if "" != here.verdict != there.verdict != ""]
+    said = changed[:1]
     if unknown:
         said.append(f"no verdict on {len(unknown)}, the first {unknown[0]}")
     return [title, str(len(changed)), "; ".join(said) or NEEDED]

@@ -32,7 +32,6 @@ class Baseline:
             self.cells[row[0], row[1]] = row[2]
 
     def has(self, pair: tuple[str, str], cell: str) -> bool:
-        """Whether a pair had this cell."""
         return self.cells.get(pair) == cell
 
     def new(self, cells: Cells) -> dict[tuple[str, str], str]:

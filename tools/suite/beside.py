@@ -13,24 +13,15 @@ LINT_SECONDS = 60.0
 LINTED = (0, 1, 3, 4)
 
 
-class Lint:
-    """Calls of lint, one for each model with all tests."""
-
-    def __init__(self, top: str, tests: Sequence[File], calls: Calls, seconds: float) -> None:
-        self.lint = [*PYTHON, os.path.join(top, "tools"), "lint"]
-        self.paths = [test.path for test in tests]
-        self.calls = calls
-        self.seconds = max(LINT_SECONDS, seconds)
-
-    def lines(self, model: File) -> list[str]:
-        """What lint says of a model and the tests."""
-        with tempfile.TemporaryFile() as out:
-            command = [*self.lint, model.path, *self.paths]
-            try:
-                status = self.calls.status(command, None, self.seconds, out)
-            except OSError:
-                # more tests than one call takes
-                status = None
-            out.seek(0)
-            said = os.fsdecode(out.read()).split("\n")[:-1]
-        return said if status in LINTED else [*said, f"not linted: {shown(model.path)}"]
+def lint_lines(top: str, tests: Sequence[File], calls: Calls, seconds: float, model: File) -> list[str]:
+    """What lint says of a model and the tests. A call has so many seconds, or as many as lint may take."""
+    command = [*PYTHON, os.path.join(top, "tools"), "lint", model.path, *(test.path for test in tests)]
+    with tempfile.TemporaryFile() as out:
+        try:
+            status = calls.status(command, None, max(LINT_SECONDS, seconds), out)
+        except OSError:
+            # more tests than one call takes
+            status = None
+        out.seek(0)
+        said = os.fsdecode(out.read()).split("\n")[:-1]
+    return said if status in LINTED else [*said, f"not linted: {shown(model.path)}"]

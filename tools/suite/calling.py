@@ -60,7 +60,6 @@ def free_memory() -> int | None:
 
 
 def standing_limit(kind: int) -> float:
-    """The limit of this kind that stands already."""
     soft, _ = resource.getrlimit(kind)
     return math.inf if soft == resource.RLIM_INFINITY else soft
 
@@ -118,24 +117,17 @@ class Calls:
         return status if status >= 0 else 128 - status
 
     def end_late(self, process: Process) -> None:
-        """Ends a call that is not done in time."""
         with self.lock:
             if process in self.running:
                 self.late.add(process)
                 end_group(process, signal.SIGKILL)
 
-    def stop(self) -> None:
-        """Ends all calls, and has none begin any more."""
+    def stop(self, is_forced: bool = False) -> None:
+        """Ends all calls, and has none begin any more; by force what has not ended though it was asked to."""
         with self.lock:
             self.is_stopped = True
             for process, ending in self.running.items():
-                end_group(process, ending)
-
-    def end_all(self) -> None:
-        """Ends what has not ended though it was asked to."""
-        with self.lock:
-            for process in self.running:
-                end_group(process, signal.SIGKILL)
+                end_group(process, signal.SIGKILL if is_forced else ending)
 
 
 def limited(command: Sequence[str], kib: int | None, seconds: float | None) -> list[str]:
@@ -193,7 +185,7 @@ def side_by_side(
     except BaseException:
         calls.stop()
         join(threads, GRACE)
-        calls.end_all()
+        calls.stop(is_forced=True)
         raise
     finally:
         join(threads, None)

@@ -7,11 +7,10 @@ from dataclasses import dataclass, replace
 from typing import Iterable, Sequence
 
 from tools.suite.refusing import Refusal
+from tools.texts import contents as reading
 from tools.texts.memory_models import comments
 from tools.texts.quoting import CONTROL, quoted, shown
 
-# the program refuses longer files, whatever stands behind
-LIMIT = 1_048_576
 MODEL_ENDING = ".uspec"
 TEST_ENDING = ".test"
 PATTERN_ENDING = ".pattern"
@@ -60,12 +59,10 @@ class File:
 
     @property
     def kind(self) -> Kind:
-        """What checks and judges a test of this name."""
         return KINDS[ending_of(self.path)]
 
     @property
     def is_query(self) -> bool:
-        """Whether it is a formula that is asked of a test."""
         return self.asked_of is not None
 
     @property
@@ -90,7 +87,6 @@ class Copies:
         return os.path.join(self.folder, "tests" if is_test(file.path) else "models", file.base)
 
     def path_of_asked(self, query: File) -> str:
-        """Where the copy of the test is that a query is asked of."""
         assert query.asked_of is not None
         return os.path.join(self.folder, "asked", query.base, query.asked_of.base)
 
@@ -111,16 +107,14 @@ def ending_of(path: str) -> str:
 
 
 def is_test(path: str) -> bool:
-    """Whether a file is a test by its name."""
     return ending_of(path) in KINDS
 
 
 def contents(path: str) -> bytes | None:
-    """The bytes of a file, with one more than the limit where there are more; None where they cannot be read."""
+    """The bytes of a file, of a longer one as many as the program refuses; None where they cannot be read."""
     try:
-        with open(path, "rb") as file:
-            return file.read(LIMIT + 1)
-    except OSError:
+        return reading.contents(path)
+    except reading.Unreadable:
         return None
 
 
@@ -192,7 +186,6 @@ def judge_present(path: str) -> None:
 
 
 def judge_distinct(kind: str, files: list[File]) -> None:
-    """Refuses two files of one name."""
     seen: dict[str, File] = {}
     for file in files:
         other = seen.setdefault(file.name, file)

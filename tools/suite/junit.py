@@ -21,7 +21,6 @@ COUNTS = (("tests", "testcase"), ("failures", "failure"), ("errors", "error"), (
 
 
 def sentence_of(case: Case) -> str:
-    """What a cell says."""
     if case.cell != kind_of(case.cell):
         return f"the answer to the query is {case.cell[len(BUG) + 2 : -1]}, and {case.test.expected} is expected"
     return SENTENCES.get(case.cell, f"a fault: {case.cell}")

@@ -46,14 +46,6 @@ def write_anew(place: str, text: bytes) -> None:
         os.replace(file.name, place)
 
 
-def remove_parts(folder: str) -> None:
-    """Removes what a suite that was ended by force left half written."""
-    for name in os.listdir(folder):
-        if name.endswith(PARTS):
-            with suppress(OSError):
-                os.unlink(os.path.join(folder, name))
-
-
 class Folder:
     """The folder that one suite at a time writes into."""
 
@@ -83,7 +75,11 @@ class Folder:
             is_own = not os.path.islink(path)
             if is_own:
                 os.makedirs(path, exist_ok=True)
-                remove_parts(path)
+                # what a suite that was ended by force left half written goes
+                for name in os.listdir(path):
+                    if name.endswith(PARTS):
+                        with suppress(OSError):
+                            os.unlink(os.path.join(path, name))
         except OSError:
             is_own = False
         if not is_own or not os.access(path, os.W_OK):

@@ -47,7 +47,6 @@ class Kept:
         return "" not in (self.program, model.digest, test.digest)
 
     def place(self, model: File, test: File) -> str:
-        """Where the verdict of a pair is kept."""
         origin = (FORMAT, self.program, model.digest, test.digest, f"{test.kind.check} {test.kind.verify}")
         return os.path.join(self.path, digest_of("\n".join(origin).encode("ascii")))
 

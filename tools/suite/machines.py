@@ -8,7 +8,7 @@ import tempfile
 import threading
 import time
 from contextlib import suppress
-from dataclasses import dataclass
+from dataclasses import dataclass, field
 
 from tools.suite.allowing import Machines
 from tools.suite.calling import GRACE, Calls, limited, memory_limit
@@ -75,16 +75,16 @@ class Machine:
         return ": ".join([f"status {status}", *lines[-1:]]) if status else "its answer is none"
 
 
+@dataclass
 class Judges:
     """The machines that are asked: each thread has a process of its own, which it keeps for tests of one memory model."""
 
-    def __init__(self, machines: Machines, copies: Copies, seconds: float, calls: Calls) -> None:
-        self.machines = machines
-        self.copies = copies
-        # the limit of one test
-        self.seconds = seconds
-        self.calls = calls
-        self.by_thread: dict[int, Machine] = {}
+    machines: Machines
+    copies: Copies
+    # the limit of one test
+    seconds: float
+    calls: Calls
+    by_thread: dict[int, Machine] = field(default_factory=dict)
 
     def end_all(self) -> None:
         """Ends all processes, once no thread asks any more."""

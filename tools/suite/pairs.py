@@ -38,15 +38,15 @@ class Found:
     place: str = ""
 
 
+@dataclass
 class Checker:
     """The program, within limits; and what the last line says of it."""
 
-    def __init__(self, command: list[str], kib: int | None, seconds: float, calls: Calls, said: str = "") -> None:
-        self.command = command
-        self.said = said
-        self.kib = kib
-        self.seconds = seconds
-        self.calls = calls
+    command: list[str]
+    kib: int | None
+    seconds: float
+    calls: Calls
+    said: str = ""
 
     def status(self, words: list[str], out: IO[bytes]) -> int | None:
         return self.calls.status([*self.command, *words], self.kib, self.seconds, out)
@@ -116,7 +116,6 @@ class Checker:
 
 
 def fault_of(status: int | None, first: bytes) -> Found:
-    """The fault of a call that gave no verdict."""
     refused = REFUSED.fullmatch(first)
     if status is None:
         return Found(fault=TIME)
@@ -151,7 +150,6 @@ def rows_found(text: bytes) -> Found:
 
 
 def answer_found(text: bytes) -> Found:
-    """The word that answers a query."""
     from tools.texts.answers import WORLDS
 
     first, _, word = text.split(b"\n", 1)[0].decode("latin-1").partition(" ")

@@ -29,11 +29,12 @@ class Case:
 
 
 def cases_of(run: Suite, result: Result, baseline: Baseline) -> Iterator[Case]:
-    """The pairs, model by model."""
     for model, test in run.pairs:
         names = (model.name, test.name)
         cell = result.cells[names]
-        lines = [*run.lines_of_pair(model, test), *run.lines_of_fault(model, test, result.below)]
+        lines = [*run.lines_of_pair(model, test)]
+        if run.found[model, test].fault:
+            lines += (line for line in result.below if line.startswith((f"{shown(model.path)}:", f"{shown(test.path)}:")))
         yield Case(model, test, cell, baseline.has(names, cell), lines)
 
 

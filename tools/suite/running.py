@@ -8,7 +8,7 @@ from functools import partial
 from typing import Iterator, Mapping, Sequence
 
 from tools.suite.allowing import Machines, Rows, line_of_unnamed
-from tools.suite.beside import Lint
+from tools.suite.beside import lint_lines
 from tools.suite.calling import side_by_side
 from tools.suite.counting import Progress
 from tools.suite.files import Copies, File, in_order
@@ -92,9 +92,9 @@ class Suite:
         begun = time.monotonic()
         self.check_pairs(jobs)
         self.ask_machines(jobs, seconds)
-        lint = Lint(self.top, self.words.tests, self.checker.calls, seconds)
-        linted = side_by_side(self.checker.calls, jobs, [partial(lint.lines, model) for model in self.words.models])
-        below = self.lines_below(linted)
+        calls = self.checker.calls
+        lint = [partial(lint_lines, self.top, self.words.tests, calls, seconds, model) for model in self.words.models]
+        below = self.lines_below(side_by_side(calls, jobs, lint))
         cells = {(model.name, test.name): self.cell(model, test) for model, test in self.pairs}
         return Result(cells, self.table(cells, width), below, time.monotonic() - begun)
 
@@ -238,11 +238,6 @@ class Suite:
                 yield f"{shown(test.path)}: the test says {found.stated}, and the machine of {name} {stated}"
             elif found.stated == UNSTATED and found.verdict != verdict:
                 yield f"{shown(test.path)}: {model.name} says {found.verdict}, and the machine of {name} {verdict}"
-
-    def lines_of_fault(self, model: File, test: File, below: Sequence[str]) -> list[str]:
-        """The lines below the table that speak of the files of a pair without a verdict."""
-        paths = tuple(f"{shown(file.path)}:" for file in (model, test))
-        return [line for line in below if line.startswith(paths)] if self.found[model, test].fault else []
 
     def table(self, cells: Mapping[tuple[str, str], str], width: int | None) -> list[str]:
         """The table, with the rows that the options ask for."""

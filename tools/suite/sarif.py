@@ -40,7 +40,8 @@ def sarif(cases: Iterable[Case], lines: Sequence[str], files: Iterable[File], ru
     names = sorted({shown(file.path): file.path for file in files}.items(), key=lambda item: len(item[0]), reverse=True)
     results = [result_of_case(known, case) for case in cases if kind_of(case.cell) in FAILURES]
     for line in lines:
-        path, place = place_in(line, names)
+        found = ((path, PLACE.fullmatch(line, len(name))) for name, path in names if line.startswith(name))
+        path, place = next((it for it in found if it[1] is not None), ("", None))
         if place is not None:
             # the faults of names in a macro, and `unnamed`, have no row of their own
             known.setdefault(place[3], Rule(place[3], place[3], True))
@@ -68,15 +69,6 @@ def result_of_case(rules: Mapping[str, Rule], case: Case) -> dict[str, object]:
     found = result(rules, kind_of(case.cell), said, location(case.model.path, 1, 1))
     found["relatedLocations"] = [location(case.test.path, 1, 1)]
     return found
-
-
-def place_in(line: str, names: Sequence[tuple[str, str]]) -> tuple[str, re.Match[str] | None]:
-    """The file that a line begins with, and what follows; nothing where the line names no place."""
-    for name, path in names:
-        place = PLACE.fullmatch(line, len(name)) if line.startswith(name) else None
-        if place is not None:
-            return path, place
-    return "", None
 
 
 def location(path: str, line: int, column: int) -> dict[str, object]:

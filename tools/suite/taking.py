@@ -34,7 +34,6 @@ def has_locked(test: File) -> bool:
 
 @lru_cache(None)
 def asks_for_locked(model: File) -> bool:
-    """Whether an axiom of a model asks for their type."""
     from tools.lint.asked import Asked
     from tools.second.scopes import read_model
     from tools.second.tokens import Fault

@@ -6,6 +6,7 @@ them with the text of its model.
 import re
 from bisect import bisect
 from dataclasses import dataclass, replace
+
 from tools.second.cores import with_axioms, without
 from tools.second.models import Axiom, Model, ModelReader, Not
 from tools.second.positions import is_decimal

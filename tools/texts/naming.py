@@ -12,7 +12,6 @@ Fact = tuple[Node, Node | None, bool]
 
 
 def line_and_column(text: bytes, at: int) -> str:
-    """A place in a text as line and column."""
     lines = text[:at].split(b"\n")
     return f"{len(lines)}:{len(lines[-1]) + 1}"
 
@@ -50,7 +49,6 @@ class Names:
         return False
 
     def fact(self, fact: Fact) -> str:
-        """A node or an edge in words."""
         start, end, wanted = fact
         if end is None:
             return f"{self.node(start)} is {'' if wanted else 'not '}there"

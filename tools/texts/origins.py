@@ -3,7 +3,7 @@ took, the macro, and the label of an edge."""
 from dataclasses import dataclass
 
 from tools.second.cases import Case
-from tools.second.grounding import Conjunction, Disjunction, Grounder, Literal, Tree, nested
+from tools.second.grounding import Grounder, Group, Literal, Tree, nested
 from tools.second.meaning import Environment
 from tools.second.models import Axiom, Binary, Edges, Expand, Formula, Model, Nodes, Not, Quantified, Static
 from tools.second.positions import Positions
@@ -76,7 +76,6 @@ class TracingGrounder(Grounder):
         self.steps = 0
 
     def axioms(self) -> Tree:
-        """The tree of all axioms."""
         members = []
         for axiom in self.model.axioms:
             self.axiom = axiom
@@ -109,7 +108,6 @@ class TracingGrounder(Grounder):
         return self.note(super().tree(formula, env, wanted), formula)
 
     def quantified(self, formula: Quantified, env: Environment, wanted: bool) -> Tree:
-        """The body for each value of the variable."""
         members = []
         for inside in self.open_values(formula, env):
             is_chosen = formula.universal is not wanted
@@ -132,6 +130,6 @@ class TracedPositions(Positions):
             here, above = waiting.pop()
             origin = grounder.origins[id(here)][1] if id(here) in grounder.origins else above
             self.origins.append(origin)
-            if isinstance(here, (Conjunction, Disjunction)):
+            if isinstance(here, Group):
                 left, right = here.members
                 waiting += [(right, origin), (left, origin)]

@@ -63,7 +63,7 @@ def notes(data: bytes, start: int) -> Iterator[str]:
 def item_lines(listing: Listing, items: list[Item]) -> Iterator[tuple[str, str]]:
     """Each item with a comment that has its names."""
     # the instructions in the order of their micro-ops
-    cells = (cell for column in zip(*(row.cells for row in listing.rows)) for cell in column if cell is not None)
+    cells = (cell for column in zip(*(row for row, _ in listing.rows)) for cell in column if cell is not None)
     for item in items:
         if isinstance(item, OpItem):
             yield op_text(item.op), op_comment(item.op, next(cells))
@@ -90,7 +90,6 @@ def op_text(op: Op) -> str:
 
 
 def address_text(address: Address) -> str:
-    """A physical address, in brackets."""
     return f"(PA {address.tag} {address.index})" if isinstance(address, Page) else f"({address})"
 
 

@@ -18,8 +18,6 @@ def outcomes(test: Test) -> set[Outcome]:
 
 
 class Rules(weak.Rules):
-    """The steps of the machine on one test."""
-
     def steps(self, state: State) -> Iterator[State]:
         """One micro-op executes, one write is performed, or one write reaches one more core."""
         yield from super().steps(state)

@@ -47,8 +47,6 @@ def outcomes(test: Test) -> set[Outcome]:
 
 
 class Machine:
-    """The steps of the machine on one test."""
-
     def __init__(self, test: Test) -> None:
         self.test = test
 
@@ -69,14 +67,12 @@ class Machine:
                     yield from self.sees(state, k, other, sender.sent[core.seen[other]])
 
     def has_seen(self, state: State, k: int, writes: tuple[Op, ...]) -> bool:
-        """Whether core k has seen these writes."""
         return all(write in state.cores[write.core].sent[: state.cores[k].seen[write.core]] for write in writes)
 
     def seen_by_all(self, state: State, source: int, count: int) -> bool:
         return all(core.seen[source] >= count for core in state.cores)
 
     def runs(self, state: State, k: int, op: Op) -> Iterator[State]:
-        """The next micro-op of core k."""
         core = state.cores[k]
         after = with_core(state, k, core._replace(done=core.done + 1))
         if op.kind == "Write":

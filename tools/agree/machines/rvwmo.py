@@ -43,8 +43,6 @@ def outcomes(test: Test) -> set[Outcome]:
 
 
 class Rules:
-    """The rules on one test."""
-
     def __init__(self, test: Test) -> None:
         self.test = test
         self.ops = {op.place: op for op in test.ops}
@@ -66,7 +64,7 @@ class Rules:
         is_write = j.kind == "Write"
         return (
             (is_write and i.address == j.address)
-            or any(is_predecessor(i, op) and is_successor(j, op) for op in between if op.kind == "Fence")
+            or any(names(op, "P", i) and names(op, "S", j) for op in between if op.kind == "Fence")
             or is_acquire(i)
             or is_release(j)
             or (is_release(i) and is_acquire(j))
@@ -124,14 +122,9 @@ class Rules:
         return dict(self.test.memory)[address] if source is None else self.ops[source].value
 
 
-def is_predecessor(i: Op, fence: Op) -> bool:
-    """Whether a fence keeps i before its successors."""
-    return fence.is_full_fence or f"P{i.kind[0]}" in fence.types
-
-
-def is_successor(j: Op, fence: Op) -> bool:
-    """Whether a fence keeps j behind its predecessors."""
-    return fence.is_full_fence or f"S{j.kind[0]}" in fence.types
+def names(fence: Op, side: str, op: Op) -> bool:
+    """Whether an access is one of the predecessors, P, or the successors, S, of a fence."""
+    return fence.is_full_fence or f"{side}{op.kind[0]}" in fence.types
 
 
 def is_acquire(op: Op) -> bool:

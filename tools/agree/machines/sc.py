@@ -13,7 +13,6 @@ class State(NamedTuple):
 
 
 def outcomes(test: Test) -> set[Outcome]:
-
     def steps(state: State) -> Iterator[State]:
         for core, ops in enumerate(test.cores):
             if state.done[core] == len(ops):

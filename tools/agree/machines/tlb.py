@@ -59,11 +59,6 @@ class Instruction(NamedTuple):
         return self.access.kind == "Fence" and "Invalidate" in self.access.types
 
     @property
-    def waits_for_buffer(self) -> bool:
-        """Whether it is done only when the buffer is empty."""
-        return self.is_invalidation or self.access.is_full_fence
-
-    @property
     def is_translated(self) -> bool:
         """Whether it reads or writes a page."""
         return self.access.kind != "Fence" and not self.access.is_at_entry
@@ -159,5 +154,6 @@ def does(state: State, k: int, core: Core, line: tuple[Instruction, ...]) -> Ite
     elif op.kind == "Read":
         value = dict(state.memory + core.buffer)[op.address]
         yield with_core(state, k, after)._replace(reads=with_read(state.reads, op, value))
-    elif not (instruction.waits_for_buffer and core.buffer):
+    # an invalidation and a full fence are done only when the buffer is empty
+    elif not (core.buffer and (instruction.is_invalidation or op.is_full_fence)):
         yield with_core(state, k, after._replace(tlb=() if instruction.is_invalidation else core.tlb))

@@ -28,7 +28,6 @@ class State(NamedTuple):
 
 
 def outcomes(test: Test, by_address: bool = False) -> set[Outcome]:
-
     def steps(state: State) -> Iterator[State]:
         for core, ops in enumerate(test.cores):
             yield from drains(state, core, by_address)

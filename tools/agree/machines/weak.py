@@ -35,8 +35,6 @@ def outcomes(test: Test) -> set[Outcome]:
 
 
 class Rules:
-    """The steps of the machine on one test."""
-
     def __init__(self, test: Test) -> None:
         self.test = test
         self.earlier = {op.place: ops[:k] for ops in test.cores for k, op in enumerate(ops)}

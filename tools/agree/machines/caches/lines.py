@@ -49,13 +49,7 @@ class State(NamedTuple):
 IsOldest = Callable[[tuple[Op, ...]], bool]
 
 
-def is_first(waiting: tuple[Op, ...]) -> bool:
-    """Whether no micro-op before it is left."""
-    return not waiting
-
-
-def outcomes(test: Test, is_oldest: IsOldest = is_first) -> set[Outcome]:
-
+def outcomes(test: Test, is_oldest: IsOldest = lambda waiting: not waiting) -> set[Outcome]:
     def steps(state: State) -> Iterator[State]:
         for k, (core, ops) in enumerate(zip(state.cores, test.cores)):
             for asking in asks(test, core, ops, is_oldest):
@@ -111,7 +105,6 @@ def invalidated(core: Core, address: Address, old: Value) -> Core:
 
 
 def executes(state: State, k: int, core: Core, op: Op) -> Iterator[State]:
-    """The next micro-op of a core."""
     after = core._replace(done=core.done + 1)
     if op.kind == "Write":
         yield with_core(state, k, after._replace(buffer=core.buffer + ((op.address, op.value),)))
