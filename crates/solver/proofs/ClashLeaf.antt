@@ -39,8 +39,7 @@ contradiction_renamed f ls l (an_absence a has present) = an_absence (f a) (rena
 pub clash_closes : (nodes : List PlainNode) (t : Tree ℕ) (ps : Branch) (k : Clash) → IsClash (literals_of t ps) k
     → Closes (tree_over nodes t) (literals_of (tree_over nodes t) ps) (renamed_leaf (node_at nodes) (leaf_of k))
 clash_closes nodes t ps k c =
-    let P : List (Literal PlainNode) → Type 0 = λ ls. IsContradiction ls (renamed_leaf (node_at nodes) (leaf_of k)) in
-    a_contradiction (subst P (sym (literals_renamed (node_at nodes) t ps)) (contradiction_renamed (node_at nodes) (literals_of t ps) (leaf_of k) c))
+    a_contradiction (rw (literals_renamed (node_at nodes) t ps) (contradiction_renamed (node_at nodes) (literals_of t ps) (leaf_of k) c))
 
 pub has_nodes : (f : ℕ → PlainNode) (ls : List (Literal ℕ)) (l : Leaf ℕ) → IsContradiction ls l → HasItsNodes (renamed_leaf f l)
 has_nodes f ls l (a_path a [] b leads has) = tt

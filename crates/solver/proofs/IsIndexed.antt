@@ -37,8 +37,7 @@ pushed items index q indexed found = λ k x e. elim (cases_lt k (length items)) 
   | inr past ↦
       let at : k ≡ length items = (let size = slice_get_within (items ++ q ∷ []) k x e in omega (arith, size, past, length-append items (q ∷ []))) in
       let same : x ≡ q = same_Some x q (sym e ∙ ap (slice_get (items ++ q ∷ [])) at ∙ get_last items q) in
-      let P : ℕ → Place → Type 0 = IsFound (items ++ q ∷ []) index in
-      subst (λ n. P n x) (sym at) (subst (P (length items)) (sym same) found)
+      rw (at, same) found
 ]
 
 -- the index of one that is not there may say anything

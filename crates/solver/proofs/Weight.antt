@@ -58,9 +58,8 @@ sides_same a b c d e = (let left : a ≡ c = cc in left)
 pending_one_less : {N : Type 0} (t : Tree N) (p q r : ℕ) (a b : Tree N) (ps qs : List ℕ) → IsWithin ps qs → subtree_at t q ≡ Some (either a b)
     → r ≡ p + q → IsDecidedBy r (size_of a) ps qs → pending_ors t p qs < pending_ors t p ps
 pending_one_less (either x y) p zero r a b ps qs w e at d =
-    let P : ℕ → ℕ → Type 0 = λ n m. IsDecidedBy n m ps qs in
     let here : r ≡ p = omega (arith, at) in
-    let k = subst (P p) (sym (ap size_of (sides_same x y a b e))) (subst (λ n. P n (size_of a)) here d) in
+    let k = rw (here, ← ap size_of (sides_same x y a b e)) at d in
     let less = count_less (is_on ps (p + 1) || is_on ps (p + 1 + size_of x)) (is_on qs (p + 1) || is_on qs (p + 1 + size_of x)) k.before k.after in
     omega (arith, less, pending_more x (p + 1) ps qs w, pending_more y (p + 1 + size_of x) ps qs w)
 pending_one_less (both x y) p (suc q) r a b ps qs w e at d =

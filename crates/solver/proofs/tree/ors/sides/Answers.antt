@@ -28,8 +28,7 @@ returns-clause-left_in c = (or_left_inside (spelled c.args.tree.now.rows) (place
 pub returns-clause-right_in : goal.returns-clause-right_in
 returns-clause-right_in c =
     let t = spelled c.args.tree.now.rows in
-    let left = or_left_inside t (place_signed c.args.place) c.requires.is_or in
-    let D : Option ℕ → Type 0 = IsDeniedIn t in (
+    let left = or_left_inside t (place_signed c.args.place) c.requires.is_or in (
       or_right_inside c.args.tree.now.rows (place_signed c.args.place) c.row.result c.row.ensures.numbered.tree c.requires.is_or c.row.ensures.row,
-      subst D (sym c.denied_left-denied.ensures) (denied_in c.args.version t (c.args.place.position + 1) left),
+      rw c.denied_left-denied.ensures (denied_in c.args.version t (c.args.place.position + 1) left),
     )
