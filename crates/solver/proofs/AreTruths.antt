@@ -1,5 +1,5 @@
 -- Flags for the truth of subtrees and for the positions of a branch, and the sides of an Or by its rows.
-use Rattle.std.proofs.Common.{◌≡◌, ◌<◌, inl, inr, ℕ, ◌+◌, Bool, true, false, ◌&&◌, ◌||◌, List, Some, length, refl, sym, ap, ◌∙◌, subst, arith}
+use Rattle.std.proofs.Common.{◌≡◌, ◌<◌, inl, inr, ℕ, ◌+◌, Bool, true, false, ◌&&◌, ◌||◌, List, Some, length, refl, sym, ap, ◌∙◌, arith}
 use Rattle.std.{proofs.lemmas.{Bool.{and_from, or_left, or_right}, Option.{none-some}}, specs.Prelude.{slice_get, ◌↔◌, IsTrue}}
 use Rattle.pc_ground.specs.declared.{literal.Literal.{Literal}, row.{Row.{Row}, RowKind.TheVariants.{True, False, Lit, And, Or}}, version.Version.{Version}}
 use Rattle.pc_ground.specs.{declared.version.Version.TheVariants.{One, Two}, Literals.{Joins, IsPresent, Holds}}

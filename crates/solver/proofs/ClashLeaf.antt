@@ -1,5 +1,5 @@
 -- A clash of asserted literals closes a branch: over numbers, and so over nodes.
-use Rattle.std.proofs.Common.{◌≡◌, ◌<◌, inl, inr, ℕ, Bool, List, [], ◌∷◌, ◌++◌, map, length, get_or, Option, refl, sym, ap, ◌∙◌, subst}
+use Rattle.std.proofs.Common.{◌≡◌, ◌<◌, inl, inr, ℕ, Bool, List, [], ◌∷◌, ◌++◌, map, length, get_or, Option, refl, sym, ap, ◌∙◌}
 use Rattle.std.proofs.lemmas.{List.{map_push, Elements.{All-contains, All-nil, All-cons, All-push, All-append, All-map, All-weaker}}, Option.{slice_get_cases, slice_get_read, slice_get-map}}
 use Rattle.std.specs.{Prelude.{Contains, All, slice_get}, Option.{unwrap_or, option_map}}
 use Rattle.pc_ground.specs.declared.{node_key.NodeKey.{NodeKey}, row.{Row.{Row}, RowKind.{RowKind, TheVariants.{Lit}}}}

@@ -1,5 +1,5 @@
 -- One turn of a descent, and its end.
-use Rattle.std.proofs.Common.{◌≡◌, ◌≤◌, ◌<◌, ℕ, ◌+◌, List, [], ◌∷◌, ◌++◌, reverse, length, sym, ap, ◌∙◌, subst, arith, append_assoc}
+use Rattle.std.proofs.Common.{◌≡◌, ◌≤◌, ◌<◌, ℕ, ◌+◌, List, [], ◌∷◌, ◌++◌, reverse, length, ap, ◌∙◌, arith, append_assoc}
 use Rattle.std.{proofs.lemmas.List.{reverse-append}, specs.Prelude.{All}}
 use Rattle.pc_common.{specs.{World.{Node}, Steps.{Step, split}}, proofs.Elements.{contains_from_in}}
 use Rattle.pc_ground.specs.{declared.{row.Row.{Row}, version.Version.{Version}}, Tree.{Tree, size_of}}
@@ -8,7 +8,7 @@ use Rattle.refutation.specs.Steps.{open_branches}
 use Rattle.order_graph.specs.{State.{Graph}, Clashes.{leaf_of, IsClash}, declared.clash.Clash.{Clash}}
 use Rattle.solver.specs.{Spelled.{spelled, IsSpelled}, Below.{IsRowBelow}, Renamed.{tree_over}}
 use Rattle.solver.specs.{Places.{side_positions, IsCandidate, AreSides}, Leaves.{IsClashBelow}}
-use Rattle.solver.specs.{Opens.{positions, waiting, IsLater, AreLater, opens, KeepsState, state_of, IsSame}, Numbered.{Numbered}}
+use Rattle.solver.specs.{Opens.{positions, waiting, IsLater, opens, KeepsState, state_of, IsSame}, Numbered.{Numbered}}
 use Rattle.solver.specs.{Branches.{branches_with, HasOpenBranch}, declared.{search.branch.Branch.{Branch as OpenBranch}, tree.place.Place.{Place}, tree.side.Side.{Side}}}
 use Rattle.solver.{specs.{declared.search.later.Later.{Later}, Weights.{weight}, Descents.{IsLonger, HasMore}}, proofs.Runs.{open_partial}}
 use Rattle.solver.proofs.{ClashLeaf.{leaf_below, literals_below}, KeepsState.{split_kept, opens_split}, Weight.{weight_more, weight_split}}

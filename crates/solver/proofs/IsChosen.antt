@@ -1,5 +1,5 @@
 -- Whether an Or is a candidate of its branch, from what is asked of it.
-use Rattle.std.proofs.Common.{◌≡◌, ◌≤◌, ◌<◌, inl, inr, ℕ, ◌+◌, Bool, true, false, List, [], ◌∷◌, Some, length, refl, sym, ap, ◌∙◌, subst, arith}
+use Rattle.std.proofs.Common.{◌≡◌, ◌≤◌, ◌<◌, inl, inr, ℕ, ◌+◌, Bool, true, false, List, [], ◌∷◌, Some, length, refl, sym, ap, ◌∙◌, arith}
 use Rattle.std.{proofs.lemmas.List.{length-map, Elements.{All-contains}}, specs.Prelude.{slice_get, Contains, IsTrue, ◌↔◌, All, MatchBool}}
 use Rattle.pc_common.proofs.Elements.{In, in_from_contains, contains_from_in, in_map}
 use Rattle.pc_ground.specs.declared.{literal.Literal.{Literal}, row.{Row.{Row}, RowKind.TheVariants.{Or}}, version.Version.TheVariants.{One}}

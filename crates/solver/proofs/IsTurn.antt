@@ -12,9 +12,9 @@ use Rattle.graph_text.specs.{Graphs.{graph_nodes, graph_edges}, declared.graph.G
 use Rattle.order_graph.{specs.State.{IsGraph}, proofs.GeneratesWorld.{consistent_generate}}
 use Rattle.solver.specs.{Spelled.{spelled, IsSpelled}, Numbered.{Numbered, IsNumbered, HasNoFalse}, Renamed.{tree_over, rows_over, node_at, renamed_tree}}
 use Rattle.solver.specs.{Below.{IsRowBelow}, Met.{IsMet}, Places.{place_signed, IsCandidate, AreChosen, root_side, side_positions}}
-use Rattle.solver.specs.{Opens.{positions, waiting, KeepsState, state_of}, Shown.{ArePresent, AreEdges}, Answers.{IsWitness}}
+use Rattle.solver.specs.{Opens.{positions, waiting}, Shown.{ArePresent, AreEdges}, Answers.{IsWitness}}
 use Rattle.solver.specs.declared.search.branch.Branch.{Branch as OpenBranch}
-use Rattle.solver.specs.{declared.{tree.place.Place.{Place}, search.later.Later.{Later}}, Branches.{branches_of, HasOpenBranch, IsBlank}}
+use Rattle.solver.specs.{declared.tree.place.Place.{Place}, Branches.{branches_of, HasOpenBranch, IsBlank}}
 use Rattle.solver.{specs.Searched.{Searched, HasUnmetBranch, HasCandidate}, proofs.RenamedTree.{part_renamed, size_renamed, asserted_renamed, tree_of_names}}
 use Rattle.solver.proofs.{IsSpelled.{spelled_is, is_spelled}, IsGrown.{IsGrown, HasParts, grown_first}, IsChosen.{plain_part}, IsMet.{met_at}, ShownWorld.{Shows, AreBelow, shown_world}}
 use Rattle.solver.proofs.{IsKnown.{number_named}, HasAsserted.{length_spelled}, AreTruths.{kind_at}}

@@ -1,5 +1,5 @@
 -- What a search keeps: after a split, after a side is entered, and after a side's clash.
-use Rattle.std.proofs.Common.{◌≡◌, ◌≤◌, ℕ, ◌+◌, Bool, not, List, [], ◌∷◌, ◌++◌, Option, Some, take, drop, reverse, length, refl, sym, ap, ◌∙◌, subst, arith, append_assoc, length-append}
+use Rattle.std.proofs.Common.{◌≡◌, ◌≤◌, ℕ, ◌+◌, Bool, not, List, [], ◌∷◌, ◌++◌, Option, Some, take, drop, reverse, length, refl, sym, ap, ◌∙◌, arith, append_assoc, length-append}
 use Rattle.std.proofs.lemmas.List.{append-nil, take_all, take-take, take-append-le, take-append-drop, length-map, length-take, get_or_append_left, reverse-append}
 use Rattle.std.proofs.Math.Seq.{take-length, take-append_seam, get_or-append_seam}
 use Rattle.std.specs.{Prelude.{slice_index, Contains}, Option.{option_map}, List.{take-map}}
@@ -41,11 +41,7 @@ marks_more t ps marks more (l ∷ ls) h =
       rw same h.1,
     )
 
--- what the branches of a split assert, over numbers
-left_is : (t : Tree ℕ) (ps : Branch) (n : Bool) (p : ℕ) (a : Tree ℕ) → subtree_at (turned n t) (p + 1) ≡ Some a
-    → ps ++ side_positions t (left_side (signed n p)) ≡ left_branch ps n p a
-left_is t ps n p a at = ap (λ qs. ps ++ qs) (asserted_is t n (p + 1) a at)
-
+-- what the right branch of a split asserts, over numbers
 right_is : (v : Version) (t : Tree ℕ) (ps : Branch) (n : Bool) (p : ℕ) (a b : Tree ℕ)
     → subtree_at (turned n t) (p + 1) ≡ Some a → subtree_at (turned n t) (p + 1 + size_of a) ≡ Some b
     → ps ++ side_positions t (right_side v (signed n p) (size_of a)) ≡ right_branch v ps n p a b
@@ -68,14 +64,11 @@ opens_split v t aps ls ms l n p a b at count side pushed =
     let right : ps ++ side_positions t l.side ≡ right_branch v ps n p a b =
     ap (λ z. ps ++ side_positions t z) side ∙ right_is v t ps n p a b children.0 children.1 in
     ap (λ w. (ps ++ side_positions t (left_side (signed n p))) ∷ waiting t ps w) (ap reverse pushed ∙ reverse-append ls (l ∷ []))
-    ∙ ap (λ u. u ∷ waiting t ps (l ∷ reverse ls)) (left_is t ps n p a children.0)
+    ∙ ap (λ qs. (ps ++ qs) ∷ waiting t ps (l ∷ reverse ls)) (asserted_is t n (p + 1) a children.0)
     ∙ ap (λ rs. left_branch ps n p a ∷ (rs ++ side_positions t l.side) ∷ waiting t rs (reverse ls)) whole
     ∙ ap (λ r. left_branch ps n p a ∷ r ∷ waiting t ps (reverse ls)) right
 
 -- and over nodes
-left_over : (nodes : List Node) (ps : Branch) (n : Bool) (p : ℕ) (a : Tree ℕ) → left_branch ps n p (tree_over nodes a) ≡ left_branch ps n p a
-left_over nodes ps n p a = ap (λ qs. ps ++ all_signed n qs) (asserted_renamed (node_at nodes) a (p + 1))
-
 right_over : (nodes : List Node) (v : Version) (ps : Branch) (n : Bool) (p : ℕ) (a b : Tree ℕ)
     → right_branch v ps n p (tree_over nodes a) (tree_over nodes b) ≡ right_branch v ps n p a b
 right_over nodes One ps n p a b =
@@ -126,7 +119,7 @@ split_kept v nodes t g h aps ls ms ss us l n p a b kept on at same_literals same
     let over = part_renamed (node_at nodes) t (signed n p) ∙ ap (λ (o : Option (Tree ℕ)). option_map (renamed_tree (node_at nodes)) o) at in
     let next = runs_split v T ss ps (waiting t ps (reverse ls)) n p x y run on over in
     let split_over : left_branch ps n p x ∷ right_branch v ps n p x y ∷ waiting t ps (reverse ls) ≡ opens t here aps ms =
-    ap (λ u. u ∷ right_branch v ps n p x y ∷ waiting t ps (reverse ls)) (left_over nodes ps n p a)
+    ap (λ qs. (ps ++ all_signed n qs) ∷ right_branch v ps n p x y ∷ waiting t ps (reverse ls)) (asserted_renamed (node_at nodes) a (p + 1))
     ∙ ap (λ r. left_branch ps n p a ∷ r ∷ waiting t ps (reverse ls)) (right_over nodes v ps n p a b)
     ∙ sym (opens_split v t aps ls ms l n p a b at count side pushed) in record {
       literals = same_literals ∙ kept.literals;

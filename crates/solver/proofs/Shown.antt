@@ -1,5 +1,5 @@
 -- The graph of a list of literals, node by node and edge by edge.
-use Rattle.std.proofs.Common.{◌≡◌, ◌≤◌, ◌<◌, ◌⊎◌, inl, inr, ℕ, ◌+◌, Bool, true, ◌&&◌, List, [], ◌∷◌, ◌++◌, Some, map, take, length, sym, ap, ◌∙◌, subst, arith, eqb, eqb-true}
+use Rattle.std.proofs.Common.{◌≡◌, ◌≤◌, ◌<◌, ◌⊎◌, inl, inr, ℕ, ◌+◌, Bool, true, ◌&&◌, List, [], ◌∷◌, ◌++◌, Some, map, take, length, sym, ap, ◌∙◌, arith, eqb, eqb-true}
 use Rattle.std.proofs.lemmas.{Bool.{cases_lt}, List.{take_more, take_all, Elements.{All-contains, All-contains_itself, All-weaker, Contains-append_left, Contains-push, Contains-push_cases}}}
 use Rattle.std.{proofs.lemmas.Option.{slice_get_within, get_or_from_slice_get}, specs.{Prelude.{Contains, All, ◌↔◌, slice_get}, List.{list_any}}}
 use Rattle.indexmap.specs.IndexSet.{insert_key}
@@ -7,7 +7,7 @@ use Rattle.pc_common.specs.World.{Node, Edge}
 use Rattle.std.proofs.lemmas.Map.Views.{Contains-from_any}
 use Rattle.pc_common.proofs.Elements.{in_from_contains, contains_from_in, in_map, from_map}
 use Rattle.pc_common.proofs.Bools.{true_or_false, and_first, and_second}
-use Rattle.pc_ground.specs.{declared.literal.Literal.{Literal, TheVariants.{Edge as an_edge}}, Literals.{Joins, IsPresent}}
+use Rattle.pc_ground.specs.{declared.literal.Literal.{Literal, TheVariants.{Edge as an_edge}}, Literals.{Joins}}
 use Rattle.order_graph.specs.Ways.{IsBelow}
 use Rattle.solver.specs.{Renamed.{node_at}, Shown.{ArePresent, AreEdges, IsPresentNoted, edge_over}}
 

@@ -1,6 +1,6 @@
 -- A consistent list of literals over numbers gives a graph over the nodes, whose world makes a tree true that the literals meet.
-use Rattle.std.proofs.Common.{◌≡◌, ◌<◌, inl, inr, ℕ, Bool, true, false, List, [], ◌∷◌, Some, map, length, refl, sym, ap, ◌∙◌, subst}
-use Rattle.std.{proofs.lemmas.{List.Elements.{All-contains}, Option.{slice_get-get_or}, Bool.{and_from, or_left, or_right}}, specs.Prelude.{Contains, All, IsTrue, not}}
+use Rattle.std.proofs.Common.{◌≡◌, ◌<◌, inl, inr, ℕ, Bool, true, false, List, [], ◌∷◌, Some, map, length, refl, sym, ap, ◌∙◌}
+use Rattle.std.{proofs.lemmas.{List.Elements.{All-contains}, Option.{slice_get-get_or}, Bool.{and_from, or_left, or_right}}, specs.Prelude.{All, IsTrue, not}}
 use Rattle.pc_common.specs.{World.{Node, Edge, World, IsWorld, has_node, has_edge, same_node}, Chain.{Leads, Chain, Acyclic}}
 use Rattle.pc_common.{specs.Generated.{IsListed, HasEnds, IsGenerated}, proofs.{Nodes.{has_node_is, has_edge_is}, GeneratedWorlds.{generates, node_tells}}}
 use Rattle.pc_ground.specs.{declared.literal.Literal.{Literal, TheVariants.{Node as a_node, Edge as an_edge, NoNode, NoEdge}}, Numbers.{AreDistinct}}

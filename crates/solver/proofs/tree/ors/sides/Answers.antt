@@ -1,5 +1,5 @@
-use Rattle.std.{proofs.Common.{◌+◌, ℕ, refl, sym, ap, subst, arith}, specs.Prelude.{Option}}
-use Rattle.solver.specs.{Spelled.{spelled}, Places.{place_signed, IsDeniedIn}, declared.tree.side.Side.{Side}}
+use Rattle.std.{proofs.Common.{◌+◌, ℕ, refl, ap, arith}, specs.Prelude.{Option}}
+use Rattle.solver.specs.{Spelled.{spelled}, Places.{place_signed}, declared.tree.side.Side.{Side}}
 use Rattle.solver.proofs.{AreTruths.{or_sides, or_left_inside, or_right_inside, denied_in}, HasAsserted.{length_spelled}}
 use Rattle.solver.proofs.tree.ors.sides.Goals as goal
 

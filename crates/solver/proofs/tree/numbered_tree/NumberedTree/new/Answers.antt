@@ -1,7 +1,6 @@
-use Rattle.std.{proofs.Common.{◌≡◌, ap, sym, ◌∙◌, subst, length, map, arith, List}, specs.Prelude.{All}}
-use Rattle.pc_common.specs.World.{Node}
-use Rattle.pc_ground.specs.{Keys.{key_node}, Tree.{Tree}, Folded.{IsFolded}, Numbers.{AreDistinct}}
-use Rattle.solver.{specs.{Below.{IsRowBelow}, Renamed.{tree_over, node_at}, Spelled.{spelled}}, proofs.IsKnown.{rows_known}}
+use Rattle.std.proofs.Common.{◌≡◌, ap, ◌∙◌, length, map, arith}
+use Rattle.pc_ground.specs.Keys.{key_node}
+use Rattle.solver.{specs.{Renamed.{tree_over, node_at}, Spelled.{spelled}}, proofs.IsKnown.{rows_known}}
 use Rattle.solver.proofs.IsTurn.{names_tree, folded_numbers}
 use Rattle.solver.proofs.tree.numbered_tree.NumberedTree.new.Goals as goal
 

@@ -1,6 +1,5 @@
-use Rattle.std.proofs.Common.{◌<◌, length, ap, sym, subst, arith}
-use Rattle.pc_ground.specs.Tree.{size_of}
-use Rattle.solver.{specs.{Numbered.{Numbered}, Spelled.{spelled}}, proofs.HasAsserted.{length_spelled}}
+use Rattle.std.proofs.Common.{length, ap, arith}
+use Rattle.solver.proofs.HasAsserted.{length_spelled}
 use Rattle.solver.proofs.tree.numbered_tree.NumberedTree.row.Goals as goal
 
 pub row_at-requires : goal.row_at-requires
