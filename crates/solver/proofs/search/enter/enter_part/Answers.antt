@@ -1,4 +1,4 @@
-use Rattle.std.proofs.{Common.{◌+◌, ◌++◌, refl, sym, ap, ◌∙◌, arith}, Math.Seq.{take-length}}
+use Rattle.std.proofs.{Common.{◌++◌, refl, sym, ap, ◌∙◌, arith}, Math.Seq.{take-length}}
 use Rattle.pc_ground.specs.{Tree.{turned}, Rows.{turned_rows}, Refutes.{all_signed, signed, subtree_at}}
 use Rattle.solver.specs.{Spelled.{spelled}, Places.{asserted_in, asserted_at}, Opens.{positions}}
 use Rattle.solver.proofs.IsSpelled.{turned_flat, turned_at}
