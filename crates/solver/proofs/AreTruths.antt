@@ -1,5 +1,5 @@
 -- Flags for the truth of subtrees and for the positions of a branch, and the sides of an Or by its rows.
-use Rattle.std.proofs.Common.{◌≡◌, ◌<◌, inl, inr, ℕ, ◌+◌, Bool, true, false, ◌&&◌, ◌||◌, List, Some, length, refl, sym, ap, ◌∙◌, subst, arith}
+use Rattle.std.proofs.Common.{◌≡◌, ◌<◌, inl, inr, ℕ, ◌+◌, Bool, true, false, ◌&&◌, ◌||◌, List, Some, length, refl, sym, ap, ◌∙◌, arith}
 use Rattle.std.{proofs.lemmas.{Bool.{and_from, or_left, or_right}, Option.{none-some}}, specs.Prelude.{slice_get, ◌↔◌, IsTrue}}
 use Rattle.pc_ground.specs.declared.{literal.Literal.{Literal}, row.{Row.{Row}, RowKind.TheVariants.{True, False, Lit, And, Or}}, version.Version.{Version}}
 use Rattle.pc_ground.specs.{declared.version.Version.TheVariants.{One, Two}, Literals.{Joins, IsPresent, Holds}}
@@ -119,8 +119,7 @@ truths_none rows ls from flags flat e = λ p s past at.
 pub signed_children : (t : Tree ℕ) (n : Bool) (p : ℕ) (a b : Tree ℕ) → subtree_at (turned n t) p ≡ Some (either a b) → HasChildren t p (p + 1 + size_of a)
 signed_children t false p a b e = of_either a b e
 signed_children t true p a b e =
-    let P : ℕ → Type 0 = λ n. HasChildren t p (p + 1 + n) in
-    subst P (size_negation a) (of_both (negation a) (negation b) (subtree_denied t true p (either a b) e))
+    rw (← size_negation a) (of_both (negation a) (negation b) (subtree_denied t true p (either a b) e))
 
 pub or_sides : (rows : List (Row ℕ)) (v : Version) (q : Signed) (r : Row ℕ) (left right : Side) → IsSpelled rows → slice_get rows (q.position + 1) ≡ Some r
     → left ≡ left_side q → right ≡ right_side v q r.skip → AreSides v (spelled rows) q (left, right)

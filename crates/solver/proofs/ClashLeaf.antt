@@ -1,5 +1,5 @@
 -- A clash of asserted literals closes a branch: over numbers, and so over nodes.
-use Rattle.std.proofs.Common.{◌≡◌, ◌<◌, inl, inr, ℕ, Bool, List, [], ◌∷◌, ◌++◌, map, length, get_or, Option, refl, sym, ap, ◌∙◌, subst}
+use Rattle.std.proofs.Common.{◌≡◌, ◌<◌, inl, inr, ℕ, Bool, List, [], ◌∷◌, ◌++◌, map, length, get_or, Option, refl, sym, ap, ◌∙◌}
 use Rattle.std.proofs.lemmas.{List.{map_push, Elements.{All-contains, All-nil, All-cons, All-push, All-append, All-map, All-weaker}}, Option.{slice_get_cases, slice_get_read, slice_get-map}}
 use Rattle.std.specs.{Prelude.{Contains, All, slice_get}, Option.{unwrap_or, option_map}}
 use Rattle.pc_ground.specs.declared.{node_key.NodeKey.{NodeKey}, row.{Row.{Row}, RowKind.{RowKind, TheVariants.{Lit}}}}
@@ -39,8 +39,7 @@ contradiction_renamed f ls l (an_absence a has present) = an_absence (f a) (rena
 pub clash_closes : (nodes : List PlainNode) (t : Tree ℕ) (ps : Branch) (k : Clash) → IsClash (literals_of t ps) k
     → Closes (tree_over nodes t) (literals_of (tree_over nodes t) ps) (renamed_leaf (node_at nodes) (leaf_of k))
 clash_closes nodes t ps k c =
-    let P : List (Literal PlainNode) → Type 0 = λ ls. IsContradiction ls (renamed_leaf (node_at nodes) (leaf_of k)) in
-    a_contradiction (subst P (sym (literals_renamed (node_at nodes) t ps)) (contradiction_renamed (node_at nodes) (literals_of t ps) (leaf_of k) c))
+    a_contradiction (rw (literals_renamed (node_at nodes) t ps) (contradiction_renamed (node_at nodes) (literals_of t ps) (leaf_of k) c))
 
 pub has_nodes : (f : ℕ → PlainNode) (ls : List (Literal ℕ)) (l : Leaf ℕ) → IsContradiction ls l → HasItsNodes (renamed_leaf f l)
 has_nodes f ls l (a_path a [] b leads has) = tt

@@ -26,8 +26,7 @@ present_listed ls a h =
     go (an_edge b c) i (inl e) = (let P : Node → Type 0 = IsPresent ls in subst P e (as_start c (contains_from_in (an_edge b c) ls i)))
     go (an_edge b c) i (inr (inl e)) = (let P : Node → Type 0 = IsPresent ls in subst P e (as_end b (contains_from_in (an_edge b c) ls i)))
     go (an_edge b c) i (inr (inr j)) = absurd j
-    go (NoNode b) i j = absurd j
-    go (NoEdge b c) i j = absurd j
+    go l i j = absurd j
 
 listed_joins : (ls : List (Literal Node)) (a b : Node) → Joins ls a b → Contains (flat_map literal_edges ls) (a, b)
 listed_joins ls a b h =
@@ -39,13 +38,11 @@ joins_listed ls a b h =
     go from.0 from.1 from.2
   where
     go : (l : Literal Node) → In l ls → In (a, b) (literal_edges l) → Joins ls a b
-    go (a_node c) i j = absurd j
     go (an_edge c d) i (inl e) =
         let P : Edge → Type 0 = λ p. Joins ls p.0 p.1 in
         subst P e (contains_from_in (an_edge c d) ls i)
     go (an_edge c d) i (inr j) = absurd j
-    go (NoNode c) i j = absurd j
-    go (NoEdge c d) i j = absurd j
+    go l i j = absurd j
 
 leads_back : (ls : List (Literal Node)) (a : Node) (via : List Node) (b : Node) → Leads (IsListed (flat_map literal_edges ls)) a via b
     → Leads (Joins ls) a via b

@@ -114,12 +114,11 @@ pub part_clash : (rows : List (Row ℕ)) (q : Signed) (r : Row ℕ) (ps rest who
     → ls ≡ literals_of (spelled rows) ps → ps ++ q ∷ rest ≡ whole → IsClash (ls ++ literals_of_kind r.kind) k → IsClash (literals_of (spelled rows) whole) k
 part_clash rows q r ps rest whole ls k flat at e f c =
     let t = spelled rows in
-    let P : List (Literal ℕ) → Type 0 = λ xs. IsClash xs k in
     let first : ls ++ literals_of_kind r.kind ≡ literals_of t (ps ++ q ∷ []) =
     literals_push rows q r ps (ps ++ q ∷ []) ls (ls ++ literals_of_kind r.kind) flat at e refl refl in
     let all : literals_of t (ps ++ q ∷ []) ++ literals_of t rest ≡ literals_of t whole =
     sym (literals_more t (ps ++ q ∷ []) rest) ∙ ap (literals_of t) (append_assoc ps (q ∷ []) rest ∙ f) in
-    subst P (ap (λ xs. xs ++ literals_of t rest) first ∙ all) (contradiction_more (ls ++ literals_of_kind r.kind) (literals_of t rest) (leaf_of k) c)
+    rw (← all, ← first) (contradiction_more (ls ++ literals_of_kind r.kind) (literals_of t rest) (leaf_of k) c)
 
 -- the positions so far and those that the walk still comes to, once a row is entered
 pub whole_push : (new old : List Place) (q : Place) (ps rest : List ℕ) (whole : Branch) → new ≡ old ++ q ∷ [] → ps ≡ q.position ∷ rest

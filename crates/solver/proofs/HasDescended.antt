@@ -1,5 +1,5 @@
 -- One turn of a descent, and its end.
-use Rattle.std.proofs.Common.{◌≡◌, ◌≤◌, ◌<◌, ℕ, ◌+◌, List, [], ◌∷◌, ◌++◌, reverse, length, sym, ap, ◌∙◌, subst, arith, append_assoc}
+use Rattle.std.proofs.Common.{◌≡◌, ◌≤◌, ◌<◌, ℕ, ◌+◌, List, [], ◌∷◌, ◌++◌, reverse, length, ap, ◌∙◌, arith, append_assoc}
 use Rattle.std.{proofs.lemmas.List.{reverse-append}, specs.Prelude.{All}}
 use Rattle.pc_common.{specs.{World.{Node}, Steps.{Step, split}}, proofs.Elements.{contains_from_in}}
 use Rattle.pc_ground.specs.{declared.{row.Row.{Row}, version.Version.{Version}}, Tree.{Tree, size_of}}
@@ -8,7 +8,7 @@ use Rattle.refutation.specs.Steps.{open_branches}
 use Rattle.order_graph.specs.{State.{Graph}, Clashes.{leaf_of, IsClash}, declared.clash.Clash.{Clash}}
 use Rattle.solver.specs.{Spelled.{spelled, IsSpelled}, Below.{IsRowBelow}, Renamed.{tree_over}}
 use Rattle.solver.specs.{Places.{side_positions, IsCandidate, AreSides}, Leaves.{IsClashBelow}}
-use Rattle.solver.specs.{Opens.{positions, waiting, IsLater, AreLater, opens, KeepsState, state_of, IsSame}, Numbered.{Numbered}}
+use Rattle.solver.specs.{Opens.{positions, waiting, IsLater, opens, KeepsState, state_of, IsSame}, Numbered.{Numbered}}
 use Rattle.solver.specs.{Branches.{branches_with, HasOpenBranch}, declared.{search.branch.Branch.{Branch as OpenBranch}, tree.place.Place.{Place}, tree.side.Side.{Side}}}
 use Rattle.solver.{specs.{declared.search.later.Later.{Later}, Weights.{weight}, Descents.{IsLonger, HasMore}}, proofs.Runs.{open_partial}}
 use Rattle.solver.proofs.{ClashLeaf.{leaf_below, literals_below}, KeepsState.{split_kept, opens_split}, Weight.{weight_more, weight_split}}
@@ -35,8 +35,7 @@ pub next_inside : (v : Version) (t : Numbered) (b : OpenBranch) (more : Branch) 
     → HasOpenBranch v t b more → b.later.items ≡ ms ++ l ∷ []
     → IsLater (spelled t.rows) (positions b.asserted) b.graph.marks l
 next_inside v t b more ms l kept popped =
-    let W : List Later → Type 0 = AreLater (spelled t.rows) (positions b.asserted) b.graph.marks in
-    (subst W (ap reverse popped ∙ reverse-append ms (l ∷ [])) kept.waits).0
+    (rw (ap reverse popped ∙ reverse-append ms (l ∷ [])) at kept.waits).0
 
 -- the branches weigh less once the candidate is split
 pub lighter_split : (v : Version) (t : Tree ℕ) (here there : List Place) (ls ms : List Later) (l : Later) (q : Signed) (c : Side × Side)
@@ -69,5 +68,4 @@ advanced v nodes t g h i here there ls ms ss us l q c kept candidate e same e_th
     let next = split_kept v nodes t g i here ls ms ss us l q.negated q.position candidate.left candidate.right kept candidate.on_branch candidate.is_or
     (same.same_literals ∙ ap (λ (x : Graph). x.literals) e) (same.same_nodes ∙ ap (λ (x : Graph). x.nodes) e)
     (same.same_marks ∙ ap (λ (x : Graph). x.marks) e) count mark (side ∙ sides.1) pushed steps in
-    let P : List Place → Side → Type 0 = λ xs z. KeepsState v (state_of nodes t i xs ms us) (side_positions t z) in
-    subst (λ xs. P xs c.0) (sym e_there) (subst (P here) (sym sides.0) next)
+    rw (e_there, sides.0) next

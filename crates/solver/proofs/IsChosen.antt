@@ -1,5 +1,5 @@
 -- Whether an Or is a candidate of its branch, from what is asked of it.
-use Rattle.std.proofs.Common.{◌≡◌, ◌≤◌, ◌<◌, inl, inr, ℕ, ◌+◌, Bool, true, false, List, [], ◌∷◌, Some, length, refl, sym, ap, ◌∙◌, subst, arith}
+use Rattle.std.proofs.Common.{◌≡◌, ◌≤◌, ◌<◌, inl, inr, ℕ, ◌+◌, Bool, true, false, List, [], ◌∷◌, Some, length, refl, sym, ap, ◌∙◌, arith}
 use Rattle.std.{proofs.lemmas.List.{length-map, Elements.{All-contains}}, specs.Prelude.{slice_get, Contains, IsTrue, ◌↔◌, All, MatchBool}}
 use Rattle.pc_common.proofs.Elements.{In, in_from_contains, contains_from_in, in_map}
 use Rattle.pc_ground.specs.declared.{literal.Literal.{Literal}, row.{Row.{Row}, RowKind.TheVariants.{Or}}, version.Version.TheVariants.{One}}
@@ -38,12 +38,10 @@ pub pending : (t : Tree ℕ) (xs : List Place) (q : Place) (sides : Side × Side
     → MatchBool b (IsPending t xs q) (IsPassed t xs q)
 pending t xs q sides true (a, b, is) are untaken =
     let at = sides_at t q sides are a b is in
-    let U : ℕ → ℕ → Type 0 = IsUntaken xs q in
-    (a, b, is, subst (U (q.position + 1)) at.1 (subst (λ l. U l sides.1.root) at.0 untaken))
+    (a, b, is, rw (at.0, at.1) at untaken)
 pending t xs q sides false there are taken = λ a b is.
     let at = sides_at t q sides are a b is in
-    let T : ℕ → ℕ → Type 0 = IsTaken xs q in
-    subst (T (q.position + 1)) at.1 (subst (λ l. T l sides.1.root) at.0 taken)
+    rw (at.0, at.1) at taken
 
 pub has_signed : (xs : List Place) (q : Place) → Contains xs q → Contains (positions xs) (place_signed q)
 has_signed xs q has = contains_from_in (place_signed q) (positions xs) (in_map place_signed q xs (in_from_contains q xs has))

@@ -55,8 +55,7 @@ side_placed : {N : Type 0} (t : Tree N) (n : Bool) (s : Tree N) (p : ℕ) (ps : 
     → ((r : Signed) → In r (all_signed n (asserted s p)) → In r ps) → (q : Signed) → In q (all_signed n (asserted s p)) → IsPlaced t ps q
 side_placed t n s p ps at within q i =
     let from = from_map (signed n) q (asserted s p) i in
-    let P : Signed → Type 0 = IsPlaced t ps in
-    subst P from.2 (asserted_placed t n s p ps at (λ m k. within (signed n m) (in_map (signed n) m (asserted s p) k)) from.0 from.1)
+    rw (← from.2) (asserted_placed t n s p ps at (λ m k. within (signed n m) (in_map (signed n) m (asserted s p) k)) from.0 from.1)
 
 pub grown_root : {N : Type 0} (t : Tree N) → IsGrown t (all_signed false (asserted t 0))
 grown_root t = record {

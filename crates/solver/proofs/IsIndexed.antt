@@ -1,5 +1,5 @@
 -- A list of places with its index: what it finds, and one place more.
-use Rattle.std.proofs.Common.{◌≡◌, inl, inr, ℕ, ◌+◌, ◌*◌, Bool, true, false, List, [], ◌∷◌, ◌++◌, Some, length, refl, sym, ap, ◌∙◌, subst, arith, length-append}
+use Rattle.std.proofs.Common.{◌≡◌, inl, inr, ℕ, ◌+◌, ◌*◌, Bool, true, false, List, [], ◌∷◌, ◌++◌, Some, length, refl, sym, ap, ◌∙◌, arith, length-append}
 use Rattle.std.{proofs.lemmas.{Bool.{cases_lt}, Option.{same_Some, slice_get_within, slice_get-get_or, get_or_from_slice_get}}, specs.Prelude.{slice_get, slice_index, Contains, if◌then◌else◌}}
 use Rattle.pc_common.proofs.Places.{slice_get-more, get_before, get_last}
 use Rattle.solver.specs.{declared.tree.place.Place.{Place}, Indexed.{slot_of, IsFound, IsIndexed, IsPut}}
@@ -37,8 +37,7 @@ pushed items index q indexed found = λ k x e. elim (cases_lt k (length items)) 
   | inr past ↦
       let at : k ≡ length items = (let size = slice_get_within (items ++ q ∷ []) k x e in omega (arith, size, past, length-append items (q ∷ []))) in
       let same : x ≡ q = same_Some x q (sym e ∙ ap (slice_get (items ++ q ∷ [])) at ∙ get_last items q) in
-      let P : ℕ → Place → Type 0 = IsFound (items ++ q ∷ []) index in
-      subst (λ n. P n x) (sym at) (subst (P (length items)) (sym same) found)
+      rw (at, same) found
 ]
 
 -- the index of one that is not there may say anything

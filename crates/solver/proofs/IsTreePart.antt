@@ -27,5 +27,4 @@ pub part_met : (t : Tree ℕ) (p : ℕ) (part : List (Row ℕ)) (ls : List (Lite
     → IsTrue b ↔ IsMet ls (spelled part) → IsTrue b ↔ IsMet ls s
 part_met t p part ls b s (x, at, e) there told =
     let same : spelled part ≡ s = spelled_is part x e ∙ some_same (sym at ∙ there) in
-    let P : Tree ℕ → Type 0 = λ y. IsTrue b ↔ IsMet ls y in
-    subst P same told
+    rw same at told

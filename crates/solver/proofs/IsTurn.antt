@@ -12,9 +12,9 @@ use Rattle.graph_text.specs.{Graphs.{graph_nodes, graph_edges}, declared.graph.G
 use Rattle.order_graph.{specs.State.{IsGraph}, proofs.GeneratesWorld.{consistent_generate}}
 use Rattle.solver.specs.{Spelled.{spelled, IsSpelled}, Numbered.{Numbered, IsNumbered, HasNoFalse}, Renamed.{tree_over, rows_over, node_at, renamed_tree}}
 use Rattle.solver.specs.{Below.{IsRowBelow}, Met.{IsMet}, Places.{place_signed, IsCandidate, AreChosen, root_side, side_positions}}
-use Rattle.solver.specs.{Opens.{positions, waiting, KeepsState, state_of}, Shown.{ArePresent, AreEdges}, Answers.{IsWitness}}
+use Rattle.solver.specs.{Opens.{positions, waiting}, Shown.{ArePresent, AreEdges}, Answers.{IsWitness}}
 use Rattle.solver.specs.declared.search.branch.Branch.{Branch as OpenBranch}
-use Rattle.solver.specs.{declared.{tree.place.Place.{Place}, search.later.Later.{Later}}, Branches.{branches_of, HasOpenBranch, IsBlank}}
+use Rattle.solver.specs.{declared.tree.place.Place.{Place}, Branches.{branches_of, HasOpenBranch, IsBlank}}
 use Rattle.solver.{specs.Searched.{Searched, HasUnmetBranch, HasCandidate}, proofs.RenamedTree.{part_renamed, size_renamed, asserted_renamed, tree_of_names}}
 use Rattle.solver.proofs.{IsSpelled.{spelled_is, is_spelled}, IsGrown.{IsGrown, HasParts, grown_first}, IsChosen.{plain_part}, IsMet.{met_at}, ShownWorld.{Shows, AreBelow, shown_world}}
 use Rattle.solver.proofs.{IsKnown.{number_named}, HasAsserted.{length_spelled}, AreTruths.{kind_at}}
@@ -28,13 +28,12 @@ parts_back f ps q (both a b) h = (let P : ℕ → Type 0 = λ n. In (signed q.ne
 parts_back f ps q s h = tt
 
 grown_back : {M N : Type 0} (f : M → N) (t : Tree M) (ps : Branch) → IsGrown (renamed_tree f t) ps → IsGrown t ps
-grown_back {M} {N} f t ps g = record {
+grown_back f t ps g = record {
   root = g.root;
   placed = λ q i.
       let there = g.placed q i in
       let back = option_back (renamed_tree f) (part_at t q) there.0 (sym (part_renamed f t q) ∙ there.1) in
-      let P : Tree N → Type 0 = HasParts ps q in
-      (back.0, back.1, parts_back f ps q back.0 (subst P (sym back.2) there.2));
+      (back.0, back.1, parts_back f ps q back.0 (rw back.2 there.2));
 }
 
 kept_run : (v : Version) (t : Numbered) (b : OpenBranch) → HasOpenBranch v t b []
@@ -105,8 +104,7 @@ searching v tree b first searched s is =
     let q = place_signed first in
     let candidate = s.candidate in
     let part = turned q.negated (either candidate.left candidate.right) in
-    let H : Searched → Type 0 = HasUnmetBranch in
-    subst H is (record {
+    rw (← is) (record {
       first = positions here;
       others = waiting t (positions here) (reverse b.later.items);
       branches = refl;
@@ -181,17 +179,13 @@ not_false rows r flat at other e = other (sym (kind_at rows 0 r (spelled rows) f
 pub first_kept : (v : Version) (t : Numbered) (b : OpenBranch) → IsBlank t b → HasOpenBranch v t b (side_positions (spelled t.rows) root_side)
 first_kept v t b blank =
     let s = spelled t.rows in
-    let A : List Place → List Later → List (Step Node) → Type 0 =
-    λ as' ls' ss'. KeepsState v (state_of t.nodes s b.graph as' ls' ss') (side_positions s root_side) in
-    let first : A [] [] [] = record {
+    rw (blank.steps, blank.later, blank.asserted) (record {
       literals = blank.literals;
       all_nodes = blank.nodes;
       marks = omega (arith, ap length blank.marks);
       waits = tt;
       partial = ap (λ ps. all_signed false ps ∷ []) (asserted_renamed (node_at t.nodes) s 0);
-    } in
-    subst (λ x. A b.asserted b.later.items x) (sym blank.steps)
-    (subst (λ x. A b.asserted x []) (sym blank.later) (subst (λ x. A x [] []) (sym blank.asserted) first))
+    })
 
 -- the refutation of False
 pub false_refuted : (v : Version) (nodes : List Node) (t : Tree ℕ) (ss : List (Step Node)) → t ≡ never → ss ≡ close false_step ∷ []

@@ -1,5 +1,5 @@
 -- What a search keeps: after a split, after a side is entered, and after a side's clash.
-use Rattle.std.proofs.Common.{◌≡◌, ◌≤◌, ℕ, ◌+◌, Bool, not, List, [], ◌∷◌, ◌++◌, Option, Some, take, drop, reverse, length, refl, sym, ap, ◌∙◌, subst, arith, append_assoc, length-append}
+use Rattle.std.proofs.Common.{◌≡◌, ◌≤◌, ℕ, ◌+◌, Bool, not, List, [], ◌∷◌, ◌++◌, Option, Some, take, drop, reverse, length, refl, sym, ap, ◌∙◌, arith, append_assoc, length-append}
 use Rattle.std.proofs.lemmas.List.{append-nil, take_all, take-take, take-append-le, take-append-drop, length-map, length-take, get_or_append_left, reverse-append}
 use Rattle.std.proofs.Math.Seq.{take-length, take-append_seam, get_or-append_seam}
 use Rattle.std.specs.{Prelude.{slice_index, Contains}, Option.{option_map}, List.{take-map}}
@@ -41,11 +41,7 @@ marks_more t ps marks more (l ∷ ls) h =
       rw same h.1,
     )
 
--- what the branches of a split assert, over numbers
-left_is : (t : Tree ℕ) (ps : Branch) (n : Bool) (p : ℕ) (a : Tree ℕ) → subtree_at (turned n t) (p + 1) ≡ Some a
-    → ps ++ side_positions t (left_side (signed n p)) ≡ left_branch ps n p a
-left_is t ps n p a at = ap (λ qs. ps ++ qs) (asserted_is t n (p + 1) a at)
-
+-- what the right branch of a split asserts, over numbers
 right_is : (v : Version) (t : Tree ℕ) (ps : Branch) (n : Bool) (p : ℕ) (a b : Tree ℕ)
     → subtree_at (turned n t) (p + 1) ≡ Some a → subtree_at (turned n t) (p + 1 + size_of a) ≡ Some b
     → ps ++ side_positions t (right_side v (signed n p) (size_of a)) ≡ right_branch v ps n p a b
@@ -68,14 +64,11 @@ opens_split v t aps ls ms l n p a b at count side pushed =
     let right : ps ++ side_positions t l.side ≡ right_branch v ps n p a b =
     ap (λ z. ps ++ side_positions t z) side ∙ right_is v t ps n p a b children.0 children.1 in
     ap (λ w. (ps ++ side_positions t (left_side (signed n p))) ∷ waiting t ps w) (ap reverse pushed ∙ reverse-append ls (l ∷ []))
-    ∙ ap (λ u. u ∷ waiting t ps (l ∷ reverse ls)) (left_is t ps n p a children.0)
+    ∙ ap (λ qs. (ps ++ qs) ∷ waiting t ps (l ∷ reverse ls)) (asserted_is t n (p + 1) a children.0)
     ∙ ap (λ rs. left_branch ps n p a ∷ (rs ++ side_positions t l.side) ∷ waiting t rs (reverse ls)) whole
     ∙ ap (λ r. left_branch ps n p a ∷ r ∷ waiting t ps (reverse ls)) right
 
 -- and over nodes
-left_over : (nodes : List Node) (ps : Branch) (n : Bool) (p : ℕ) (a : Tree ℕ) → left_branch ps n p (tree_over nodes a) ≡ left_branch ps n p a
-left_over nodes ps n p a = ap (λ qs. ps ++ all_signed n qs) (asserted_renamed (node_at nodes) a (p + 1))
-
 right_over : (nodes : List Node) (v : Version) (ps : Branch) (n : Bool) (p : ℕ) (a b : Tree ℕ)
     → right_branch v ps n p (tree_over nodes a) (tree_over nodes b) ≡ right_branch v ps n p a b
 right_over nodes One ps n p a b =
@@ -122,20 +115,18 @@ split_kept v nodes t g h aps ls ms ss us l n p a b kept on at same_literals same
     let x = tree_over nodes a in
     let y = tree_over nodes b in
     let here = ps ++ side_positions t (left_side (signed n p)) in
-    let run : IsPartial v T ss (ps ∷ waiting t ps (reverse ls)) =
-    (let P : Branch → Type 0 = λ rs. IsPartial v T ss (rs ∷ waiting t ps (reverse ls)) in subst P (append-nil ps) kept.partial) in
+    let run = rw (append-nil ps) at kept.partial in
     let over = part_renamed (node_at nodes) t (signed n p) ∙ ap (λ (o : Option (Tree ℕ)). option_map (renamed_tree (node_at nodes)) o) at in
     let next = runs_split v T ss ps (waiting t ps (reverse ls)) n p x y run on over in
     let split_over : left_branch ps n p x ∷ right_branch v ps n p x y ∷ waiting t ps (reverse ls) ≡ opens t here aps ms =
-    ap (λ u. u ∷ right_branch v ps n p x y ∷ waiting t ps (reverse ls)) (left_over nodes ps n p a)
+    ap (λ qs. (ps ++ all_signed n qs) ∷ right_branch v ps n p x y ∷ waiting t ps (reverse ls)) (asserted_renamed (node_at nodes) a (p + 1))
     ∙ ap (λ r. left_branch ps n p a ∷ r ∷ waiting t ps (reverse ls)) (right_over nodes v ps n p a b)
-    ∙ sym (opens_split v t aps ls ms l n p a b at count side pushed) in
-    let Q : List (Step Node) → List Branch → Type 0 = IsPartial v T in record {
+    ∙ sym (opens_split v t aps ls ms l n p a b at count side pushed) in record {
       literals = same_literals ∙ kept.literals;
       all_nodes = same_nodes ∙ kept.all_nodes;
       marks = omega (arith, kept.marks, ap length marks, length-append g.marks (length g.literals ∷ []), ap length steps, length-append ss (split n p ∷ []));
       waits = rw reversed (first, rw (whole, all_marks) (marks_more t ps g.marks (length g.literals ∷ []) (reverse ls) kept.waits));
-      partial = subst (λ u. Q u (opens t here aps ms)) (sym steps) (subst (Q (ss ++ split n p ∷ [])) split_over next);
+      partial = rw (steps, ← split_over) next;
     }
 
 -- the side is all asserted
@@ -147,14 +138,13 @@ entered_kept v nodes t g h aps bs ls ss more kept entered stand further =
     let same : waiting t (positions bs) (reverse ls) ≡ waiting t ps (reverse ls) =
     ap (λ qs. waiting t qs (reverse ls)) entered ∙ waiting_more t ps more g.marks (reverse ls) kept.waits in
     let all : opens t (positions bs ++ []) bs ls ≡ opens t (ps ++ more) aps ls =
-    ap (λ qs. qs ∷ waiting t (positions bs) (reverse ls)) (append-nil (positions bs) ∙ entered) ∙ ap (λ w. (ps ++ more) ∷ w) same in
-    let P : List Branch → Type 0 = IsPartial v (tree_over nodes t) ss in (
+    ap (λ qs. qs ∷ waiting t (positions bs) (reverse ls)) (append-nil (positions bs) ∙ entered) ∙ ap (λ w. (ps ++ more) ∷ w) same in (
       record {
         literals = stand;
         all_nodes = further.same_nodes ∙ kept.all_nodes;
         marks = omega (arith, kept.marks, ap length further.same_marks);
         waits = rw (further.same_marks, entered) (later_more t ps more g.marks (reverse ls) kept.waits);
-        partial = subst P (sym all) kept.partial;
+        partial = rw all kept.partial;
       },
       all,
     )
@@ -198,8 +188,7 @@ closed_kept v nodes t g h i aps bs cs ls ms ss us s l more kept closes steps pop
     ap (λ rs. (rs ++ side_positions t l.side) ∷ waiting t rs (reverse ms)) (sym qs_is) in
     let all : opens t (ps ++ more) aps ls ≡ (ps ++ more) ∷ opens t (positions cs ++ side_positions t l.side) cs ms =
     ap (λ w. (ps ++ more) ∷ waiting t ps w) reversed ∙ ap (λ w. (ps ++ more) ∷ w) tail in
-    let P : List Branch → Type 0 = IsPartial v T ss in
-    let run : IsPartial v T ss ((ps ++ more) ∷ opens t (positions cs ++ side_positions t l.side) cs ms) = subst P all kept.partial in
+    let run : IsPartial v T ss ((ps ++ more) ∷ opens t (positions cs ++ side_positions t l.side) cs ms) = rw all at kept.partial in
     let closed = runs_close v T ss (ps ++ more) (opens t (positions cs ++ side_positions t l.side) cs ms) s run closes in (
       record {
         literals = stand;

@@ -63,22 +63,14 @@ literals_renamed f t (q ∷ ps) =
     let rest = literals_renamed f t ps in
     rw (here, rest) (sym (map-append (renamed f) (literal_of (part_at t q)) (literals_of t ps)))
 
--- the kind and the skip of a row of numbers, by those of its named row
-back_true : {M N : Type 0} (f : M → N) (k : RowKind M) → renamed_kind f k ≡ True → k ≡ True
-back_true f True e = refl
-back_true f k e = cc
-
-back_false : {M N : Type 0} (f : M → N) (k : RowKind M) → renamed_kind f k ≡ False → k ≡ False
-back_false f False e = refl
-back_false f k e = cc
-
-back_and : {M N : Type 0} (f : M → N) (k : RowKind M) → renamed_kind f k ≡ And → k ≡ And
-back_and f And e = refl
-back_and f k e = cc
-
-back_or : {M N : Type 0} (f : M → N) (k : RowKind M) → renamed_kind f k ≡ Or → k ≡ Or
-back_or f Or e = refl
-back_or f k e = cc
+-- the kind and the skip of a row of numbers, by those of its named row: first where the kind is no literal
+back_kind : {M N : Type 0} (f : M → N) (k kind : RowKind M) → ((l : Literal M) → kind ≡ Lit l → ⊥) → renamed_kind f k ≡ renamed_kind f kind → k ≡ kind
+back_kind f k (Lit l) none e = absurd (none l refl)
+back_kind f True True none e = refl
+back_kind f False False none e = refl
+back_kind f And And none e = refl
+back_kind f Or Or none e = refl
+back_kind f k kind none e = cc
 
 back_literal : {M N : Type 0} (f : M → N) (k : RowKind M) (l : Literal N) → renamed_kind f k ≡ Lit l → (m : Literal M) × (k ≡ Lit m) × (renamed f m ≡ l)
 back_literal f (Lit m) l e = (m, refl, (let same : renamed f m ≡ l = cc in same))
@@ -116,9 +108,9 @@ row_over f r k a b c d rs ms ns kind skip left right first rest =
 tree_back : {M N : Type 0} (f : M → N) (t : Tree N) (ns : List (Row M)) (rest : List (Row N)) → map (renamed_row f) ns ≡ rows_of t ++ rest
     → (s : Tree M) × (ms : List (Row M)) × (ns ≡ rows_of s ++ ms) × (renamed_tree f s ≡ t) × (map (renamed_row f) ms ≡ rest)
 tree_back f always (r ∷ rs) rest e =
-    (always, rs, ap (λ x. x ∷ rs) (same_row r True 1 (back_true f r.kind (ap head_kind e)) (ap head_skip e)), refl, ap tail_of e)
+    (always, rs, ap (λ x. x ∷ rs) (same_row r True 1 (back_kind f r.kind True (λ l x. cc) (ap head_kind e)) (ap head_skip e)), refl, ap tail_of e)
 tree_back f never (r ∷ rs) rest e =
-    (never, rs, ap (λ x. x ∷ rs) (same_row r False 1 (back_false f r.kind (ap head_kind e)) (ap head_skip e)), refl, ap tail_of e)
+    (never, rs, ap (λ x. x ∷ rs) (same_row r False 1 (back_kind f r.kind False (λ l x. cc) (ap head_kind e)) (ap head_skip e)), refl, ap tail_of e)
 tree_back f (leaf l) (r ∷ rs) rest e =
     let back = back_literal f r.kind l (ap head_kind e) in
     (leaf back.0, rs, ap (λ x. x ∷ rs) (same_row r (Lit back.0) 1 back.1 (ap head_skip e)), ap leaf back.2, ap tail_of e)
@@ -127,7 +119,7 @@ tree_back f (both a b) (r ∷ rs) rest e =
     let right = tree_back f b left.1 rest left.4 in (
       both left.0 right.0,
       right.1,
-      row_over f r And a b left.0 right.0 rs left.1 right.1 (back_and f r.kind (ap head_kind e)) (ap head_skip e) left.3 right.3 left.2 right.2,
+      row_over f r And a b left.0 right.0 rs left.1 right.1 (back_kind f r.kind And (λ l x. cc) (ap head_kind e)) (ap head_skip e) left.3 right.3 left.2 right.2,
       ap (λ x. both x (renamed_tree f right.0)) left.3 ∙ ap (both a) right.3,
       right.4,
     )
@@ -136,7 +128,7 @@ tree_back f (either a b) (r ∷ rs) rest e =
     let right = tree_back f b left.1 rest left.4 in (
       either left.0 right.0,
       right.1,
-      row_over f r Or a b left.0 right.0 rs left.1 right.1 (back_or f r.kind (ap head_kind e)) (ap head_skip e) left.3 right.3 left.2 right.2,
+      row_over f r Or a b left.0 right.0 rs left.1 right.1 (back_kind f r.kind Or (λ l x. cc) (ap head_kind e)) (ap head_skip e) left.3 right.3 left.2 right.2,
       ap (λ x. either x (renamed_tree f right.0)) left.3 ∙ ap (either a) right.3,
       right.4,
     )

@@ -1,5 +1,5 @@
 -- The graph of a list of literals, node by node and edge by edge.
-use Rattle.std.proofs.Common.{◌≡◌, ◌≤◌, ◌<◌, ◌⊎◌, inl, inr, ℕ, ◌+◌, Bool, true, ◌&&◌, List, [], ◌∷◌, ◌++◌, Some, map, take, length, sym, ap, ◌∙◌, subst, arith, eqb, eqb-true}
+use Rattle.std.proofs.Common.{◌≡◌, ◌≤◌, ◌<◌, ◌⊎◌, inl, inr, ℕ, ◌+◌, Bool, true, ◌&&◌, List, [], ◌∷◌, ◌++◌, Some, map, take, length, sym, ap, ◌∙◌, arith, eqb, eqb-true}
 use Rattle.std.proofs.lemmas.{Bool.{cases_lt}, List.{take_more, take_all, Elements.{All-contains, All-contains_itself, All-weaker, Contains-append_left, Contains-push, Contains-push_cases}}}
 use Rattle.std.{proofs.lemmas.Option.{slice_get_within, get_or_from_slice_get}, specs.{Prelude.{Contains, All, ◌↔◌, slice_get}, List.{list_any}}}
 use Rattle.indexmap.specs.IndexSet.{insert_key}
@@ -7,33 +7,29 @@ use Rattle.pc_common.specs.World.{Node, Edge}
 use Rattle.std.proofs.lemmas.Map.Views.{Contains-from_any}
 use Rattle.pc_common.proofs.Elements.{in_from_contains, contains_from_in, in_map, from_map}
 use Rattle.pc_common.proofs.Bools.{true_or_false, and_first, and_second}
-use Rattle.pc_ground.specs.{declared.literal.Literal.{Literal, TheVariants.{Edge as an_edge}}, Literals.{Joins, IsPresent}}
+use Rattle.pc_ground.specs.{declared.literal.Literal.{Literal, TheVariants.{Edge as an_edge}}, Literals.{Joins}}
 use Rattle.order_graph.specs.Ways.{IsBelow}
 use Rattle.solver.specs.{Renamed.{node_at}, Shown.{ArePresent, AreEdges, IsPresentNoted, edge_over}}
 
 pub present_more : (nodes : List Node) (ls : List (Literal ℕ)) (k : ℕ) (old new : List Node) → IsPresentNoted nodes ls k old new → ArePresent nodes ls k old
     → ArePresent nodes ls (k + 1) new
-present_more nodes ls k old new (inl (is, e)) are = λ a.
-    let P : List Node → Type 0 = λ xs. Contains xs a in
-    let Q : Node → Type 0 = Contains (old ++ node_at nodes k ∷ []) in (
-      (λ h. elim (Contains-push_cases old (node_at nodes k) a (subst P e h)) [
+present_more nodes ls k old new (inl (is, e)) are = λ a. (
+      (λ h. elim (Contains-push_cases old (node_at nodes k) a (rw e at h)) [
         | inl i ↦ (let r = (are a).0 i in (r.0, omega (arith, r.1), r.2, r.3))
         | inr i ↦ (k, omega arith, is, i)
       ]),
-      (λ h. subst P (sym e) (elim (cases_lt h.0 k) [
+      (λ h. rw e (elim (cases_lt h.0 k) [
         | inl before ↦ Contains-append_left old (node_at nodes k ∷ []) a ((are a).1 (h.0, before, h.2, h.3))
         | inr past ↦
             let same : k ≡ h.0 = omega (arith, h.1, past) in
-            subst Q (ap (node_at nodes) same ∙ h.3) (Contains-push old (node_at nodes k))
+            rw (← (ap (node_at nodes) same ∙ h.3)) (Contains-push old (node_at nodes k))
       ])),
     )
-present_more nodes ls k old new (inr (never, e)) are = λ a.
-    let P : List Node → Type 0 = λ xs. Contains xs a in
-    let Q : ℕ → Type 0 = IsPresent ls in (
-      (λ h. (let r = (are a).0 (subst P e h) in (r.0, omega (arith, r.1), r.2, r.3))),
+present_more nodes ls k old new (inr (never, e)) are = λ a. (
+      (λ h. (let r = (are a).0 (rw e at h) in (r.0, omega (arith, r.1), r.2, r.3))),
       (λ h. elim (cases_lt h.0 k) [
-        | inl before ↦ subst P (sym e) ((are a).1 (h.0, before, h.2, h.3))
-        | inr past ↦ (let same : h.0 ≡ k = omega (arith, h.1, past) in absurd (never (subst Q same h.2)))
+        | inl before ↦ rw e ((are a).1 (h.0, before, h.2, h.3))
+        | inr past ↦ (let same : h.0 ≡ k = omega (arith, h.1, past) in absurd (never (rw same at h.2)))
       ]),
     )
 
@@ -48,19 +44,18 @@ same_pair x y e =
 pub insert_pair : (eq : ℕ × ℕ → ℕ × ℕ → Bool) → ((x y : ℕ × ℕ) → eq x y ≡ true → x ≡ y) → (ks new : List (ℕ × ℕ)) (x : ℕ × ℕ) → new ≡ insert_key eq ks x
     → (p : ℕ × ℕ) → Contains new p ↔ (Contains ks p ⊎ (x ≡ p))
 insert_pair eq law ks new x e p =
-    let Q : List (ℕ × ℕ) → ℕ × ℕ → Type 0 = λ xs y. Contains xs y in
     elim (true_or_false (list_any (eq x) ks)) [
       | inl has ↦
           let same : new ≡ ks = rw has at e in (
-            (λ h. inl (subst (λ xs. Q xs p) same h)),
-            (λ h. subst (λ xs. Q xs p) (sym same) (elim h [ inl k ↦ k | inr k ↦ subst (Q ks) k (Contains-from_any law x ks has) ])),
+            (λ h. inl (rw same at h)),
+            (λ h. rw same (elim h [ inl k ↦ k | inr k ↦ rw (← k) (Contains-from_any law x ks has) ])),
           )
       | inr not ↦
           let same : new ≡ ks ++ x ∷ [] = rw not at e in (
-            (λ h. Contains-push_cases ks x p (subst (λ xs. Q xs p) same h)),
-            (λ h. subst (λ xs. Q xs p) (sym same) (elim h [
+            (λ h. Contains-push_cases ks x p (rw same at h)),
+            (λ h. rw same (elim h [
               | inl k ↦ Contains-append_left ks (x ∷ []) p k
-              | inr k ↦ subst (Q (ks ++ x ∷ [])) k (Contains-push ks x)
+              | inr k ↦ rw (← k) (Contains-push ks x)
             ])),
           )
     ]
@@ -86,14 +81,12 @@ pub edges_more : (ls : List (Literal ℕ)) (n : ℕ) (l : Literal ℕ) (old new 
     → (j k : ℕ) → Contains new (j, k) ↔ Contains (take (n + 1) ls) (an_edge j k)
 edges_more ls n l old new at before noted j k =
     let whole : take (n + 1) ls ≡ take n ls ++ l ∷ [] = take_more ls n l (slice_get_within ls n l at)
-    ∙ ap (λ x. take n ls ++ x ∷ []) (get_or_from_slice_get ls n l l at) in
-    let P : List (Literal ℕ) → Type 0 = λ xs. Contains xs (an_edge j k) in
-    let Q : Literal ℕ → Type 0 = Contains (take n ls ++ l ∷ []) in (
-      (λ h. subst P (sym whole) (elim ((noted j k).0 h) [
+    ∙ ap (λ x. take n ls ++ x ∷ []) (get_or_from_slice_get ls n l l at) in (
+      (λ h. rw whole (elim ((noted j k).0 h) [
         | inl x ↦ Contains-append_left (take n ls) (l ∷ []) (an_edge j k) ((before j k).0 x)
-        | inr x ↦ subst Q x (Contains-push (take n ls) l)
+        | inr x ↦ rw (← x) (Contains-push (take n ls) l)
       ])),
-      (λ h. (noted j k).1 (elim (Contains-push_cases (take n ls) l (an_edge j k) (subst P whole h)) [
+      (λ h. (noted j k).1 (elim (Contains-push_cases (take n ls) l (an_edge j k) (rw whole at h)) [
         | inl x ↦ inl ((before j k).1 x)
         | inr x ↦ inr x
       ])),
@@ -102,18 +95,12 @@ edges_more ls n l old new at before noted j k =
 pub edges_shown : (nodes : List Node) (ls : List (Literal ℕ)) (pairs : List (ℕ × ℕ)) (es : List Edge) → es ≡ map (edge_over nodes) pairs
     → ((j k : ℕ) → Contains pairs (j, k) ↔ Joins ls j k) → AreEdges nodes ls es
 edges_shown nodes ls pairs es e are a b =
-    let P : List Edge → Type 0 = λ xs. Contains xs (a, b) in
     let f = edge_over nodes in (
       (λ h.
-          let r = from_map f (a, b) pairs (in_from_contains (a, b) (map f pairs) (subst P e h)) in
+          let r = from_map f (a, b) pairs (in_from_contains (a, b) (map f pairs) (rw e at h)) in
           (r.0.0, r.0.1, (are r.0.0 r.0.1).0 (contains_from_in r.0 pairs r.1), ap (λ p. p.0) r.2, ap (λ p. p.1) r.2)),
-      (λ h.
-          let Q : Node → Node → Type 0 = λ x y. Contains es (x, y) in
-          let here : Q (node_at nodes h.0) (node_at nodes h.1) =
-          (let R : List Edge → Type 0 = λ xs. Contains xs (f (h.0, h.1)) in
-          subst R (sym e) (contains_from_in (f (h.0, h.1)) (map f pairs)
-          (in_map f (h.0, h.1) pairs (in_from_contains (h.0, h.1) pairs ((are h.0 h.1).1 h.2))))) in
-          subst (λ y. Q a y) h.4 (subst (λ x. Q x (node_at nodes h.1)) h.3 here)),
+      (λ h. rw (← h.4, ← h.3, e) (contains_from_in (f (h.0, h.1)) (map f pairs)
+      (in_map f (h.0, h.1) pairs (in_from_contains (h.0, h.1) pairs ((are h.0 h.1).1 h.2))))),
     )
 
 pub pairs_from : (n : ℕ) (ls : List (Literal ℕ)) (pairs : List (ℕ × ℕ)) → All (IsBelow n) ls → ((j k : ℕ) → Contains pairs (j, k) ↔ Joins ls j k)

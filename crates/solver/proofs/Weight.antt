@@ -1,5 +1,5 @@
 -- The weight of open branches falls with each split, and with each branch that is closed.
-use Rattle.std.proofs.Common.{◌≡◌, ◌≤◌, ◌<◌, inl, inr, ℕ, zero, suc, ◌+◌, ◌-◌, ◌*◌, ◌^◌, Bool, true, false, not, ◌||◌, ◌⊎◌, List, [], ◌∷◌, Some, refl, sym, ap, ◌∙◌, subst, arith, eq-eqb, eqb-true}
+use Rattle.std.proofs.Common.{◌≡◌, ◌≤◌, ◌<◌, inl, inr, ℕ, zero, suc, ◌+◌, ◌-◌, ◌*◌, ◌^◌, Bool, true, false, not, ◌||◌, ◌⊎◌, List, [], ◌∷◌, Some, refl, ap, ◌∙◌, subst, arith, eq-eqb, eqb-true}
 use Rattle.std.proofs.{Math.Nat.{pow-le-pow_right, pow-suc, one-le-pow}, lemmas.{List.Sums.{sum_by-cons}, Bool.{ltb-false, or_left, or_right}}}
 use Rattle.std.specs.Prelude.{if◌then◌else◌, nat_lt, ◌==◌}
 use Rattle.pc_common.proofs.Elements.{In, in_front, in_back, in_map, any_holds, holds_any}
@@ -27,20 +27,18 @@ count_more true false f = cc (f refl)
 count_more c true f = omega arith
 count_more c false f = omega arith
 
-sides_more : (ps qs : List ℕ) (p r : ℕ) → IsWithin ps qs → (is_on ps p || is_on ps r) ≡ true → (is_on qs p || is_on qs r) ≡ true
-sides_more ps qs p r w e =
+sides_more : (ps qs : List ℕ) (p r : ℕ) → IsWithin ps qs → (if is_on qs p || is_on qs r then 0 else 1) ≤ (if is_on ps p || is_on ps r then 0 else 1)
+sides_more ps qs p r w = count_more (is_on ps p || is_on ps r) (is_on qs p || is_on qs r) (λ e.
     elim (true_or_false (is_on ps p)) [
       | inl h ↦ or_left (is_on qs p) (is_on qs r) (on_more ps qs p w h)
       | inr h ↦ or_right (is_on qs p) (is_on qs r) (on_more ps qs r w (or_second (is_on ps p) (is_on ps r) h e))
-    ]
+    ])
 
 -- with more positions no more Ors are pending
 pub pending_more : {N : Type 0} (t : Tree N) (p : ℕ) (ps qs : List ℕ) → IsWithin ps qs → pending_ors t p qs ≤ pending_ors t p ps
 pending_more (both a b) p ps qs w = omega (arith, pending_more a (p + 1) ps qs w, pending_more b (p + 1 + size_of a) ps qs w)
 pending_more (either a b) p ps qs w =
-    let here = count_more (is_on ps (p + 1) || is_on ps (p + 1 + size_of a)) (is_on qs (p + 1) || is_on qs (p + 1 + size_of a))
-    (sides_more ps qs (p + 1) (p + 1 + size_of a) w) in
-    omega (arith, here, pending_more a (p + 1) ps qs w, pending_more b (p + 1 + size_of a) ps qs w)
+    omega (arith, sides_more ps qs (p + 1) (p + 1 + size_of a) w, pending_more a (p + 1) ps qs w, pending_more b (p + 1 + size_of a) ps qs w)
 pending_more t p ps qs w = omega arith
 
 -- an Or has no side in the one list, and one in the other
@@ -54,37 +52,32 @@ count_less c d e f = rw (e, f) (omega arith)
 sides_same : {N : Type 0} (a b c d : Tree N) → Some (either a b) ≡ Some (either c d) → a ≡ c
 sides_same a b c d e = (let left : a ≡ c = cc in left)
 
+-- of two parts the one that has the Or counts less, and the other no more
+part_less : {N : Type 0} (x y : Tree N) (p q : ℕ) (ps qs : List ℕ) → IsWithin ps qs
+    → (nat_lt q (size_of x) ≡ true → pending_ors x (p + 1) qs < pending_ors x (p + 1) ps)
+    → (nat_lt q (size_of x) ≡ false → pending_ors y (p + 1 + size_of x) qs < pending_ors y (p + 1 + size_of x) ps)
+    → pending_ors (both x y) p qs < pending_ors (both x y) p ps
+part_less x y p q ps qs w left right =
+    elim (true_or_false (nat_lt q (size_of x))) [
+      | inl h ↦ omega (arith, left h, pending_more y (p + 1 + size_of x) ps qs w)
+      | inr h ↦ omega (arith, right h, pending_more x (p + 1) ps qs w)
+    ]
+
 -- the Or that is decided counts less
 pending_one_less : {N : Type 0} (t : Tree N) (p q r : ℕ) (a b : Tree N) (ps qs : List ℕ) → IsWithin ps qs → subtree_at t q ≡ Some (either a b)
     → r ≡ p + q → IsDecidedBy r (size_of a) ps qs → pending_ors t p qs < pending_ors t p ps
 pending_one_less (either x y) p zero r a b ps qs w e at d =
-    let P : ℕ → ℕ → Type 0 = λ n m. IsDecidedBy n m ps qs in
     let here : r ≡ p = omega (arith, at) in
-    let k = subst (P p) (sym (ap size_of (sides_same x y a b e))) (subst (λ n. P n (size_of a)) here d) in
+    let k = rw (here, ← ap size_of (sides_same x y a b e)) at d in
     let less = count_less (is_on ps (p + 1) || is_on ps (p + 1 + size_of x)) (is_on qs (p + 1) || is_on qs (p + 1 + size_of x)) k.before k.after in
     omega (arith, less, pending_more x (p + 1) ps qs w, pending_more y (p + 1 + size_of x) ps qs w)
 pending_one_less (both x y) p (suc q) r a b ps qs w e at d =
-    elim (true_or_false (nat_lt q (size_of x))) [
-      | inl h ↦
-          let less = pending_one_less x (p + 1) q r a b ps qs w (rw h at e) (omega (arith, at)) d in
-          omega (arith, less, pending_more y (p + 1 + size_of x) ps qs w)
-      | inr h ↦
-          let past = ltb-false q (size_of x) h in
-          let less = pending_one_less y (p + 1 + size_of x) (q - size_of x) r a b ps qs w (rw h at e) (omega (arith, at, past)) d in
-          omega (arith, less, pending_more x (p + 1) ps qs w)
-    ]
+    part_less x y p q ps qs w (λ h. pending_one_less x (p + 1) q r a b ps qs w (rw h at e) (omega (arith, at)) d)
+    (λ h. pending_one_less y (p + 1 + size_of x) (q - size_of x) r a b ps qs w (rw h at e) (omega (arith, at, ltb-false q (size_of x) h)) d)
 pending_one_less (either x y) p (suc q) r a b ps qs w e at d =
-    let here = count_more (is_on ps (p + 1) || is_on ps (p + 1 + size_of x)) (is_on qs (p + 1) || is_on qs (p + 1 + size_of x))
-    (sides_more ps qs (p + 1) (p + 1 + size_of x) w) in
-    elim (true_or_false (nat_lt q (size_of x))) [
-      | inl h ↦
-          let less = pending_one_less x (p + 1) q r a b ps qs w (rw h at e) (omega (arith, at)) d in
-          omega (arith, here, less, pending_more y (p + 1 + size_of x) ps qs w)
-      | inr h ↦
-          let past = ltb-false q (size_of x) h in
-          let less = pending_one_less y (p + 1 + size_of x) (q - size_of x) r a b ps qs w (rw h at e) (omega (arith, at, past)) d in
-          omega (arith, here, less, pending_more x (p + 1) ps qs w)
-    ]
+    let less = part_less x y p q ps qs w (λ h. pending_one_less x (p + 1) q r a b ps qs w (rw h at e) (omega (arith, at)) d)
+    (λ h. pending_one_less y (p + 1 + size_of x) (q - size_of x) r a b ps qs w (rw h at e) (omega (arith, at, ltb-false q (size_of x) h)) d) in
+    omega (arith, sides_more ps qs (p + 1) (p + 1 + size_of x) w, less)
 pending_one_less t p zero r a b ps qs w e at d = cc
 pending_one_less t p (suc q) r a b ps qs w e at d = cc
 

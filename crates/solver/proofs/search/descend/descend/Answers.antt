@@ -9,19 +9,16 @@ use Rattle.solver.proofs.search.descend.descend.Goals as goal
 
 pub close-requires-clause-below : goal.close-requires-clause-below
 close-requires-clause-below g c =
-    let t = spelled c.args.tree.now.rows in
-    let here = c.loop-branch.branch.asserted in
-    let clash = rw c.in-Some.is at c.in_ok-clash.ensures.entered in
+    let rows = c.args.tree.now.rows in
     let numbered = c.len-positions.ensures.numbered in
-    clash_in (length c.args.tree.now.nodes) c.args.tree.now.rows (positions here ++ side_positions t c.loop-branch.side)
-    c.in-Some.clash numbered.tree numbered.below clash
+    clash_in (length c.args.tree.now.nodes) rows (positions c.loop-branch.branch.asserted ++ side_positions (spelled rows) c.loop-branch.side)
+    c.in-Some.clash numbered.tree numbered.below (rw c.in-Some.is at c.in_ok-clash.ensures.entered)
 
 pub close-requires-clause-leaf : goal.close-requires-clause-leaf
 close-requires-clause-leaf g c =
     let t = spelled c.args.tree.now.rows in
-    let here = c.loop-branch.branch.asserted in
-    let clash = rw c.in-Some.is at c.in_ok-clash.ensures.entered in
-    has_nodes (node_at c.args.tree.now.nodes) (literals_of t (positions here ++ side_positions t c.loop-branch.side)) (leaf_of c.in-Some.clash) clash
+    has_nodes (node_at c.args.tree.now.nodes) (literals_of t (positions c.loop-branch.branch.asserted ++ side_positions t c.loop-branch.side))
+    (leaf_of c.in-Some.clash) (rw c.in-Some.is at c.in_ok-clash.ensures.entered)
 
 pub returns-in_default-go_back-clause-descended : goal.returns-in_default-go_back-clause-descended
 returns-in_default-go_back-clause-descended g c =
@@ -29,12 +26,12 @@ returns-in_default-go_back-clause-descended g c =
     let t = spelled c.args.tree.now.rows in
     let b = c.loop-branch.branch in
     let here = b.asserted in
-    let clash = rw c.in-Some.is at c.in_ok-clash.ensures.entered in
+    let more = side_positions t c.loop-branch.side in
     let rest = c.enter_next.ensures.rest in
     let back = c.in_default-go_back.ensures in
     closed_all c.args.version nodes t b.graph here b.later.items b.refutation c.go_back.new.branch.refutation
-    (renamed_leaf (node_at nodes) (leaf_of c.in-Some.clash)) (side_positions t c.loop-branch.side)
-    c.loop-branch.invariant.state (clash_closes nodes t (positions here ++ side_positions t c.loop-branch.side) c.in-Some.clash clash)
+    (renamed_leaf (node_at nodes) (leaf_of c.in-Some.clash)) more c.loop-branch.invariant.state
+    (clash_closes nodes t (positions here ++ more) c.in-Some.clash (rw c.in-Some.is at c.in_ok-clash.ensures.entered))
     (back.1 ∙ c.in_ok-close.ensures ∙ ap (λ ss. ss ++ clash_step nodes c.in-Some.clash ∷ []) rest.steps) (sym rest.later ∙ back.0)
 
 pub loop-branch-preserved : goal.loop-branch-preserved
@@ -49,8 +46,7 @@ loop-branch-preserved g c =
     let back = c.go_back.new.branch in
     let resumed = c.in-Some-go_back.ensures in
     let next = resumed.next in
-    let clash = rw c.in-Some.is at c.in_ok-clash.ensures.entered in
-    let closes = clash_closes nodes t (positions here ++ more) c.in-Some.clash clash in
+    let closes = clash_closes nodes t (positions here ++ more) c.in-Some.clash (rw c.in-Some.is at c.in_ok-clash.ensures.entered) in
     let popped : b.later.items ≡ back.later.items ++ next ∷ [] = sym c.enter_next.ensures.rest.later ∙ resumed.popped in
     let stepped : back.refutation ≡ b.refutation ++ step ∷ [] =
     resumed.steps ∙ c.in_ok-close.ensures ∙ ap (λ ss. ss ++ step ∷ []) c.enter_next.ensures.rest.steps in
