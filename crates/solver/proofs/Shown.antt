@@ -14,24 +14,24 @@ use Rattle.solver.specs.{Renamed.{node_at}, Shown.{ArePresent, AreEdges, IsPrese
 pub present_more : (nodes : List Node) (ls : List (Literal ℕ)) (k : ℕ) (old new : List Node) → IsPresentNoted nodes ls k old new → ArePresent nodes ls k old
     → ArePresent nodes ls (k + 1) new
 present_more nodes ls k old new (inl (is, e)) are = λ a. (
-      (λ h. elim (Contains-push_cases old (node_at nodes k) a (rw e at h)) [
-        | inl i ↦ (let r = (are a).0 i in (r.0, omega (arith, r.1), r.2, r.3))
-        | inr i ↦ (k, omega arith, is, i)
-      ]),
-      (λ h. rw e (elim (cases_lt h.0 k) [
-        | inl before ↦ Contains-append_left old (node_at nodes k ∷ []) a ((are a).1 (h.0, before, h.2, h.3))
-        | inr past ↦
-            let same : k ≡ h.0 = omega (arith, h.1, past) in
-            rw (← (ap (node_at nodes) same ∙ h.3)) (Contains-push old (node_at nodes k))
-      ])),
-    )
+  (λ h. elim (Contains-push_cases old (node_at nodes k) a (rw e at h)) [
+    | inl i ↦ (let r = (are a).0 i in (r.0, omega (arith, r.1), r.2, r.3))
+    | inr i ↦ (k, omega arith, is, i)
+  ]),
+  (λ h. rw e (elim (cases_lt h.0 k) [
+    | inl before ↦ Contains-append_left old (node_at nodes k ∷ []) a ((are a).1 (h.0, before, h.2, h.3))
+    | inr past ↦
+        let same : k ≡ h.0 = omega (arith, h.1, past) in
+        rw (← (ap (node_at nodes) same ∙ h.3)) (Contains-push old (node_at nodes k))
+  ])),
+)
 present_more nodes ls k old new (inr (never, e)) are = λ a. (
-      (λ h. (let r = (are a).0 (rw e at h) in (r.0, omega (arith, r.1), r.2, r.3))),
-      (λ h. elim (cases_lt h.0 k) [
-        | inl before ↦ rw e ((are a).1 (h.0, before, h.2, h.3))
-        | inr past ↦ (let same : h.0 ≡ k = omega (arith, h.1, past) in absurd (never (rw same at h.2)))
-      ]),
-    )
+  (λ h. (let r = (are a).0 (rw e at h) in (r.0, omega (arith, r.1), r.2, r.3))),
+  (λ h. elim (cases_lt h.0 k) [
+    | inl before ↦ rw e ((are a).1 (h.0, before, h.2, h.3))
+    | inr past ↦ (let same : h.0 ≡ k = omega (arith, h.1, past) in absurd (never (rw same at h.2)))
+  ]),
+)
 
 pub same_pair : (x y : ℕ × ℕ) → (eqb x.0 y.0 && eqb x.1 y.1) ≡ true → x ≡ y
 same_pair x y e =
@@ -100,7 +100,7 @@ edges_shown nodes ls pairs es e are a b =
           let r = from_map f (a, b) pairs (in_from_contains (a, b) (map f pairs) (rw e at h)) in
           (r.0.0, r.0.1, (are r.0.0 r.0.1).0 (contains_from_in r.0 pairs r.1), ap (λ p. p.0) r.2, ap (λ p. p.1) r.2)),
       (λ h. rw (← h.4, ← h.3, e) (contains_from_in (f (h.0, h.1)) (map f pairs)
-      (in_map f (h.0, h.1) pairs (in_from_contains (h.0, h.1) pairs ((are h.0 h.1).1 h.2))))),
+          (in_map f (h.0, h.1) pairs (in_from_contains (h.0, h.1) pairs ((are h.0 h.1).1 h.2))))),
     )
 
 pub pairs_from : (n : ℕ) (ls : List (Literal ℕ)) (pairs : List (ℕ × ℕ)) → All (IsBelow n) ls → ((j k : ℕ) → Contains pairs (j, k) ↔ Joins ls j k)

@@ -126,7 +126,15 @@ pub(crate) fn count_open(
             is_as_good_as_closed(rows, graph, negated, root)
         } else {
             let denied = None;
-            side_is_closed(rows, graph, Side { negated, root, denied })
+            side_is_closed(
+                rows,
+                graph,
+                Side {
+                    negated,
+                    root,
+                    denied,
+                },
+            )
         };
         if !is_closed {
             count = count.saturating_add(1);
