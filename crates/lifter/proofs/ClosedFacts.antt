@@ -4,7 +4,7 @@ use Rattle.pc_common.specs.Case.{Case}
 use Rattle.lifted_facts.specs.declared.{way.Way.{Way}, fact.Fact.{Fact, TheVariants.{Said, Node as NodeFact, Edge as EdgeFact}}}
 use Rattle.lifted_facts.specs.{PlainFacts.{PlainFact, plain_fact, plain_part}, Parts.{part_of, sides, is_false}}
 use Rattle.lifted_facts.specs.Lifted.{LiftedStep, derive, split, close, falsity}
-use Rattle.lifter.specs.{Trees.{fact_tree, joined_trees}, PartLists.{parts}, declared.kind.FactKind.{FactKind, TheVariants.{True, False, Open}}}
+use Rattle.lifter.specs.{Trees.{fact_tree, joined_trees}, PartLists.{parts}, declared.kind.FactKind.{FactKind, TheVariants.{False, Open}}}
 use Rattle.lifter.{specs.{Kinds.{kind_of, joined_kind}, Closings.{HasClosed}}, proofs.{KindLaws.{kind_joined}, SideLaws.{sides_tree, parts_tree}}}
 use Rattle.lifter.proofs.RunsMore.{last_fact, one_longer, ran_derive, ran_split, ran_close}
 
@@ -28,10 +28,8 @@ closed_by_part c f g way k n m old one new part more is rest = λ start b opens 
 
 either_false : (a b : FactKind) → joined_kind false a b ≡ False → (a ≡ False) × (b ≡ False)
 either_false False b e = (refl, e)
-either_false True b e = cc
-either_false Open True e = cc
-either_false Open False e = cc
 either_false Open Open e = cc
+either_false _ _ e = cc
 
 -- both sides of a fact that is False are so
 pub sides_false : (c : Case) (f g h : PlainFact) → sides c f ≡ Some (g, h) → kind_of (fact_tree c f) ≡ False

@@ -1,13 +1,14 @@
 -- What the steps of a refutation of the ground tree say of what is known.
-use Rattle.std.{proofs.Common.{◌≡◌, inl, inr, ℕ, Bool, true, false, List, [], ◌∷◌, ◌++◌, Option, Some, None, refl, sym, ap, subst}, specs.Prelude.{Contains}}
+use Rattle.std.{proofs.Common.{◌≡◌, inl, inr, ℕ, Bool, true, false, List, [], ◌∷◌, ◌++◌, Option, Some, refl, sym, ap, subst}, specs.Prelude.{Contains}}
 use Rattle.pc_common.specs.{World.{Node}, Chain.{Leads}, Steps.{cycle, path, absent, false_step}}
 use Rattle.pc_common.proofs.Elements.{In, in_from_contains, in_either, from_flat, from_map}
 use Rattle.pc_ground.specs.declared.literal.Literal.{Literal, TheVariants.{Node as a_node, Edge as an_edge, NoNode as not_node, NoEdge as not_edge}}
-use Rattle.pc_ground.specs.{declared.row.Row.{Row}, Tree.{Tree, always, never, leaf, both, either, turned}, Rows.{rows_of}}
+use Rattle.pc_ground.specs.{declared.row.Row.{Row}, Tree.{Tree, never, leaf, either, turned}, Rows.{rows_of}}
 use Rattle.pc_ground.specs.Literals.{Joins, IsPresent, as_node, as_start, as_end}
 use Rattle.pc_ground.specs.Refutes.{subtree_at, Signed, signed, all_signed, part_at, Branch as TreeBranch, literal_of, literals_of, a_cycle, a_path, an_absence, Closes, a_contradiction, a_falsity, IsSplit}
 use Rattle.pc_ground.proofs.FlatRows.{subtree_part}
-use Rattle.lifter.specs.KnownFacts.{at_position, no_node, present, Entry, HasKey, IsPart, TellsLiteral, TellsAt, TellsAll, HaveMore, AreEdges, IsCycleKnown, IsPathKnown}
+use Rattle.refutation.specs.BranchFacts.{no_node, present}
+use Rattle.lifter.specs.KnownFacts.{or_at, Entry, HasKey, IsPart, TellsLiteral, TellsAt, TellsAll, HaveMore, AreEdges, IsCycleKnown, IsPathKnown}
 use Rattle.lifter.{specs.States.{IsCovered}, proofs.Tellings.{root_more}}
 
 pub covered_more : (rows : List (Row Node)) (es new : List Entry) (ps : TreeBranch) → HaveMore es new → IsCovered rows es ps → IsCovered rows new ps
@@ -25,13 +26,9 @@ covered_side rows es ps more h told q i = elim (in_either q ps (all_signed false
 
 module _ (t : Tree Node) (es : List Entry) (ps : TreeBranch) (covered : IsCovered (rows_of t) es ps) where
   is_leaf : (o : Option (Tree Node)) (l : Literal Node) → In l (literal_of o) → o ≡ Some (leaf l)
-  is_leaf None l i = elim i [ ]
-  is_leaf (Some always) l i = elim i [ ]
-  is_leaf (Some never) l i = elim i [ ]
   is_leaf (Some (leaf m)) l (inl e) = ap (λ x. Some (leaf x)) e
   is_leaf (Some (leaf m)) l (inr i) = elim i [ ]
-  is_leaf (Some (both a b)) l i = elim i [ ]
-  is_leaf (Some (either a b)) l i = elim i [ ]
+  is_leaf _ l i = elim i [ ]
 
   -- the part of the tree, or of its negation, under no sign
   plain_part : (n : Bool) (p : ℕ) (s : Tree Node) → n ≡ false → subtree_at (turned n t) p ≡ Some s → IsPart (rows_of t) p s
@@ -75,7 +72,7 @@ module _ (t : Tree Node) (es : List Entry) (ps : TreeBranch) (covered : IsCovere
   only_false (a_falsity e) = e
 
   -- an Or that may be split is known, and stands under no sign
-  pub split_known : (n : Bool) (p : ℕ) (a b : Tree Node) → IsSplit t ps n p a b → (n ≡ false) × (subtree_at t p ≡ Some (either a b)) × HasKey es (at_position p)
+  pub split_known : (n : Bool) (p : ℕ) (a b : Tree Node) → IsSplit t ps n p a b → (n ≡ false) × (subtree_at t p ≡ Some (either a b)) × HasKey es (or_at p)
   split_known n p a b s =
       let c = covered (signed n p) (in_from_contains (signed n p) ps s.0) in
       (c.0, plain_at n c.0 s.1, c.1 (either a b) (plain_part n p (either a b) c.0 s.1))

@@ -4,7 +4,8 @@ use Rattle.std.{proofs.lemmas.List.{map-append, take_all, drop_all}, specs.Prelu
 use Rattle.pc_common.{specs.World.{Node}, proofs.Elements.{In}}
 use Rattle.pc_ground.specs.{Keys.{key_node}, declared.node_key.NodeKey.{NodeKey}}
 use Rattle.static_preds.proofs.Walked.{drop_at}
-use Rattle.lifter.specs.KnownFacts.{edge, no_edge, Entry, entry, HasKey, AreEdges, AreNumbers, IsCycleKnown, IsPathKnown}
+use Rattle.refutation.specs.BranchFacts.{edge, no_edge}
+use Rattle.lifter.specs.KnownFacts.{Entry, entry, HasKey, AreEdges, AreNumbers, IsCycleKnown, IsPathKnown}
 
 -- the nodes after the first one
 abbrev pub along : List NodeKey → NodeKey → List Node

@@ -1,47 +1,21 @@
 -- Which constant And and Or over trees are.
 use Rattle.std.proofs.Common.{◌≡◌, ◌⊎◌, inl, inr, Bool, true, false, List, [], ◌∷◌, map, length, refl, ◌∙◌, ap}
 use Rattle.pc_common.{specs.World.{Node}, proofs.Elements.{In}}
-use Rattle.pc_ground.specs.{Tree.{Tree, always, never, leaf, both, either}, PlainGround.{conjoined, disjoined}}
-use Rattle.lifter.specs.{Trees.{joined_tree, joined_trees}, declared.kind.FactKind.{FactKind, TheVariants.{True, Open, False}}}
+use Rattle.pc_ground.specs.{Tree.{Tree, leaf, both, either}, PlainGround.{conjoined, disjoined}}
+use Rattle.lifter.specs.{Trees.{joined_tree, joined_trees}, declared.kind.FactKind.{FactKind, TheVariants.{True, Open}}}
 use Rattle.lifter.specs.Kinds.{kind_of, joined_kind, decider, neutral, kind_over}
 
 kind_conjoined : (t u : Tree Node) → kind_of (conjoined t u) ≡ joined_kind true (kind_of t) (kind_of u)
-kind_conjoined always u = refl
-kind_conjoined never u = refl
-kind_conjoined (leaf l) always = refl
-kind_conjoined (leaf l) never = refl
 kind_conjoined (leaf l) (leaf m) = refl
-kind_conjoined (leaf l) (both d e) = refl
-kind_conjoined (leaf l) (either d e) = refl
-kind_conjoined (both a b) always = refl
-kind_conjoined (both a b) never = refl
 kind_conjoined (both a b) (leaf m) = refl
-kind_conjoined (both a b) (both d e) = refl
-kind_conjoined (both a b) (either d e) = refl
-kind_conjoined (either a b) always = refl
-kind_conjoined (either a b) never = refl
 kind_conjoined (either a b) (leaf m) = refl
-kind_conjoined (either a b) (both d e) = refl
-kind_conjoined (either a b) (either d e) = refl
+kind_conjoined _ _ = refl
 
 kind_disjoined : (t u : Tree Node) → kind_of (disjoined t u) ≡ joined_kind false (kind_of t) (kind_of u)
-kind_disjoined never u = refl
-kind_disjoined always u = refl
-kind_disjoined (leaf l) always = refl
-kind_disjoined (leaf l) never = refl
 kind_disjoined (leaf l) (leaf m) = refl
-kind_disjoined (leaf l) (both d e) = refl
-kind_disjoined (leaf l) (either d e) = refl
-kind_disjoined (both a b) always = refl
-kind_disjoined (both a b) never = refl
 kind_disjoined (both a b) (leaf m) = refl
-kind_disjoined (both a b) (both d e) = refl
-kind_disjoined (both a b) (either d e) = refl
-kind_disjoined (either a b) always = refl
-kind_disjoined (either a b) never = refl
 kind_disjoined (either a b) (leaf m) = refl
-kind_disjoined (either a b) (both d e) = refl
-kind_disjoined (either a b) (either d e) = refl
+kind_disjoined _ _ = refl
 
 pub kind_joined : (all : Bool) (t u : Tree Node) → kind_of (joined_tree all t u) ≡ joined_kind all (kind_of t) (kind_of u)
 kind_joined true t u = kind_conjoined t u
@@ -62,31 +36,17 @@ decided_first false k = refl
 
 pub decided_second : (all : Bool) (k : FactKind) → joined_kind all k (decider all) ≡ decider all
 decided_second true True = refl
-decided_second true False = refl
-decided_second true Open = refl
 decided_second false True = refl
-decided_second false False = refl
-decided_second false Open = refl
+decided_second _ _ = refl
 
 pub neutral_first : (all : Bool) (k : FactKind) → joined_kind all (neutral all) k ≡ k
 neutral_first true k = refl
 neutral_first false k = refl
 
 pub joined_assoc : (all : Bool) (a b k : FactKind) → joined_kind all (joined_kind all a b) k ≡ joined_kind all a (joined_kind all b k)
-joined_assoc true True b k = refl
-joined_assoc true False b k = refl
-joined_assoc true Open True k = refl
-joined_assoc true Open False k = refl
 joined_assoc true Open Open True = refl
-joined_assoc true Open Open False = refl
-joined_assoc true Open Open Open = refl
-joined_assoc false False b k = refl
-joined_assoc false True b k = refl
-joined_assoc false Open False k = refl
-joined_assoc false Open True k = refl
 joined_assoc false Open Open True = refl
-joined_assoc false Open Open False = refl
-joined_assoc false Open Open Open = refl
+joined_assoc _ _ _ _ = refl
 
 open_more : (all : Bool) (a k : FactKind) → a ≡ Open → (k ≡ neutral all) ⊎ (k ≡ Open) → joined_kind all a k ≡ Open
 open_more true a k e (inl h) = ap (λ x. joined_kind true x k) e ∙ ap (joined_kind true Open) h

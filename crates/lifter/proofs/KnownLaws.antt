@@ -1,16 +1,17 @@
 -- What is known stays known while a branch goes on.
 use Rattle.std.proofs.Common.{◌≡◌, ◌⊎◌, inl, inr, ℕ, true, false, List, [], ◌∷◌, ◌++◌, Some, take, refl, sym, ap, subst, arith, length-append}
-use Rattle.std.proofs.lemmas.List.{take-append-le}
+use Rattle.std.proofs.lemmas.List.{append-nil, take-append-le}
 use Rattle.pc_common.{specs.{Case.{Case}, World.{Node}}, proofs.{Elements.{In, in_front}, Places.{slice_get-more}}}
 use Rattle.pc_ground.specs.{declared.row.Row.{Row}, Refutes.{Branch as TreeBranch}}
 use Rattle.lifted_facts.specs.{PlainFacts.{PlainFact, Branch, plain_fact, one_node, one_edge}, Lifted.{LiftedStep, Runs}}
 use Rattle.lifter.specs.declared.state.Later.{Later}
-use Rattle.lifter.specs.KnownFacts.{PlainKey, at_position, edge, no_edge, no_node, present, Entry, entry, HasKey, IsKnown, AreKnown, HasMarked, HaveMore}
+use Rattle.refutation.specs.BranchFacts.{PlainBranchFact, at_position, edge, no_edge, no_node, present}
+use Rattle.lifter.specs.KnownFacts.{Entry, entry, HasKey, IsKnown, AreKnown, HasMarked, HaveMore}
 use Rattle.lifter.specs.States.{waiting, AreLater, IsGood, IsSide, AreMatched, no_more, due, side}
 
 module _ (c : Case) (rows : List (Row Node)) where
-  pub known_more : (b more : Branch) (key : PlainKey) (k : ℕ) → IsKnown c rows b key k → IsKnown c rows (b ++ more) key k
-  known_more b more (at_position p) k h = (h.0, slice_get-more b more k h.0 h.1, h.2)
+  pub known_more : (b more : Branch) (key : PlainBranchFact) (k : ℕ) → IsKnown c rows b key k → IsKnown c rows (b ++ more) key k
+  known_more b more (at_position q) k h = (h.0, h.1, slice_get-more b more k h.1 h.2, h.3)
   known_more b more (edge x y) k h = slice_get-more b more k (one_edge true (Some x) (Some y)) h
   known_more b more (no_edge x y) k h = slice_get-more b more k (one_edge false (Some x) (Some y)) h
   known_more b more (no_node a) k h = slice_get-more b more k (one_node false (Some a)) h
@@ -55,32 +56,24 @@ module _ (c : Case) (rows : List (Row Node)) where
   good_fact start b g es ls old new h r = record {
     run = (let P : List Branch → Type 0 = λ ws. Runs c new start ((b ++ g ∷ []) ∷ ws) in subst P (sym (waiting_more b (g ∷ []) es ls h.later)) r);
     known = all_known_more b (g ∷ []) es h.known;
-    later = (let P : List Entry → Type 0 = λ xs. AreLater c rows (b ++ g ∷ []) xs ls in subst P (append_none es) (later_more b (g ∷ []) es [] ls h.later));
+    later = (let P : List Entry → Type 0 = λ xs. AreLater c rows (b ++ g ∷ []) xs ls in subst P (append-nil es) (later_more b (g ∷ []) es [] ls h.later));
   }
-    where
-      append_none : {X : Type 0} (xs : List X) → xs ++ [] ≡ xs
-      append_none [] = refl
-      append_none (x ∷ xs) = ap (λ zs. x ∷ zs) (append_none xs)
 
   -- one key more
-  pub good_key : (start : List Branch) (b : Branch) (old new : List Entry) (key : PlainKey) (k : ℕ) (ls : List Later) (steps : List LiftedStep)
+  pub good_key : (start : List Branch) (b : Branch) (old new : List Entry) (key : PlainBranchFact) (k : ℕ) (ls : List Later) (steps : List LiftedStep)
       → IsGood c rows start b old ls steps → HasMarked old key k new → IsKnown c rows b key k → IsGood c rows start b new ls steps
   good_key start b old new key k ls steps h m is = record {
     run = h.run;
     known = λ other j i. go other j (m.each other j i);
     later = (let P : List Entry → Type 0 = λ xs. AreLater c rows b xs ls in
-        subst P (sym m.first) (let B : Branch → Type 0 = λ x. AreLater c rows x (old ++ m.more) ls in subst B (append_none b)
+        subst P (sym m.first) (let B : Branch → Type 0 = λ x. AreLater c rows x (old ++ m.more) ls in subst B (append-nil b)
         (later_more b [] old m.more ls h.later)));
   }
     where
-      append_none : {X : Type 0} (xs : List X) → xs ++ [] ≡ xs
-      append_none [] = refl
-      append_none (x ∷ xs) = ap (λ zs. x ∷ zs) (append_none xs)
-
-      go : (other : PlainKey) (j : ℕ) → In (entry other j) old ⊎ ((key ≡ other) × (k ≡ j)) → IsKnown c rows b other j
+      go : (other : PlainBranchFact) (j : ℕ) → In (entry other j) old ⊎ ((key ≡ other) × (k ≡ j)) → IsKnown c rows b other j
       go other j (inl i) = h.known other j i
       go other j (inr e) =
-          let P : PlainKey → Type 0 = λ x. IsKnown c rows b x k in
+          let P : PlainBranchFact → Type 0 = λ x. IsKnown c rows b x k in
           let Q : ℕ → Type 0 = λ n. IsKnown c rows b other n in
           subst Q e.1 (subst P e.0 is)
 

@@ -3,7 +3,8 @@ use Rattle.std.{proofs.Common.{◌≡◌, ℕ, List, [], ◌∷◌, ◌++◌, re
 use Rattle.pc_common.{specs.{Case.{Case}, World.{Node}}, proofs.Elements.{In}}
 use Rattle.pc_ground.specs.declared.row.Row.{Row}
 use Rattle.lifted_facts.specs.{PlainFacts.{Branch}, Lifted.{LiftedLeaf, close, cycle, path, absent, Follows, Closes}}
-use Rattle.lifter.specs.{declared.state.State.{State}, KnownFacts.{edge, no_edge, no_node, present, Entry, entry, AreKnown, AreNumbers}, States.{branch_of}}
+use Rattle.refutation.specs.BranchFacts.{edge, no_edge, no_node, present}
+use Rattle.lifter.specs.{declared.state.State.{State}, KnownFacts.{Entry, entry, AreKnown, AreNumbers}, States.{branch_of}}
 use Rattle.lifter.specs.Progress.{HasClosedBy}
 
 module _ (c : Case) (rows : List (Row Node)) (b : Branch) (es : List Entry) (known : AreKnown c rows b es) where

@@ -5,7 +5,7 @@ use Rattle.pc_common.{specs.{Case.{Case}, World.{Node}}, proofs.Places.{there_at
 use Rattle.pc_syntax.specs.declared.{closed_term.{ClosedNode.{ClosedNode}, ClosedEdge.{ClosedEdge}}, term.Sort.{Sort, TheVariants.{Microop, Core}}}
 use Rattle.pc_syntax.specs.Truth.{Meaning, range_of}
 use Rattle.pc_syntax.specs.Closed.{PlainClosed, plain_closed, closed_not, closed_and, closed_or, closed_implies, closed_forall, closed_exists, closed_nodes, closed_edges, closed_bind, closed_node}
-use Rattle.pc_ground.specs.Tree.{Tree, always, never, leaf, both, either}
+use Rattle.pc_ground.specs.Tree.{Tree, always, never}
 use Rattle.static_preds.{proofs.Walked.{drop_at}, specs.Values.{meanings}}
 use Rattle.lifted_facts.specs.declared.{fact.{Said.{Said as SaidFact}, Fact.{Fact, TheVariants.{Said}}}, way.Way.{Way}}
 use Rattle.lifted_facts.specs.{PlainFacts.{PlainFact, said, one_node, one_edge, plain_fact, plain_part}, Parts.{said_inside, part_of}}
@@ -47,17 +47,11 @@ module _ (c : Case) (slots : List Meaning) where
 
 pub is_always : (t : Tree Node) → kind_of t ≡ True → t ≡ always
 is_always always e = refl
-is_always never e = cc
-is_always (leaf l) e = cc
-is_always (both a b) e = cc
-is_always (either a b) e = cc
+is_always _ e = cc
 
 pub is_never : (t : Tree Node) → kind_of t ≡ False → t ≡ never
-is_never always e = cc
 is_never never e = refl
-is_never (leaf l) e = cc
-is_never (both a b) e = cc
-is_never (either a b) e = cc
+is_never _ e = cc
 
 -- And that is False for no first part
 later_false : (a b : FactKind) → joined_kind true a b ≡ False → (a ≡ False → ⊥) → b ≡ False
@@ -118,8 +112,7 @@ module _ {X : Type 0} (tree : X → Tree Node) where
     where
       last : (k : FactKind) → joined_kind true k False ≡ False
       last True = refl
-      last False = refl
-      last Open = refl
+      last _ = refl
 
   -- And is no constant from any place on, up to one from which on it is none
   pub open_from : (xs : List X) (r j n : ℕ) → j + n ≡ r → r < length xs → kind_of (rest_of xs r) ≡ Open → (kind_of (rest_of xs 0) ≡ False → ⊥)

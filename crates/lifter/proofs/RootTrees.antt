@@ -4,7 +4,7 @@ use Rattle.std.specs.{Prelude.{slice_get, Contains}, Option.{option_map}}
 use Rattle.pc_common.{specs.{Case.{Case}, World.{Node, World}, Steps.{Step}}, proofs.{Elements.{in_from_contains}, Places.{one_item}}}
 use Rattle.pc_syntax.specs.{declared.closed.Closed.{Closed}, Closed.{PlainClosed, plain_closed}}
 use Rattle.pc_ground.specs.declared.{node_key.NodeKey.{NodeKey}, row.{Row.{Row}, RowKind.TheVariants.{False}}, version.Version.TheVariants.{One}}
-use Rattle.pc_ground.specs.{Keys.{key_node, row_node, renamed_kind}, Tree.{Tree, always, never, leaf, both, either}, Rows.{rows_of, root_kind}}
+use Rattle.pc_ground.specs.{Keys.{key_node, row_node, renamed_kind}, Tree.{Tree, always, never}, Rows.{rows_of, root_kind}}
 use Rattle.pc_ground.specs.{Unfolded.{closed_unfolded}, GroundTree.{closed_ground_tree}, Stages.{plain_axioms}, Refutes.{asserted, all_signed, IsRefutation}}
 use Rattle.pc_ground.proofs.{FlatRows.{root_of, part_whole, part_row, renamed_false}, Refuted.{refutation_sound}}
 use Rattle.lifted_facts.specs.PlainFacts.{said, Branch, root}
@@ -35,25 +35,17 @@ no_always t steps e r =
 
 -- the kind of a tree by its first row
 pub row_never : (t : Tree Node) → root_kind t ≡ False → kind_of t ≡ NeverKind
-row_never always e = cc
 row_never never e = refl
-row_never (leaf l) e = cc
-row_never (both a b) e = cc
-row_never (either a b) e = cc
+row_never _ e = cc
 
 pub row_open : (t : Tree Node) (steps : List (Step Node)) → (root_kind t ≡ False → ⊥) → IsRefutation One t steps → kind_of t ≡ Open
 row_open always steps refused r = absurd (no_always always steps refl r)
 row_open never steps refused r = absurd (refused refl)
-row_open (leaf l) steps refused r = refl
-row_open (both a b) steps refused r = refl
-row_open (either a b) steps refused r = refl
+row_open _ steps refused r = refl
 
 open_some : (t : Tree Node) → kind_of t ≡ Open → t ≡ never → ⊥
-open_some always e f = cc
 open_some never e f = cc
-open_some (leaf l) e f = cc
-open_some (both a b) e f = cc
-open_some (either a b) e f = cc
+open_some _ e f = cc
 
 -- the whole tree stands at position 0
 pub stands_whole : (t u : Tree Node) (rows : List (Row Node)) → rows ≡ rows_of t → t ≡ u → IsPart rows 0 u

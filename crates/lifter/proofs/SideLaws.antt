@@ -5,7 +5,7 @@ use Rattle.std.specs.Option.{option_map, option_and_then}
 use Rattle.pc_common.{specs.{Case.{Case}, World.{Node}}, proofs.Places.{there_at}}
 use Rattle.pc_syntax.specs.{declared.closed_term.{ClosedNode.{ClosedNode}, ClosedEdge.{ClosedEdge}}, Predicates.{predicate_holds}, Truth.{Meaning, range_of}}
 use Rattle.pc_syntax.specs.Closed.{PlainClosed, closed_not, closed_and, closed_or, closed_implies, closed_forall, closed_exists, closed_static, closed_nodes, closed_edges, closed_bind, closed_node, closed_value, closed_argument}
-use Rattle.pc_ground.specs.{Tree.{Tree, always, never, leaf, both, either}, PlainGround.{conjoined, disjoined}, Unfolded.{decided}}
+use Rattle.pc_ground.specs.{Tree.{Tree, always, never}, PlainGround.{conjoined, disjoined}, Unfolded.{decided}}
 use Rattle.static_preds.proofs.Walked.{drop_at}
 use Rattle.lifted_facts.specs.{declared.way.Way.{Way, TheVariants.{Left, Right, Not, Bind, Inst, Member}}, PlainFacts.{PlainFact, said, one_node, one_edge}}
 use Rattle.lifted_facts.{specs.Parts.{number_of_instance, said_inside, part_of, or_later, sides, is_false}, proofs.PartTruth.{mapped}}
@@ -66,10 +66,7 @@ module _ (c : Case) where
 
   conjoined_always : (t : Tree Node) → conjoined t always ≡ t
   conjoined_always always = refl
-  conjoined_always never = refl
-  conjoined_always (leaf l) = refl
-  conjoined_always (both a b) = refl
-  conjoined_always (either a b) = refl
+  conjoined_always _ = refl
 
   two_parts : (plus more : Bool) (p q : PlainClosed) (slots : List Meaning)
       → conjoined (said_tree c plus p slots) (said_tree c more q slots) ≡ joined_trees true (map (fact_tree c) (said plus p slots 0 ∷ said more q slots 0 ∷ []))

@@ -7,7 +7,7 @@ use Rattle.pc_ground.specs.{declared.{row.Row.{Row}, version.Version.TheVariants
 use Rattle.pc_ground.{specs.Refutes.{asserted, all_signed, left_branch, right_branch}, proofs.FlatRows.{one_part, subtree_part, parts_either}}
 use Rattle.lifted_facts.specs.{declared.fact.Fact.{Fact}, PlainFacts.{PlainFact, Branch, plain_fact, IsProper}, Lifted.{HasFact}, Parts.{sides}}
 use Rattle.lifter.specs.{Trees.{fact_tree}, declared.{kind.FactKind.TheVariants.{Open}, state.{Task.TheVariants.{Side}, Later.{Later}, State.{State}}}}
-use Rattle.lifter.specs.{Kinds.{kind_of}, KnownFacts.{Entry, entry, at_position, IsPart, IsOr, HaveMore}}
+use Rattle.lifter.specs.{Kinds.{kind_of}, KnownFacts.{Entry, entry, or_at, IsPart, IsOr, HaveMore}}
 use Rattle.lifter.specs.{States.{branch_of, IsGoodState, IsCovered, IsSide, AreMatched, side, IsMatchedState}, Unfoldings.{HasUnfolded}, Progress.{HasSplitOr}}
 use Rattle.lifter.proofs.{KnownLaws.{matched_same}, StateMoves.{mapped_length}, CoveredBranches.{covered_more, covered_side}}
 
@@ -53,16 +53,16 @@ pub record IsSplitBy (c : Case) (rows : List (Row Node)) (s : State) (p n : ℕ)
 
 -- the Or at a position that is known, by its fact in the code
 module _ (c : Case) (rows : List (Row Node)) (start : List Branch) (s : State) (p n : ℕ) (good : IsGoodState c rows start s)
-    (key : In (entry (at_position p) n) s.known) where
+    (key : In (entry (or_at p) n) s.known) where
   pub or_within : n < length s.facts.items
-  or_within = (let k = good.known (at_position p) n key in fact_within s.facts.items n k.0 k.1)
+  or_within = (let k = good.known (or_at p) n key in fact_within s.facts.items n k.1 k.2)
 
   pub or_fact : (x : Fact) → x ≡ get_or s.facts.items n x → HasFact (branch_of s) n (plain_fact x) × IsOr c rows (plain_fact x) p
   or_fact x is =
-      let k = good.known (at_position p) n key in
-      let same = sym (fact_read s.facts.items n x k.0 k.1 is) in
+      let k = good.known (or_at p) n key in
+      let same = sym (fact_read s.facts.items n x k.1 k.2 is) in
       let P : PlainFact → Type 0 = λ f. HasFact (branch_of s) n f × IsOr c rows f p in
-      subst P same (k.1, k.2)
+      subst P same (k.2, k.3)
 
   pub split_by : (x : Fact) (g h : PlainFact) → x ≡ get_or s.facts.items n x → sides c (plain_fact x) ≡ Some (pair g h) → IsSplitBy c rows s p n x g h
   split_by x g h is are =

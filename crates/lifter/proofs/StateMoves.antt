@@ -1,12 +1,13 @@
 -- What the moves of the state keep.
 use Rattle.std.proofs.Common.{◌≡◌, ℕ, suc, ◌+◌, List, [], ◌∷◌, ◌++◌, length, map, take, reverse, refl, sym, ◌∙◌, ap, subst, arith, append_assoc}
-use Rattle.std.{proofs.{Math.Seq.{take-length}, lemmas.List.{map-append, reverse-append, Elements.{All-push}}}, specs.Prelude.{All}}
+use Rattle.std.{proofs.{Math.Seq.{take-length}, lemmas.List.{append-nil, map-append, reverse-append, Elements.{All-push}}}, specs.Prelude.{All}}
 use Rattle.pc_common.{specs.{Case.{Case}, World.{Node}}, proofs.Places.{slice_get-more}}
 use Rattle.pc_ground.specs.declared.row.Row.{Row}
 use Rattle.lifted_facts.specs.{declared.{fact.Fact.{Fact}, way.Way.{Way}}, PlainFacts.{PlainFact, Branch, plain_fact, IsProper}}
 use Rattle.lifted_facts.specs.Lifted.{LiftedStep, derive, split, HasFact, HasPart, HasSides, Runs}
 use Rattle.lifter.specs.{Trees.{fact_tree}, declared.{kind.FactKind.TheVariants.{False}, state.{Task.{Task, TheVariants.{Close}}, Later.{Later}, State.{State}}}}
-use Rattle.lifter.specs.{Kinds.{kind_of}, Closings.{HasClosed}, KnownFacts.{PlainKey, Entry, IsKnown, AreKnown, HasMarked, HaveMore}}
+use Rattle.refutation.specs.BranchFacts.{PlainBranchFact}
+use Rattle.lifter.specs.{Kinds.{kind_of}, Closings.{HasClosed}, KnownFacts.{Entry, IsKnown, AreKnown, HasMarked, HaveMore}}
 use Rattle.lifter.specs.States.{branch_of, waiting, IsDue, AreKept, AreLater, IsGood, IsGoodState, AreMatched, due, Moves, HasGained}
 use Rattle.lifter.proofs.RunsMore.{last_fact, one_longer, ran_derive, ran_split}
 use Rattle.lifter.proofs.KnownLaws.{waiting_more, all_known_more, good_fact, good_key, good_same, matched_same, matched_more, later_more, keys_front, keys_same}
@@ -20,14 +21,10 @@ mapped_length [] = refl
 mapped_length (f ∷ fs) = ap suc (mapped_length fs)
 
 module _ (c : Case) (rows : List (Row Node)) where
-  append_none : {X : Type 0} (xs : List X) → xs ++ [] ≡ xs
-  append_none [] = refl
-  append_none (x ∷ xs) = ap (λ zs. x ∷ zs) (append_none xs)
-
   pub moves_same : (s : State) → Moves c rows s s
   moves_same s = record {
     more = [];
-    facts = sym (append_none (branch_of s));
+    facts = sym (append-nil (branch_of s));
     keys = λ key h. h;
     kept = λ h. h;
     good = λ start h. h;
@@ -118,7 +115,7 @@ module _ (c : Case) (rows : List (Row Node)) where
   good_waits start b g es ls steps r known later = record {
     run = (let P : List Branch → Type 0 = λ ws. Runs c steps start ((b ++ g ∷ []) ∷ ws) in subst P (sym (waiting_more c rows b (g ∷ []) es ls later)) r);
     known = all_known_more c rows b (g ∷ []) es known;
-    later = (let P : List Entry → Type 0 = λ xs. AreLater c rows (b ++ g ∷ []) xs ls in subst P (append_none es) (later_more c rows b (g ∷ []) es [] ls later));
+    later = (let P : List Entry → Type 0 = λ xs. AreLater c rows (b ++ g ∷ []) xs ls in subst P (append-nil es) (later_more c rows b (g ∷ []) es [] ls later));
   }
 
   -- a split, of which the second branch waits
@@ -192,14 +189,14 @@ module _ (c : Case) (rows : List (Row Node)) where
       }
 
   -- a key more
-  pub marked : (old new : State) (key : PlainKey) (k : ℕ) → HasMarked old.known key k new.known → IsKnown c rows (branch_of old) key k
+  pub marked : (old new : State) (key : PlainBranchFact) (k : ℕ) → HasMarked old.known key k new.known → IsKnown c rows (branch_of old) key k
       → new.facts.items ≡ old.facts.items → new.later.items ≡ old.later.items → new.steps ≡ old.steps → Moves c rows old new
   marked old new key k m is facts later steps =
       let same : branch_of new ≡ branch_of old = ap (map plain_fact) facts in
       let turned : reverse new.later.items ≡ reverse old.later.items = ap reverse later in
       record {
         more = [];
-        facts = same ∙ sym (append_none (branch_of old));
+        facts = same ∙ sym (append-nil (branch_of old));
         keys = (let P : List Entry → Type 0 = λ es. HaveMore old.known es in subst P (sym m.first) (keys_front old.known m.more));
         kept = λ h. record {
           proper = (let P : List Fact → Type 0 = λ fs. All (IsProper c) fs in subst P (sym facts) h.proper);

@@ -6,7 +6,8 @@ use Rattle.static_preds.proofs.Walked.{drop_at}
 use Rattle.pc_ground.specs.{declared.{row.Row.{Row}, version.Version.TheVariants.{One}}, Tree.{Tree}, Rows.{rows_of}}
 use Rattle.pc_ground.specs.Refutes.{Branch as TreeBranch, Runs as TreeRuns, Closes as TreeCloses, literals_of, left_branch, right_branch}
 use Rattle.lifted_facts.specs.{PlainFacts.{Branch}, Lifted.{Runs}}
-use Rattle.lifter.specs.{declared.state.State.{State}, KnownFacts.{at_position, no_node, present, HasKey, IsCycleKnown, IsPathKnown}}
+use Rattle.refutation.specs.BranchFacts.{no_node, present}
+use Rattle.lifter.specs.{declared.state.State.{State}, KnownFacts.{or_at, HasKey, IsCycleKnown, IsPathKnown}}
 use Rattle.lifter.specs.States.{IsGoodState, IsCovered}
 use Rattle.lifter.specs.Progress.{HasFollowed, HasStepsLeft, IsNextStep, HasTakenStep, LeavesWaiting, AreWaiting, HasGoneOn, HasSplitOr, HasClosedBy}
 use Rattle.lifter.proofs.{CoveredBranches.{split_known, cycle_known, path_known, absent_known, only_false}, LeftBranches.{left_by}}
@@ -19,7 +20,7 @@ module _ (c : Case) (rows : List (Row Node)) (start : List Branch) (s : State) w
   covered_here steps h = (let P : List (Row Node) → Type 0 = λ rs. IsCovered rs s.known h.at.first in subst P h.spelled h.at.covered)
 
   pub can_split : (n : Bool) (p : ℕ) (rest : List (Step Node)) → HasStepsLeft c rows start s true (split n p ∷ rest)
-      → IsGoodState c rows start s × HasKey s.known (at_position p)
+      → IsGoodState c rows start s × HasKey s.known (or_at p)
   can_split n p rest h =
       let r = run_here (split n p ∷ rest) h in
       (h.at.good, (split_known h.tree s.known h.at.first (covered_here (split n p ∷ rest) h) n p r.0 r.1 r.2).2)

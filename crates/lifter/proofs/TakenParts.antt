@@ -1,7 +1,7 @@
 -- And over facts, of which the ones before a place are unfolded.
 use Rattle.std.{proofs.Common.{◌≡◌, ℕ, ◌+◌, List, Some, refl, sym, ◌∙◌, ap, subst}, specs.Prelude.{slice_get}}
 use Rattle.pc_common.specs.{Case.{Case}, World.{Node}}
-use Rattle.pc_ground.specs.{declared.row.Row.{Row}, Tree.{Tree, always, never, both, either, size_of, leaf}, PlainGround.{conjoined, disjoined}}
+use Rattle.pc_ground.specs.{declared.row.Row.{Row}, Tree.{Tree, always, both, either, size_of, leaf}, PlainGround.{conjoined, disjoined}}
 use Rattle.pc_ground.{specs.Refutes.{asserted}, proofs.{FlatRows.{parts_both}, NormalForms.{conjoined_always}}}
 use Rattle.lifted_facts.specs.PlainFacts.{PlainFact}
 use Rattle.lifter.specs.{Trees.{fact_tree}, declared.{kind.FactKind.TheVariants.{Open}, state.State.{State}}, Kinds.{kind_of}}
@@ -11,42 +11,16 @@ use Rattle.lifter.proofs.Tellings.{tells_both, tells_more}
 
 -- And and Or of two trees that are no constants
 pub open_both : (t u : Tree Node) → kind_of t ≡ Open → kind_of u ≡ Open → conjoined t u ≡ both t u
-open_both always u e f = cc
-open_both never u e f = cc
-open_both (leaf l) always e f = cc
-open_both (leaf l) never e f = cc
 open_both (leaf l) (leaf m) e f = refl
-open_both (leaf l) (both a b) e f = refl
-open_both (leaf l) (either a b) e f = refl
-open_both (both a b) always e f = cc
-open_both (both a b) never e f = cc
 open_both (both a b) (leaf m) e f = refl
-open_both (both a b) (both d g) e f = refl
-open_both (both a b) (either d g) e f = refl
-open_both (either a b) always e f = cc
-open_both (either a b) never e f = cc
 open_both (either a b) (leaf m) e f = refl
-open_both (either a b) (both d g) e f = refl
-open_both (either a b) (either d g) e f = refl
+open_both _ _ e f = cc
 
 pub open_either : (t u : Tree Node) → kind_of t ≡ Open → kind_of u ≡ Open → disjoined t u ≡ either t u
-open_either always u e f = cc
-open_either never u e f = cc
-open_either (leaf l) always e f = cc
-open_either (leaf l) never e f = cc
 open_either (leaf l) (leaf m) e f = refl
-open_either (leaf l) (both a b) e f = refl
-open_either (leaf l) (either a b) e f = refl
-open_either (both a b) always e f = cc
-open_either (both a b) never e f = cc
 open_either (both a b) (leaf m) e f = refl
-open_either (both a b) (both d g) e f = refl
-open_either (both a b) (either d g) e f = refl
-open_either (either a b) always e f = cc
-open_either (either a b) never e f = cc
 open_either (either a b) (leaf m) e f = refl
-open_either (either a b) (both d g) e f = refl
-open_either (either a b) (either d g) e f = refl
+open_either _ _ e f = cc
 
 -- the facts before a place are unfolded, of And over facts that stands at one position
 pub record IsTakenTo (c : Case) (rows : List (Row Node)) (fs : List PlainFact) (k whole at : ℕ) (old new : State) : Type 0 where

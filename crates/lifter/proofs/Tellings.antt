@@ -2,8 +2,9 @@
 use Rattle.std.proofs.Common.{◌≡◌, inl, inr, ℕ, ◌+◌, List, subst}
 use Rattle.pc_common.{specs.World.{Node}, proofs.Elements.{in_either}}
 use Rattle.pc_ground.specs.declared.literal.Literal.{Literal, TheVariants.{Node as a_node, Edge as an_edge, NoNode as not_node, NoEdge as not_edge}}
-use Rattle.pc_ground.{specs.{declared.row.Row.{Row}, Tree.{Tree, leaf, both, either, size_of, always, never}, Refutes.{asserted}}, proofs.FlatRows.{one_part}}
-use Rattle.lifter.specs.KnownFacts.{at_position, edge, no_edge, no_node, present, Entry, HasKey, IsPart, TellsLiteral, TellsRoot, TellsAt, TellsAll, HaveMore}
+use Rattle.pc_ground.{specs.{declared.row.Row.{Row}, Tree.{Tree, leaf, both, either, size_of}, Refutes.{asserted}}, proofs.FlatRows.{one_part}}
+use Rattle.refutation.specs.BranchFacts.{edge, no_edge, no_node, present}
+use Rattle.lifter.specs.KnownFacts.{or_at, Entry, HasKey, IsPart, TellsLiteral, TellsRoot, TellsAt, TellsAll, HaveMore}
 
 literal_more : (es new : List Entry) (l : Literal Node) → HaveMore es new → TellsLiteral es l → TellsLiteral new l
 literal_more es new (a_node a) m h = m (present a) h
@@ -12,11 +13,9 @@ literal_more es new (not_node a) m h = m (no_node a) h
 literal_more es new (not_edge a b) m h = m (no_edge a b) h
 
 pub root_more : (es new : List Entry) (p : ℕ) (s : Tree Node) → HaveMore es new → TellsRoot es p s → TellsRoot new p s
-root_more es new p always m h = tt
-root_more es new p never m h = tt
 root_more es new p (leaf l) m h = literal_more es new l m h
-root_more es new p (both a b) m h = tt
-root_more es new p (either a b) m h = m (at_position p) h
+root_more es new p (either a b) m h = m (or_at p) h
+root_more es new p _ m h = tt
 
 module _ (rows : List (Row Node)) where
   pub tells_more : (es new : List Entry) (ps : List ℕ) → HaveMore es new → TellsAll rows es ps → TellsAll rows new ps
@@ -33,7 +32,7 @@ module _ (rows : List (Row Node)) where
   tells_leaf es p l here h q (inl e) = at_root es p q (leaf l) here h e
   tells_leaf es p l here h q (inr i) = elim i [ ]
 
-  pub tells_either : (es : List Entry) (p : ℕ) (a b : Tree Node) → IsPart rows p (either a b) → HasKey es (at_position p)
+  pub tells_either : (es : List Entry) (p : ℕ) (a b : Tree Node) → IsPart rows p (either a b) → HasKey es (or_at p)
       → TellsAll rows es (asserted (either a b) p)
   tells_either es p a b here h q (inl e) = at_root es p q (either a b) here h e
   tells_either es p a b here h q (inr i) = elim i [ ]

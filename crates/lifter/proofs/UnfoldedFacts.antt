@@ -2,19 +2,17 @@
 use Rattle.std.{proofs.Common.{◌≡◌, ℕ, Bool, true, false, List, Some, None, refl, sym, ◌∙◌, ap, subst}, specs.Prelude.{Result, Ok, Err, OnOk}}
 use Rattle.pc_common.specs.{Case.{Case}, World.{Node}}
 use Rattle.pc_ground.specs.{Keys.{literal_node}, declared.{node_key.NodeKey.{NodeKey}, literal.Literal.{Literal}}}
-use Rattle.pc_ground.specs.declared.{literal.Literal.TheVariants.{Node as a_node, Edge as an_edge, NoNode as not_node, NoEdge as not_edge}, row.Row.{Row}}
+use Rattle.pc_ground.specs.declared.{literal.Literal.TheVariants.{Node as a_node}, row.Row.{Row}}
 use Rattle.pc_ground.{specs.{Tree.{Tree, never, leaf}, PlainGround.{disjoined}, Refutes.{asserted}}, proofs.NormalForms.{disjoined_never}}
 use Rattle.lifted_facts.specs.{PlainFacts.{PlainFact, Branch}, Parts.{sides, is_false}, Lifted.{HasFact}}
 use Rattle.lifter.specs.{Trees.{fact_tree}, declared.{kind.FactKind.{FactKind, TheVariants.{True, False, Open}}, state.State.{State}}, Kinds.{kind_of, joined_kind}}
-use Rattle.lifter.specs.{PartLists.{IsSaid, parts_from}, KnownFacts.{at_position, HasKey, IsPart, IsOr, TellsLiteral, TellsAll}, States.{branch_of, Moves}}
+use Rattle.lifter.specs.{PartLists.{IsSaid, parts_from}, KnownFacts.{or_at, HasKey, IsPart, IsOr, TellsLiteral, TellsAll}, States.{branch_of, Moves}}
 use Rattle.lifter.{specs.Unfoldings.{fact_of, HasUnfolded}, proofs.{KindLaws.{kind_joined}, SideLaws.{sides_tree, parts_tree, false_tree}, PartWays.{is_never}}}
 use Rattle.lifter.proofs.{StateMoves.{moves_then}, Tellings.{tells_leaf, tells_either}, TakenParts.{open_either}}
 
 pub literal_tree : (c : Case) (l : Literal Node) → fact_tree c (fact_of l) ≡ leaf l
 literal_tree c (a_node a) = refl
-literal_tree c (an_edge a b) = refl
-literal_tree c (not_node a) = refl
-literal_tree c (not_edge a b) = refl
+literal_tree c _ = refl
 
 -- Or that is no constant, where the first side is one, and where only the second one is
 lost_one : (a b : FactKind) → joined_kind false a b ≡ Open → (a ≡ Open → ⊥) → (a ≡ False) × (b ≡ Open)
@@ -23,11 +21,9 @@ lost_one False b e other = (refl, e)
 lost_one Open b e other = absurd (other refl)
 
 lost_two : (a b : FactKind) → a ≡ Open → joined_kind false a b ≡ Open → (b ≡ Open → ⊥) → b ≡ False
-lost_two True b a e other = cc
-lost_two False b a e other = cc
-lost_two Open True a e other = cc
 lost_two Open False a e other = refl
 lost_two Open Open a e other = absurd (other refl)
+lost_two _ _ a e other = cc
 
 module _ (c : Case) (rows : List (Row Node)) where
   -- after some moves a tree is unfolded
@@ -71,7 +67,7 @@ module _ (c : Case) (rows : List (Row Node)) where
 
     pub both_told : (old new : State) (at : ℕ) → kind_of (fact_tree c g) ≡ Open → kind_of (fact_tree c h) ≡ Open → IsPart rows at (fact_tree c f)
         → Moves c rows old new
-        → HasKey new.known (at_position at) → HasUnfolded c rows (fact_tree c f) at old new
+        → HasKey new.known (or_at at) → HasUnfolded c rows (fact_tree c f) at old new
     both_told old new at first second here moves has =
         let same = sides_tree c f g h are ∙ open_either (fact_tree c g) (fact_tree c h) first second in
         let P : Tree Node → Type 0 = λ t. IsPart rows at t in

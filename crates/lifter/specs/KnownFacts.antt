@@ -1,45 +1,29 @@
 -- What is known on a lifted branch of the branch of the ground tree: under which number each asserted Or and literal is a fact.
 use Rattle.std.specs.Prelude.{ℕ, ◌≡◌, ◌⊎◌, true, false, List, [], ◌∷◌, ◌++◌, Some, map, drop}
 use Rattle.pc_common.specs.{Case.{Case}, World.{Node}, Elements.{In}}
-use Rattle.pc_ground.specs.{Keys.{key_node}, declared.literal.Literal.{Literal}}
+use Rattle.pc_ground.specs.{Refutes.{signed}, declared.literal.Literal.{Literal}}
 use Rattle.pc_ground.specs.declared.{literal.Literal.TheVariants.{Node as a_node, Edge as an_edge, NoNode as not_node, NoEdge as not_edge}, row.Row.{Row}}
 use Rattle.pc_ground.specs.{Tree.{Tree, always, never, leaf, both, either}, Rows.{rows_of}}
+use Rattle.refutation.specs.{BranchFacts.{PlainBranchFact, at_position, edge, no_edge, no_node, present, plain_branch_fact}, declared.branch_fact.BranchFact.{BranchFact}}
 use Rattle.lifted_facts.specs.{PlainFacts.{PlainFact, one_node, Branch}, Parts.{sides}, Lifted.{HasFact, IsEdge, Asserts}}
-use Rattle.lifter.specs.{Trees.{fact_tree}, declared.{kind.FactKind.TheVariants.{Open}, key.Key.{Key, TheVariants.{At, Edge, NoEdge, NoNode, Present}}}}
+use Rattle.lifter.specs.{Trees.{fact_tree}, declared.kind.FactKind.TheVariants.{Open}}
 use Rattle.lifter.specs.Kinds.{kind_of}
 
--- what can be known
-pub data PlainKey : Type 0 where
-  -- the Or at this position
-  at_position : ℕ → PlainKey
-  -- the first node happens before the second
-  edge : Node → Node → PlainKey
-  -- that is denied
-  no_edge : Node → Node → PlainKey
-  -- the node is denied
-  no_node : Node → PlainKey
-  -- the node is asserted, by itself or as an end of an edge
-  present : Node → PlainKey
-
--- a key of the code, with its keys as plain nodes
-abbrev pub plain_key : Key → PlainKey
-plain_key (At p) = at_position p
-plain_key (Edge a b) = edge (key_node a) (key_node b)
-plain_key (NoEdge a b) = no_edge (key_node a) (key_node b)
-plain_key (NoNode a) = no_node (key_node a)
-plain_key (Present a) = present (key_node a)
+-- the Or at this position is asserted; no position has a sign, since the rules of version 1 look at no negated tree
+abbrev pub or_at : ℕ → PlainBranchFact
+or_at p = at_position (signed false p)
 
 -- with the number of a fact
 abbrev pub Entry : Type 0
-Entry = PlainKey × ℕ
+Entry = PlainBranchFact × ℕ
 
-abbrev pub entry : PlainKey → ℕ → Entry
+abbrev pub entry : PlainBranchFact → ℕ → Entry
 entry key k = (key, k)
 
-abbrev pub entries_of : List (Key × ℕ) → List Entry
-entries_of es = map (λ e. entry (plain_key e.0) e.1) es
+abbrev pub entries_of : List (BranchFact × ℕ) → List Entry
+entries_of es = map (λ e. entry (plain_branch_fact e.0) e.1) es
 
-abbrev pub HasKey : List Entry → PlainKey → Type 0
+abbrev pub HasKey : List Entry → PlainBranchFact → Type 0
 HasKey es key = (k : ℕ) × In (entry key k) es
 
 -- the rows from p on begin with those of s
@@ -56,21 +40,21 @@ pub record IsOr (c : Case) (rows : List (Row Node)) (f : PlainFact) (p : ℕ) : 
   pub stands : IsPart rows p (either (fact_tree c first) (fact_tree c second))
 
 -- what a key says of the fact of its number
-abbrev pub IsKnown : Case → List (Row Node) → Branch → PlainKey → ℕ → Type 0
-IsKnown c rows b (at_position p) k = (f : PlainFact) × HasFact b k f × IsOr c rows f p
+abbrev pub IsKnown : Case → List (Row Node) → Branch → PlainBranchFact → ℕ → Type 0
+IsKnown c rows b (at_position q) k = (q.negated ≡ false) × (f : PlainFact) × HasFact b k f × IsOr c rows f q.position
 IsKnown c rows b (edge x y) k = IsEdge b true k x y
 IsKnown c rows b (no_edge x y) k = IsEdge b false k x y
 IsKnown c rows b (no_node a) k = HasFact b k (one_node false (Some a))
 IsKnown c rows b (present a) k = (f : PlainFact) × HasFact b k f × Asserts f a
 
 abbrev pub AreKnown : Case → List (Row Node) → Branch → List Entry → Type 0
-AreKnown c rows b es = (key : PlainKey) (k : ℕ) → In (entry key k) es → IsKnown c rows b key k
+AreKnown c rows b es = (key : PlainBranchFact) (k : ℕ) → In (entry key k) es → IsKnown c rows b key k
 
 -- one key more, if it was not there
-pub record HasMarked (old : List Entry) (key : PlainKey) (k : ℕ) (new : List Entry) : Type 0 where
+pub record HasMarked (old : List Entry) (key : PlainBranchFact) (k : ℕ) (new : List Entry) : Type 0 where
   pub more : List Entry
   pub first : new ≡ old ++ more
-  pub each : (other : PlainKey) (j : ℕ) → In (entry other j) new → In (entry other j) old ⊎ ((key ≡ other) × (k ≡ j))
+  pub each : (other : PlainBranchFact) (j : ℕ) → In (entry other j) new → In (entry other j) old ⊎ ((key ≡ other) × (k ≡ j))
   pub has : HasKey new key
 
 -- all that a literal says is known
@@ -85,7 +69,7 @@ TellsRoot es p always = Unit {0}
 TellsRoot es p never = Unit {0}
 TellsRoot es p (leaf l) = TellsLiteral es l
 TellsRoot es p (both a b) = Unit {0}
-TellsRoot es p (either a b) = HasKey es (at_position p)
+TellsRoot es p (either a b) = HasKey es (or_at p)
 
 -- what stands at a position is known, where it is an Or or a literal
 abbrev pub TellsAt : List (Row Node) → List Entry → ℕ → Type 0
@@ -96,7 +80,7 @@ TellsAll rows es ps = (p : ℕ) → In p ps → TellsAt rows es p
 
 -- each of these keys is one of those
 abbrev pub HaveMore : List Entry → List Entry → Type 0
-HaveMore old new = (key : PlainKey) → HasKey old key → HasKey new key
+HaveMore old new = (key : PlainBranchFact) → HasKey old key → HasKey new key
 
 -- the edges along these nodes are known
 abbrev pub AreEdges : List Entry → Node → List Node → Type 0

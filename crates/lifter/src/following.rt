@@ -7,12 +7,11 @@ ghost use Rattle.pc_ground.specs.declared.version.Version.TheVariants.{One};
 ghost use Rattle.refutation.specs.Steps.{plain_step};
 ghost use Rattle.lifted_facts.specs.PlainFacts.{Branch, root, IsProper};
 ghost use Rattle.lifted_facts.specs.Lifted.{Runs, IsLiftedRefutation};
-ghost use Rattle.lifter.specs.KnownFacts.{at_position, HasKey};
+ghost use Rattle.lifter.specs.KnownFacts.{or_at, HasKey};
 ghost use Rattle.lifter.specs.States.{branch_of, AreKept, IsGoodState};
 ghost use Rattle.lifter.specs.Progress.{HasStepsLeft, IsNextStep, HasTakenStep, AreWaiting, HasGoneOn, CanBeEntered, HasEntered, HasSplitOr};
 
 use super::closing::close_due;
-use super::key::Key;
 use super::leaves::{add_absent, add_cycle, add_path};
 use super::line::{LiftedSteps, Line};
 use super::moving::copy_fact;
@@ -25,7 +24,7 @@ use pc_case::Case;
 use pc_common::Memory;
 use pc_ground::{Flat, RowKind};
 use pc_syntax::Closed;
-use refutation::{Refutation, Step};
+use refutation::{BranchFact, Refutation, Step};
 use std::alloc::Global;
 
 /// Splits the fact of the Or at this position, which is known: the first side is unfolded, and the second one waits.
@@ -37,11 +36,11 @@ fn split_or<'a>(
 ) -> Result<(), Memory>
     requires kept { AreKept case.now state.old }
     requires good { (start : List Branch) × IsGoodState case.now tree.now start state.old }
-    requires known { HasKey state.old.known (at_position position) }
+    requires known { HasKey state.old.known (or_at position) }
     ensures kept { OnOk result (AreKept case.now state.new) }
     ensures split { OnOk result (HasSplitOr case.now tree.now position state.old state.new) }
 {
-    let Some(number) = state.known.get(Key::At(position)) else {
+    let Some(number) = state.known.get(BranchFact::At(false, position)) else {
         unreachable!()
     };
     let Some((first, second)) = sides(case, &state.facts[number as usize]) else {

@@ -1,16 +1,19 @@
 ghost use Rattle.std.specs.Prelude.{◌≡◌, [], ℕ, MatchOption, OnOk, length, take};
 ghost use Rattle.pc_common.specs.Elements.{In};
-ghost use Rattle.lifter.specs.KnownFacts.{plain_key, entry, HasMarked};
+ghost use Rattle.refutation.specs.BranchFacts.{plain_branch_fact};
+ghost use Rattle.lifter.specs.KnownFacts.{entry, HasMarked};
 
-use super::key::Key;
 use indexmap::IndexMap;
 use pc_common::Memory;
+use refutation::BranchFact;
 use std::alloc::Global;
 use std::marker::Model;
 
-/// Keys with the numbers of their facts, in the order in which they came, cut back like a stack.
+/// What is known on the branch of the ground tree, as keys with the numbers of the lifted facts that say it, in the
+/// order in which they came, cut back like a stack. Of positions only Ors are keys, and none has the sign `~`, since
+/// the steps are of version 1.
 pub(crate) struct Known {
-    map: IndexMap<Key, u64>,
+    map: IndexMap<BranchFact, u64>,
 }
 
 // By hand: docs/DECISIONS.md, "Drops are written by hand".
@@ -47,16 +50,16 @@ impl Known {
     }
 
     /// The number that stands beside a key, None where the key is not known. One look-up; takes no memory.
-    pub(crate) fn get(&self, key: Key) -> Option<u64>
-        ensures { MatchOption result ((k : ℕ) → In (entry (plain_key key) k) self.now → ⊥)
-            (λ k. In (entry (plain_key key) k) self.now) }
+    pub(crate) fn get(&self, key: BranchFact) -> Option<u64>
+        ensures { MatchOption result ((k : ℕ) → In (entry (plain_branch_fact key) k) self.now → ⊥)
+            (λ k. In (entry (plain_branch_fact key) k) self.now) }
     {
         self.map.get(&key).copied()
     }
 
     /// Adds a key with its number after the others, if it is none of them.
-    pub(crate) fn add(&mut self, key: Key, number: u64) -> Result<(), Memory>
-        ensures { OnOk result (HasMarked self.old (plain_key key) number self.new) }
+    pub(crate) fn add(&mut self, key: BranchFact, number: u64) -> Result<(), Memory>
+        ensures { OnOk result (HasMarked self.old (plain_branch_fact key) number self.new) }
     {
         match self.get(key) {
             Some(_) => Ok(()),

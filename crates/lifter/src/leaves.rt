@@ -1,21 +1,22 @@
 ghost use Rattle.std.specs.Prelude.{◌∷◌, ◌++◌, [], IfOk, OnOk, map};
 ghost use Rattle.pc_common.specs.Elements.{In};
 ghost use Rattle.pc_ground.specs.Keys.{key_node};
-ghost use Rattle.lifter.specs.KnownFacts.{plain_key, present, no_node, HasKey, entry, AreEdges, AreNumbers, IsCycleKnown, IsPathKnown};
+ghost use Rattle.refutation.specs.BranchFacts.{plain_branch_fact, present, no_node};
+ghost use Rattle.lifter.specs.KnownFacts.{HasKey, entry, AreEdges, AreNumbers, IsCycleKnown, IsPathKnown};
 ghost use Rattle.lifter.specs.Progress.{HasClosedBy};
 
-use super::key::Key;
 use super::known::Known;
 use super::line::{FactNumbers, Line};
 use super::state::State;
 use pc_common::{Listed, Memory};
 use pc_ground::NodeKey;
+use refutation::BranchFact;
 use std::alloc::Global;
 
 /// The number of a key that is known.
-fn number_of(known: &Known, key: Key) -> u64
-    requires { HasKey known.now (plain_key key) }
-    ensures { In (entry (plain_key key) result) known.now }
+fn number_of(known: &Known, key: BranchFact) -> u64
+    requires { HasKey known.now (plain_branch_fact key) }
+    ensures { In (entry (plain_branch_fact key) result) known.now }
 {
     match known.get(key) {
         Some(number) => number,
@@ -37,10 +38,10 @@ fn numbers_along(
     let mut numbers = Listed::new(alloc);
     let mut at = from;
     for next in via {
-        numbers.push(number_of(known, Key::Edge(at, *next)))?;
+        numbers.push(number_of(known, BranchFact::Edge(at, *next)))?;
         at = *next;
     }
-    numbers.push(number_of(known, Key::Edge(at, to)))?;
+    numbers.push(number_of(known, BranchFact::Edge(at, to)))?;
     Ok(numbers)
 }
 
@@ -57,9 +58,12 @@ fn numbers_to(
         (λ r. AreNumbers known.now (key_node from) (map key_node via.now ++ key_node to ∷ []) (r.0 ∷ r.1)) }
 {
     match via {
-        [] => Ok((number_of(known, Key::Edge(from, to)), Listed::new(alloc))),
+        [] => Ok((
+            number_of(known, BranchFact::Edge(from, to)),
+            Listed::new(alloc),
+        )),
         [next, rest @ ..] => {
-            let first = number_of(known, Key::Edge(from, *next));
+            let first = number_of(known, BranchFact::Edge(from, *next));
             let more = numbers_along(alloc, known, *next, rest, to)?;
             Ok((first, more))
         }
@@ -97,7 +101,7 @@ pub(crate) fn add_path(
     match nodes {
         [from, via @ .., to] => {
             let numbers = numbers_to(alloc, &state.known, *from, via, *to)?;
-            let denial = number_of(&state.known, Key::NoEdge(*from, *to));
+            let denial = number_of(&state.known, BranchFact::NoEdge(*from, *to));
             state.steps.push(Line::Path(numbers.0, numbers.1, denial))
         }
         _ => unreachable!(),
@@ -110,7 +114,7 @@ pub(crate) fn add_absent(state: &mut State<'_>, node: NodeKey) -> Result<(), Mem
     requires asserted { HasKey state.old.known (present (key_node node)) }
     ensures { OnOk result (HasClosedBy state.old state.new) }
 {
-    let denial = number_of(&state.known, Key::NoNode(node));
-    let number = number_of(&state.known, Key::Present(node));
+    let denial = number_of(&state.known, BranchFact::NoNode(node));
+    let number = number_of(&state.known, BranchFact::Present(node));
     state.steps.push(Line::Absent(denial, number))
 }

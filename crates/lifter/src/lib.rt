@@ -23,7 +23,6 @@ mod closing;
 mod fact_kind;
 mod following;
 mod formula_kind;
-mod key;
 mod kind;
 mod known;
 mod leaves;

@@ -2,21 +2,22 @@ ghost use Rattle.std.specs.Prelude.{◌≡◌, IfOk, OnOk, List};
 ghost use Rattle.pc_common.specs.Case.{Case as PlainCase};
 ghost use Rattle.pc_common.specs.World.{Node};
 ghost use Rattle.pc_ground.specs.declared.row.Row.{Row as PlainRow};
+ghost use Rattle.refutation.specs.BranchFacts.{plain_branch_fact};
 ghost use Rattle.lifted_facts.specs.PlainFacts.{plain_fact, IsProper};
 ghost use Rattle.lifted_facts.specs.Lifted.{HasPart, HasSides};
 ghost use Rattle.lifter.specs.Trees.{fact_tree};
 ghost use Rattle.lifter.specs.Kinds.{kind_of};
 ghost use Rattle.lifter.specs.declared.kind.FactKind.TheVariants.{False};
-ghost use Rattle.lifter.specs.KnownFacts.{plain_key, HasKey, IsKnown};
+ghost use Rattle.lifter.specs.KnownFacts.{HasKey, IsKnown};
 ghost use Rattle.lifter.specs.States.{branch_of, Moves, GainsFact};
 
 use super::closing::close;
-use super::key::Key;
 use super::line::Line;
 use super::state::{Later, State, Task};
 use lifted_facts::{Fact, Said, Way};
 use pc_case::Case;
 use pc_common::Memory;
+use refutation::BranchFact;
 use static_preds::copy_of;
 
 /// The same fact once more. Takes no memory.
@@ -121,14 +122,15 @@ pub(crate) fn lose_second<'a>(
 pub(crate) fn mark<'a>(
     case: &Case,
     state: &mut State<'a>,
-    key: Key,
+    key: BranchFact,
     number: u64,
 ) -> Result<(), Memory>
-    requires { (rows : List (PlainRow Node)) × IsKnown case.now rows (branch_of state.old) (plain_key key) number }
+    requires { (rows : List (PlainRow Node))
+        × IsKnown case.now rows (branch_of state.old) (plain_branch_fact key) number }
     ensures moves { OnOk result
-        ((rows : List (PlainRow Node)) → IsKnown case.now rows (branch_of state.old) (plain_key key) number
+        ((rows : List (PlainRow Node)) → IsKnown case.now rows (branch_of state.old) (plain_branch_fact key) number
         → Moves case.now rows state.old state.new) }
-    ensures has { OnOk result (HasKey state.new.known (plain_key key)) }
+    ensures has { OnOk result (HasKey state.new.known (plain_branch_fact key)) }
 {
     // the contract alone speaks of it
     let _case = case;

@@ -14,7 +14,6 @@ ghost use Rattle.lifter.specs.States.{branch_of};
 ghost use Rattle.lifter.specs.Unfoldings.{fact_of, HasUnfolded, HasTaken};
 
 use super::fact_kind::{kind_of_fact, last_open};
-use super::key::Key;
 use super::kind::FactKind;
 use super::listed_parts::part_at;
 use super::moving::{derive, lose_first, lose_second, mark};
@@ -24,6 +23,7 @@ use lifted_facts::{Fact, sides};
 use pc_case::Case;
 use pc_common::Memory;
 use pc_ground::{Flat, Literal, NodeKey};
+use refutation::BranchFact;
 
 /// The literal that a fact is, None where it is a part of an axiom.
 fn literal_of(fact: &Fact<'_>) -> Option<Literal<NodeKey>>
@@ -64,14 +64,14 @@ fn mark_literal<'a>(
     // the contract alone speaks of it
     let _stands = tree;
     match literal {
-        Literal::Node(a) => mark(case, state, Key::Present(a), number),
+        Literal::Node(a) => mark(case, state, BranchFact::Present(a), number),
         Literal::Edge(a, b) => {
-            mark(case, state, Key::Edge(a, b), number)?;
-            mark(case, state, Key::Present(a), number)?;
-            mark(case, state, Key::Present(b), number)
+            mark(case, state, BranchFact::Edge(a, b), number)?;
+            mark(case, state, BranchFact::Present(a), number)?;
+            mark(case, state, BranchFact::Present(b), number)
         }
-        Literal::NoNode(a) => mark(case, state, Key::NoNode(a), number),
-        Literal::NoEdge(a, b) => mark(case, state, Key::NoEdge(a, b), number),
+        Literal::NoNode(a) => mark(case, state, BranchFact::NoNode(a), number),
+        Literal::NoEdge(a, b) => mark(case, state, BranchFact::NoEdge(a, b), number),
     }
 }
 
@@ -129,7 +129,7 @@ fn unfold_either<'a>(
     let _whole = fact;
     match kind_of_fact(case, first) {
         FactKind::Open => match kind_of_fact(case, second) {
-            FactKind::Open => mark(case, state, Key::At(at), number),
+            FactKind::Open => mark(case, state, BranchFact::At(false, at), number),
             _ => {
                 let next = lose_second(case, state, number, first, second)?;
                 unfold(case, tree, state, first, next, at)

@@ -1,12 +1,12 @@
 ghost use Rattle.std.specs.Prelude.{◌≡◌, IfOk};
 ghost use Rattle.litmus_reader.specs.Terminals.{is_name as is_name_spec};
-ghost use Rattle.ll_grammar.specs.Steps.{IsPush};
+ghost use Rattle.ll_grammar.specs.Predictions.{IsPush};
 ghost use Rattle.litmus_reader.specs.Phrases.{rules, follow, rules_predictable, rules_texts};
 
 use self::Phrase::*;
 use super::format::Format;
 use super::terminal::Terminal::{self, *};
-use ll_grammar::{Grammar, Step, Symbol, push};
+use ll_grammar::{Grammar, Prediction, Symbol, push};
 use pc_common::Memory;
 
 /// The parts of a test. What one format has and the other has not is a part of each format.
@@ -63,7 +63,7 @@ impl Grammar<Terminal> for Phrase {
         self,
         class: Terminal,
         stack: &mut Vec<Symbol<Terminal, Phrase>>,
-    ) -> Result<Step, Memory> {
+    ) -> Result<Prediction, Memory> {
         match self {
             Test => push_test(class, stack),
             Items(format) => push_items(format, class, stack),
@@ -81,17 +81,21 @@ impl Grammar<Terminal> for Phrase {
     }
 }
 
-fn push_test(class: Terminal, stack: &mut Vec<Waiting>) -> Result<Step, Memory>
+fn push_test(class: Terminal, stack: &mut Vec<Waiting>) -> Result<Prediction, Memory>
     ensures { IfOk result (IsPush rules Phrase.Test class stack.old.items stack.new.items) }
 {
     match class {
         Litmus => push!(stack; Text Dot [Items(Format::One)]),
         Litmus2 => push!(stack; Text Dot [Items(Format::Two)]),
-        _ => Ok(Step::Absent),
+        _ => Ok(Prediction::Absent),
     }
 }
 
-fn push_items(format: Format, class: Terminal, stack: &mut Vec<Waiting>) -> Result<Step, Memory>
+fn push_items(
+    format: Format,
+    class: Terminal,
+    stack: &mut Vec<Waiting>,
+) -> Result<Prediction, Memory>
     ensures { IfOk result (IsPush rules (Phrase.Items format) class stack.old.items stack.new.items) }
 {
     match class {
@@ -101,54 +105,62 @@ fn push_items(format: Format, class: Terminal, stack: &mut Vec<Waiting>) -> Resu
             push!(stack; [AnyName] Number Number Arrow Number Number Dot [Items(format)]),
         Init | Final => push!(stack; [Address(format)] [StatedValue(format)] Dot [Items(format)]),
         Permitted | Forbidden => push!(stack; Dot [Items(format)]),
-        _ => Ok(Step::Absent),
+        _ => Ok(Prediction::Absent),
     }
 }
 
-fn push_access(format: Format, class: Terminal, stack: &mut Vec<Waiting>) -> Result<Step, Memory>
+fn push_access(
+    format: Format,
+    class: Terminal,
+    stack: &mut Vec<Waiting>,
+) -> Result<Prediction, Memory>
     ensures { IfOk result (IsPush rules (Phrase.Access format) class stack.old.items stack.new.items) }
 {
     match class {
         Read => push!(stack; [Types] [VirtualPage] [Address(format)] [ReadValue(format)]),
         Write => push!(stack; [Types] [VirtualPage] [Address(format)] [WriteValue(format)]),
         Fence => push!(stack; [Types]),
-        _ => Ok(Step::Absent),
+        _ => Ok(Prediction::Absent),
     }
 }
 
-fn push_types(class: Terminal, stack: &mut Vec<Waiting>) -> Result<Step, Memory>
+fn push_types(class: Terminal, stack: &mut Vec<Waiting>) -> Result<Prediction, Memory>
     ensures { IfOk result (IsPush rules Phrase.Types class stack.old.items stack.new.items) }
 {
     match class {
         name if is_name(name) => push!(stack; [Types]),
-        _ => Ok(Step::Absent),
+        _ => Ok(Prediction::Absent),
     }
 }
 
-fn push_any_name(class: Terminal, stack: &mut Vec<Waiting>) -> Result<Step, Memory>
+fn push_any_name(class: Terminal, stack: &mut Vec<Waiting>) -> Result<Prediction, Memory>
     ensures { IfOk result (IsPush rules Phrase.AnyName class stack.old.items stack.new.items) }
 {
     match class {
         name if is_name(name) => push!(stack;),
-        _ => Ok(Step::Absent),
+        _ => Ok(Prediction::Absent),
     }
 }
 
-fn push_virtual_page(class: Terminal, stack: &mut Vec<Waiting>) -> Result<Step, Memory>
+fn push_virtual_page(class: Terminal, stack: &mut Vec<Waiting>) -> Result<Prediction, Memory>
     ensures { IfOk result (IsPush rules Phrase.VirtualPage class stack.old.items stack.new.items) }
 {
     match class {
         Open => push!(stack; Va Number Number Close),
-        _ => Ok(Step::Absent),
+        _ => Ok(Prediction::Absent),
     }
 }
 
-fn push_address(format: Format, class: Terminal, stack: &mut Vec<Waiting>) -> Result<Step, Memory>
+fn push_address(
+    format: Format,
+    class: Terminal,
+    stack: &mut Vec<Waiting>,
+) -> Result<Prediction, Memory>
     ensures { IfOk result (IsPush rules (Phrase.Address format) class stack.old.items stack.new.items) }
 {
     match class {
         Open => push!(stack; [AddressInside(format)]),
-        _ => Ok(Step::Absent),
+        _ => Ok(Prediction::Absent),
     }
 }
 
@@ -156,13 +168,13 @@ fn push_address_inside(
     format: Format,
     class: Terminal,
     stack: &mut Vec<Waiting>,
-) -> Result<Step, Memory>
+) -> Result<Prediction, Memory>
     ensures { IfOk result (IsPush rules (Phrase.AddressInside format) class stack.old.items stack.new.items) }
 {
     match (format, class) {
         (_, Pa) => push!(stack; Number Number Close),
         (Format::Two, Entry) => push!(stack; Number Close),
-        _ => Ok(Step::Absent),
+        _ => Ok(Prediction::Absent),
     }
 }
 
@@ -170,12 +182,12 @@ fn push_read_value(
     format: Format,
     class: Terminal,
     stack: &mut Vec<Waiting>,
-) -> Result<Step, Memory>
+) -> Result<Prediction, Memory>
     ensures { IfOk result (IsPush rules (Phrase.ReadValue format) class stack.old.items stack.new.items) }
 {
     match class {
         Open => push!(stack; [ValueInside(format)]),
-        _ => Ok(Step::Absent),
+        _ => Ok(Prediction::Absent),
     }
 }
 
@@ -183,12 +195,12 @@ fn push_write_value(
     format: Format,
     class: Terminal,
     stack: &mut Vec<Waiting>,
-) -> Result<Step, Memory>
+) -> Result<Prediction, Memory>
     ensures { IfOk result (IsPush rules (Phrase.WriteValue format) class stack.old.items stack.new.items) }
 {
     match class {
         Open => push!(stack; [ValueInside(format)]),
-        _ => Ok(Step::Absent),
+        _ => Ok(Prediction::Absent),
     }
 }
 
@@ -196,13 +208,13 @@ fn push_value_inside(
     format: Format,
     class: Terminal,
     stack: &mut Vec<Waiting>,
-) -> Result<Step, Memory>
+) -> Result<Prediction, Memory>
     ensures { IfOk result (IsPush rules (Phrase.ValueInside format) class stack.old.items stack.new.items) }
 {
     match (format, class) {
         (_, Data) => push!(stack; Number Close),
         (Format::Two, Maps) => push!(stack; Number Number Number Close),
-        _ => Ok(Step::Absent),
+        _ => Ok(Prediction::Absent),
     }
 }
 
@@ -210,12 +222,12 @@ fn push_stated_value(
     format: Format,
     class: Terminal,
     stack: &mut Vec<Waiting>,
-) -> Result<Step, Memory>
+) -> Result<Prediction, Memory>
     ensures { IfOk result (IsPush rules (Phrase.StatedValue format) class stack.old.items stack.new.items) }
 {
     match (format, class) {
         (_, Number) => push!(stack;),
         (Format::Two, Open) => push!(stack; Maps Number Number Number Close),
-        _ => Ok(Step::Absent),
+        _ => Ok(Prediction::Absent),
     }
 }

@@ -2,9 +2,9 @@
 use Rattle.std.proofs.Common.{◌≡◌, ◌≢◌, ℕ, zero, suc, ◌+◌, ◌<◌, ◌⊎◌, inl, inr, Bool, true, false, List, [], ◌∷◌, ◌++◌, Option, Some, None, length, get_or, slice_get, unwrap_or, nat_eq, eq-eqb, eqb-true, refl, sym, ap, ◌∙◌, subst, arith}
 use Rattle.std.specs.List.{list_all}
 use Rattle.ll_grammar.specs.{Rules.{Rules, Derives, is_nullable_symbol}, FirstFault.{AreDecided, HasAnswer}, Predictable.{IsPredictable, IsReady, HasTexts}}
-use Rattle.ll_grammar.specs.{Steps.{IsRead}, LawsOfTables.{AreListed, all_at}, declared.grammar.Symbol.{Symbol}}
-use Rattle.ll_grammar.specs.declared.grammar.{Symbol.TheVariants.{Terminal as a_terminal, Nonterminal as a_nonterminal}, Step.{Step}}
-use Rattle.ll_grammar.specs.declared.{grammar.Step.TheVariants.{Absent, Pushed, Deep}, fault.Fault.TheVariants.{Syntax, Depth}}
+use Rattle.ll_grammar.specs.{Predictions.{IsRead}, LawsOfTables.{AreListed, all_at}, declared.grammar.Symbol.{Symbol}}
+use Rattle.ll_grammar.specs.declared.grammar.{Symbol.TheVariants.{Terminal as a_terminal, Nonterminal as a_nonterminal}, Prediction.{Prediction}}
+use Rattle.ll_grammar.specs.declared.{grammar.Prediction.TheVariants.{Absent, Pushed, Deep}, fault.Fault.TheVariants.{Syntax, Depth}}
 use Rattle.ll_grammar.proofs.Symbols.{read-nothing, read-class, read-other_class, read-no_part, read-end, read-begins, read-deep}
 use Rattle.ll_grammar.proofs.Progress.{IsReading, begun, passed, refused, deepened, ended, unended}
 
@@ -32,27 +32,27 @@ kept_by classes listed f all c =
 module _ {C N : Type 0} (g : Rules C N) (follow : N → C → Bool) (decided : AreDecided C)
     (predictable : IsPredictable g follow) (texts : HasTexts g) where
   -- what the symbols do with the token
-  HasStep : List (Symbol C N) → C → Type 0
-  HasStep symbols c = (step : Step) × (after : List (Symbol C N)) × IsRead g follow symbols c step after
+  HasPrediction : List (Symbol C N) → C → Type 0
+  HasPrediction symbols c = (prediction : Prediction) × (after : List (Symbol C N)) × IsRead g follow symbols c prediction after
 
-  class_step : (d c : C) (rest : List (Symbol C N)) → IsReady g follow rest → (d ≡ c) ⊎ (d ≡ c → ⊥) → HasStep (a_terminal d ∷ rest) c
-  unfolding HasStep
+  class_step : (d c : C) (rest : List (Symbol C N)) → IsReady g follow rest → (d ≡ c) ⊎ (d ≡ c → ⊥) → HasPrediction (a_terminal d ∷ rest) c
+  unfolding HasPrediction
   class_step d c rest ready (inl same) =
       (Pushed, rest, subst (λ (x : C). IsRead g follow (a_terminal x ∷ rest) c Pushed rest) (sym same) (read-class g follow c rest ready))
   class_step d c rest ready (inr other) = (Absent, [], read-other_class g follow d c rest [] other)
 
-  part_step : (n : N) (c : C) (rest : List (Symbol C N)) → IsReady g follow (a_nonterminal n ∷ rest) → HasStep rest c
+  part_step : (n : N) (c : C) (rest : List (Symbol C N)) → IsReady g follow (a_nonterminal n ∷ rest) → HasPrediction rest c
       → (found : Option (List (Symbol C N))) (deep may : Bool) → g.production n c ≡ found → g.deep n c ≡ deep → g.is_nullable n ≡ may
-      → HasStep (a_nonterminal n ∷ rest) c
-  unfolding HasStep
+      → HasPrediction (a_nonterminal n ∷ rest) c
+  unfolding HasPrediction
   part_step n c rest ready below (Some body) false may b d m = (Pushed, body ++ rest, read-begins g follow n c rest body predictable ready b d)
   part_step n c rest ready below (Some body) true may b d m = (Deep, [], read-deep g follow n c rest body [] texts b d)
   part_step n c rest ready below None deep false b d m = (Absent, [], read-no_part g follow n c rest [] b m)
   part_step n c rest ready below None deep true b d m =
-      let (step, after, read) = below in (step, after, read-end g follow n c rest step after b m read)
+      let (prediction, after, read) = below in (prediction, after, read-end g follow n c rest prediction after b m read)
 
-  some_step : (symbols : List (Symbol C N)) (c : C) → IsReady g follow symbols → HasStep symbols c
-  unfolding HasStep
+  some_step : (symbols : List (Symbol C N)) (c : C) → IsReady g follow symbols → HasPrediction symbols c
+  unfolding HasPrediction
   some_step [] c ready = (Absent, [], read-nothing g follow c [])
   some_step (a_terminal d ∷ rest) c ready = class_step d c rest ready (decided d c)
   some_step (a_nonterminal n ∷ rest) c ready =
@@ -70,7 +70,7 @@ module _ {C N : Type 0} (g : Rules C N) (follow : N → C → Bool) (decided : A
     token (d ∷ ds) (suc i) within = token ds i (omega arith)
 
     after_step : (i : ℕ) (symbols : List (Symbol C N)) → IsReading g follow start cs i symbols → (within : i < length cs)
-        → (c : C) → c ≡ get_or cs i c → (step : Step) (after : List (Symbol C N)) → IsRead g follow symbols c step after
+        → (c : C) → c ≡ get_or cs i c → (prediction : Prediction) (after : List (Symbol C N)) → IsRead g follow symbols c prediction after
         → (((later : List (Symbol C N)) → IsReading g follow start cs (i + 1) later → HasAnswer (Derives g start) cs)
         → HasAnswer (Derives g start) cs)
     after_step i symbols reading within c here Absent after read go =
@@ -81,13 +81,13 @@ module _ {C N : Type 0} (g : Rules C N) (follow : N → C → Bool) (decided : A
         go after (passed g follow start cs i symbols reading c after within here read)
 
     run : (left i : ℕ) (symbols : List (Symbol C N)) → i + left ≡ length cs → IsReading g follow start cs i symbols → HasAnswer (Derives g start) cs
-    unfolding HasStep
+    unfolding HasPrediction
     run zero i symbols all reading = at_end i symbols reading (omega arith) (list_all (is_nullable_symbol g) symbols) refl
     run (suc left) i symbols all reading =
         let within : i < length cs = omega arith in
         let (c, here) = token cs i within in
-        let (step, after, read) = some_step symbols c reading.ready in
-        after_step i symbols reading within c here step after read (λ later next. run left (i + 1) later (omega arith) next)
+        let (prediction, after, read) = some_step symbols c reading.ready in
+        after_step i symbols reading within c here prediction after read (λ later next. run left (i + 1) later (omega arith) next)
 
     pub some_answer : HasAnswer (Derives g start) cs
     some_answer = run (length cs) 0 (a_nonterminal start ∷ []) (omega arith) (begun g follow start cs)

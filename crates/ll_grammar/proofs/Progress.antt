@@ -4,8 +4,8 @@ use Rattle.std.proofs.{lemmas.List.{append-nil, reverse-append, take_more, repli
 use Rattle.std.specs.{Cmp.Derive.{both_true}, List.{list_all}}
 use Rattle.ll_grammar.specs.Rules.{Rules, Yields, Derives, is_nullable_symbol, Yields.{done, class as r_class, ends as r_ends, begins as r_begins}}
 use Rattle.ll_grammar.specs.{Texts.{IsText, IsViable, IsDeepAt, NoneDeep}, FirstFault.{IsAccepted, IsFirstTokenFault}, Predictable.{IsReady, HasTexts}}
-use Rattle.ll_grammar.specs.{Steps.{IsRead}, declared.grammar.Symbol.{Symbol, TheVariants.{Terminal as a_terminal, Nonterminal as a_nonterminal}}}
-use Rattle.ll_grammar.specs.declared.{grammar.Step.TheVariants.{Absent, Pushed, Deep}, fault.Fault.TheVariants.{Syntax, Depth}}
+use Rattle.ll_grammar.specs.{Predictions.{IsRead}, declared.grammar.Symbol.{Symbol, TheVariants.{Terminal as a_terminal, Nonterminal as a_nonterminal}}}
+use Rattle.ll_grammar.specs.declared.{grammar.Prediction.TheVariants.{Absent, Pushed, Deep}, fault.Fault.TheVariants.{Syntax, Depth}}
 use Rattle.ll_grammar.proofs.ViablePrefixes.{some_text}
 
 -- the tokens before i are read, none too deep, and the symbols read what may come after them

@@ -1,9 +1,9 @@
 -- One token against the stack in memory, whose top is the last symbol.
 use Rattle.std.proofs.Common.{◌≡◌, Bool, true, false, List, [], ◌∷◌, ◌++◌, Option, Some, None, reverse, refl, sym, ap, subst, ◌∙◌}
 use Rattle.std.proofs.lemmas.List.{reverse-append, reverse-reverse}
-use Rattle.ll_grammar.specs.{Rules.{Rules}, Predictable.{IsPredictable, IsReady, HasTexts}, Steps.{IsStep, IsRead}, declared.grammar.Symbol.{Symbol}}
-use Rattle.ll_grammar.specs.declared.grammar.{Symbol.TheVariants.{Terminal as a_terminal, Nonterminal as a_nonterminal}, Step.{Step}}
-use Rattle.ll_grammar.specs.declared.grammar.Step.TheVariants.{Absent, Pushed, Deep}
+use Rattle.ll_grammar.specs.{Rules.{Rules}, Predictable.{IsPredictable, IsReady, HasTexts}, Predictions.{IsPredicted, IsRead}, declared.grammar.Symbol.{Symbol}}
+use Rattle.ll_grammar.specs.declared.grammar.{Symbol.TheVariants.{Terminal as a_terminal, Nonterminal as a_nonterminal}, Prediction.{Prediction}}
+use Rattle.ll_grammar.specs.declared.grammar.Prediction.TheVariants.{Absent, Pushed, Deep}
 use Rattle.ll_grammar.proofs.Symbols.{read-nothing, read-class, read-other_class, read-no_part, read-end, read-begins, read-deep}
 
 -- what is known of the symbols as a pop leaves them
@@ -15,9 +15,9 @@ popped : {C N : Type 0} {items below : List (Symbol C N)} {symbol : Symbol C N}
 popped {below = below} {symbol = symbol} top = ap reverse top.is ∙ reverse-append below (symbol ∷ [])
 
 absent : {C N : Type 0} (found : Option (List (Symbol C N))) (deep : Bool) (below new : List (Symbol C N))
-    → IsStep found deep below Absent new → (found ≡ None) × (new ≡ below)
-absent None deep below new step = (refl, step)
-absent (Some body) deep below new step = absurd step
+    → IsPredicted found deep below Absent new → (found ≡ None) × (new ≡ below)
+absent None deep below new prediction = (refl, prediction)
+absent (Some body) deep below new prediction = absurd prediction
 
 module _ {C N : Type 0} (g : Rules C N) (follow : N → C → Bool) (c : C) (items below : List (Symbol C N))
     (ready : IsReady g follow (reverse items)) where
@@ -45,32 +45,32 @@ module _ {C N : Type 0} (g : Rules C N) (follow : N → C → Bool) (c : C) (ite
     ready_part = subst (λ (s : List (Symbol C N)). IsReady g follow s) (popped top) ready
 
     -- a part that may not end
-    pub at_no_part : IsStep (g.production n c) (g.deep n c) below Absent new → g.is_nullable n ≡ false
+    pub at_no_part : IsPredicted (g.production n c) (g.deep n c) below Absent new → g.is_nullable n ≡ false
         → (after : List (Symbol C N)) → IsRead g follow (reverse items) c Absent after
-    at_no_part step stays after =
+    at_no_part prediction stays after =
         subst (λ (s : List (Symbol C N)). IsRead g follow s c Absent after) (sym (popped top))
-        (read-no_part g follow n c (reverse below) after (absent (g.production n c) (g.deep n c) below new step).0 stays)
+        (read-no_part g follow n c (reverse below) after (absent (g.production n c) (g.deep n c) below new prediction).0 stays)
 
     -- a part that ends leaves symbols that are ready
-    pub ready_below : IsStep (g.production n c) (g.deep n c) below Absent new → IsReady g follow (reverse new)
-    ready_below step =
+    pub ready_below : IsPredicted (g.production n c) (g.deep n c) below Absent new → IsReady g follow (reverse new)
+    ready_below prediction =
         subst (λ (s : List (Symbol C N)). IsReady g follow (reverse s))
-        (sym (absent (g.production n c) (g.deep n c) below new step).1)
+        (sym (absent (g.production n c) (g.deep n c) below new prediction).1)
         ready_part.1
 
     -- and what they do with the token is what all do
-    pub at_end : IsStep (g.production n c) (g.deep n c) below Absent new → g.is_nullable n ≡ true
-        → (step : Step) (after : List (Symbol C N)) → IsRead g follow (reverse new) c step after
-        → IsRead g follow (reverse items) c step after
-    at_end absence ends step after read =
+    pub at_end : IsPredicted (g.production n c) (g.deep n c) below Absent new → g.is_nullable n ≡ true
+        → (prediction : Prediction) (after : List (Symbol C N)) → IsRead g follow (reverse new) c prediction after
+        → IsRead g follow (reverse items) c prediction after
+    at_end absence ends prediction after read =
         let (none, same) = absent (g.production n c) (g.deep n c) below new absence in
-        subst (λ (s : List (Symbol C N)). IsRead g follow s c step after) (sym (popped top))
-        (read-end g follow n c (reverse below) step after none ends
-        (subst (λ (s : List (Symbol C N)). IsRead g follow (reverse s) c step after) same read))
+        subst (λ (s : List (Symbol C N)). IsRead g follow s c prediction after) (sym (popped top))
+        (read-end g follow n c (reverse below) prediction after none ends
+        (subst (λ (s : List (Symbol C N)). IsRead g follow (reverse s) c prediction after) same read))
 
     begun : IsPredictable g follow → HasTexts g → (found : Option (List (Symbol C N))) (deep : Bool)
-        → g.production n c ≡ found → g.deep n c ≡ deep → (step : Step) → IsStep found deep below step new → (step ≡ Absent → ⊥)
-        → IsRead g follow (a_nonterminal n ∷ reverse below) c step (reverse new)
+        → g.production n c ≡ found → g.deep n c ≡ deep → (prediction : Prediction) → IsPredicted found deep below prediction new → (prediction ≡ Absent → ⊥)
+        → IsRead g follow (a_nonterminal n ∷ reverse below) c prediction (reverse new)
     begun predictable texts None deep e m Absent is present = absurd (present refl)
     begun predictable texts None deep e m Pushed is present = absurd is
     begun predictable texts None deep e m Deep is present = absurd is
@@ -85,8 +85,8 @@ module _ {C N : Type 0} (g : Rules C N) (follow : N → C → Bool) (c : C) (ite
         read-deep g follow n c (reverse below) body (reverse new) texts e (m ∙ is)
 
     -- a part that begins with the token
-    pub at_part : IsPredictable g follow → HasTexts g → (step : Step) → IsStep (g.production n c) (g.deep n c) below step new
-        → (step ≡ Absent → ⊥) → IsRead g follow (reverse items) c step (reverse new)
-    at_part predictable texts step is present =
-        subst (λ (s : List (Symbol C N)). IsRead g follow s c step (reverse new)) (sym (popped top))
-        (begun predictable texts (g.production n c) (g.deep n c) refl refl step is present)
+    pub at_part : IsPredictable g follow → HasTexts g → (prediction : Prediction) → IsPredicted (g.production n c) (g.deep n c) below prediction new
+        → (prediction ≡ Absent → ⊥) → IsRead g follow (reverse items) c prediction (reverse new)
+    at_part predictable texts prediction is present =
+        subst (λ (s : List (Symbol C N)). IsRead g follow s c prediction (reverse new)) (sym (popped top))
+        (begun predictable texts (g.production n c) (g.deep n c) refl refl prediction is present)

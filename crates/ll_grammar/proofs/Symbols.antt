@@ -1,9 +1,9 @@
 -- One token against the symbols on the stack.
 use Rattle.std.proofs.Common.{◌≡◌, Bool, true, false, List, [], ◌∷◌, ◌++◌, Option, Some, None, IsTrue, IsSome, refl, sym, subst, ap, ◌∙◌, ◌⊎◌, inl, inr}
 use Rattle.ll_grammar.specs.Rules.{Rules, Yields, Yields.{done, class as r_class, ends as r_ends, begins as r_begins}}
-use Rattle.ll_grammar.specs.{Predictable.{MayFollow, IsFollowed, IsPredictable, IsReady, HasTexts}, Steps.{IsRead}, declared.grammar.Symbol.{Symbol}}
-use Rattle.ll_grammar.specs.declared.grammar.{Symbol.TheVariants.{Terminal as a_terminal, Nonterminal as a_nonterminal}, Step.{Step}}
-use Rattle.ll_grammar.{specs.declared.grammar.Step.TheVariants.{Absent, Pushed, Deep}, proofs.ViablePrefixes.{some_text}}
+use Rattle.ll_grammar.specs.{Predictable.{MayFollow, IsFollowed, IsPredictable, IsReady, HasTexts}, Predictions.{IsRead}, declared.grammar.Symbol.{Symbol}}
+use Rattle.ll_grammar.specs.declared.grammar.{Symbol.TheVariants.{Terminal as a_terminal, Nonterminal as a_nonterminal}, Prediction.{Prediction}}
+use Rattle.ll_grammar.{specs.declared.grammar.Prediction.TheVariants.{Absent, Pushed, Deep}, proofs.ViablePrefixes.{some_text}}
 
 -- the class that the symbols read next may follow the part before them
 next_follows : {C N : Type 0} {g : Rules C N} {symbols : List (Symbol C N)} {cs : List C} {marks : List Bool}
@@ -93,9 +93,9 @@ below_only : {C N : Type 0} {g : Rules C N} {n : N} {c : C} {rest : List (Symbol
     → g.production n c ≡ None → Yields g (a_nonterminal n ∷ rest) (c ∷ behind) marks → Yields g rest (c ∷ behind) marks
 below_only none reads = elim (part_read reads) [ inl (_, below) ↦ below | inr (body, others, e, _, _) ↦ absurd (cc) ]
 
-pub read-end : {C N : Type 0} (g : Rules C N) (follow : N → C → Bool) (n : N) (c : C) (rest : List (Symbol C N)) (step : Step)
+pub read-end : {C N : Type 0} (g : Rules C N) (follow : N → C → Bool) (n : N) (c : C) (rest : List (Symbol C N)) (prediction : Prediction)
     (after : List (Symbol C N)) → g.production n c ≡ None → g.is_nullable n ≡ true
-    → IsRead g follow rest c step after → IsRead g follow (a_nonterminal n ∷ rest) c step after
+    → IsRead g follow rest c prediction after → IsRead g follow (a_nonterminal n ∷ rest) c prediction after
 read-end g follow n c rest Absent after none ends read = λ behind marks reads. read behind marks (below_only none reads)
 read-end g follow n c rest Pushed after none ends read = record {
   only = λ behind marks reads. read.only behind marks (below_only none reads);

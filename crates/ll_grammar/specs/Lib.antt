@@ -2,5 +2,5 @@ pub mod Rules
 pub mod Texts
 pub mod FirstFault
 pub mod Predictable
-pub mod Steps
+pub mod Predictions
 pub mod LawsOfTables

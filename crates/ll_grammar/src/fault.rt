@@ -2,10 +2,10 @@ ghost use Rattle.std.specs.Prelude.{◌≡◌, IfOk, reverse};
 ghost use Rattle.std.specs.List.{list_all};
 ghost use Rattle.ll_grammar.specs.Rules.{is_nullable_symbol, Derives};
 ghost use Rattle.ll_grammar.specs.Predictable.{IsReady};
-ghost use Rattle.ll_grammar.specs.Steps.{IsRead};
+ghost use Rattle.ll_grammar.specs.Predictions.{IsRead};
 ghost use Rattle.ll_grammar.specs.FirstFault.{IsAnswer, fault_place as fault_place_spec};
 
-use crate::grammar::{Grammar, Step, Symbol, TokenClass};
+use crate::grammar::{Grammar, Prediction, Symbol, TokenClass};
 use pc_common::Memory;
 use std::alloc::Global;
 
@@ -35,9 +35,9 @@ pub fn first_fault<C: TokenClass, N: Grammar<C>>(
     stack.push(Symbol::Nonterminal(start))?;
     for (at, class) in classes.iter().enumerate() {
         match read(&mut stack, *class)? {
-            Step::Pushed => {}
-            Step::Absent => return Ok(Some(Fault::Syntax(at))),
-            Step::Deep => return Ok(Some(Fault::Depth(at))),
+            Prediction::Pushed => {}
+            Prediction::Absent => return Ok(Some(Fault::Syntax(at))),
+            Prediction::Deep => return Ok(Some(Fault::Depth(at))),
         }
     }
     Ok(if is_over(&stack) {
@@ -62,31 +62,31 @@ pub fn fault_place(fault: Option<Fault>) -> Option<usize>
 fn read<C: TokenClass, N: Grammar<C>>(
     stack: &mut Vec<Symbol<C, N>>,
     class: C,
-) -> Result<Step, Memory>
+) -> Result<Prediction, Memory>
     requires { IsReady N.rules N.follow (reverse stack.old.items) }
-    ensures { IfOk result (λ step.
-        IsRead N.rules N.follow (reverse stack.old.items) class step (reverse stack.new.items)) }
+    ensures { IfOk result (λ prediction.
+        IsRead N.rules N.follow (reverse stack.old.items) class prediction (reverse stack.new.items)) }
 {
     while let Some(symbol) = stack.pop() {
         match symbol {
             Symbol::Terminal(expected) => {
                 return Ok(if expected.is_same(class) {
-                    Step::Pushed
+                    Prediction::Pushed
                 } else {
-                    Step::Absent
+                    Prediction::Absent
                 });
             }
             Symbol::Nonterminal(part) => match part.push(class, stack)? {
-                Step::Absent => {
+                Prediction::Absent => {
                     if !part.is_nullable() {
-                        return Ok(Step::Absent);
+                        return Ok(Prediction::Absent);
                     }
                 }
-                step => return Ok(step),
+                prediction => return Ok(prediction),
             },
         }
     }
-    Ok(Step::Absent)
+    Ok(Prediction::Absent)
 }
 
 // Whether the text may end here: each part that still waits may have no token.

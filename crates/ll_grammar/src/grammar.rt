@@ -1,7 +1,7 @@
 ghost use Rattle.std.specs.Prelude.{◌≡◌, ◌↔◌, Bool, IsTrue, IfOk, OnOk, ◌++◌, reverse};
 ghost use Rattle.ll_grammar.specs.Rules.{Rules};
 ghost use Rattle.ll_grammar.specs.Predictable.{IsPredictable, HasTexts};
-ghost use Rattle.ll_grammar.specs.Steps.{IsPush};
+ghost use Rattle.ll_grammar.specs.Predictions.{IsPush};
 
 use pc_common::Memory;
 
@@ -21,7 +21,7 @@ pub enum Symbol<C, N> {
 
 /// What a part does with the next token.
 #[derive(Clone, Copy)]
-pub enum Step {
+pub enum Prediction {
     /// The part does not begin with the token.
     Absent,
     /// It does, and what stands after the token waits on the stack.
@@ -44,7 +44,7 @@ pub trait Grammar<C: TokenClass>: Copy + 'static {
     /// stack, the next symbol on top; [`push!`] does so for a body in the order of reading.
     /// Where it does not, leaves the stack as it was. `Deep` is for a token with which the part
     /// begins: any other is `Absent` at every depth. `Err` is for want of memory alone.
-    fn push(self, class: C, stack: &mut Vec<Symbol<C, Self>>) -> Result<Step, Memory>
+    fn push(self, class: C, stack: &mut Vec<Symbol<C, Self>>) -> Result<Prediction, Memory>
         ensures { IfOk result (IsPush rules self class stack.old.items stack.new.items) };
 
     /// Whether the part may have no token at all.
@@ -63,14 +63,14 @@ pub trait Grammar<C: TokenClass>: Copy + 'static {
 pub fn push_body<C: Copy, N: Copy>(
     stack: &mut Vec<Symbol<C, N>>,
     body: &[Symbol<C, N>],
-) -> Result<Step, Memory>
-    ensures pushed { IfOk result (λ step. step ≡ Step.Pushed) }
+) -> Result<Prediction, Memory>
+    ensures pushed { IfOk result (λ prediction. prediction ≡ Prediction.Pushed) }
     ensures items { OnOk result (stack.new.items ≡ stack.old.items ++ reverse body.now) }
 {
     for at in (0..body.len()).rev() {
         stack.push(body[at])?;
     }
-    Ok(Step::Pushed)
+    Ok(Prediction::Pushed)
 }
 
 /// [`push_body`] of a body that is written as it is read: a class by its name, a part in brackets, as in

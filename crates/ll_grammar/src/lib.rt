@@ -28,5 +28,5 @@ mod grammar;
 mod laws;
 
 pub use fault::{Fault, fault_place, first_fault};
-pub use grammar::{Grammar, Step, Symbol, TokenClass, push_body};
+pub use grammar::{Grammar, Prediction, Symbol, TokenClass, push_body};
 pub use laws::{one_answer, some_answer, viable_prefixes};

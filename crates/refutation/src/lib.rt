@@ -15,9 +15,10 @@
 //!
 //! A refutation is a list of steps in prefix order: a split puts the two sides of an asserted Or in the
 //! place of the first open branch, and every other step closes that branch. The lines are those of
-//! docs/certificates.md.
+//! docs/certificates.md. Who follows the steps keeps a `BranchFact` for each thing that is known on the open branch.
 #![tactic(auto)]
 
+mod branch_fact;
 mod cut;
 mod kind;
 mod list;
@@ -29,6 +30,7 @@ mod step_head;
 mod words;
 mod writing;
 
+pub use branch_fact::BranchFact;
 pub use cut::Cut;
 pub use kind::{Kind, Leaf};
 pub use list::Refutation;

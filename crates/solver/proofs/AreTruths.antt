@@ -1,15 +1,15 @@
 -- Flags for the truth of subtrees and for the positions of a branch, and the sides of an Or by its rows.
-use Rattle.std.proofs.Common.{◌≡◌, ◌<◌, inl, inr, ℕ, ◌+◌, Bool, true, false, ◌&&◌, ◌||◌, List, Some, length, refl, sym, ap, ◌∙◌, subst, arith}
+use Rattle.std.proofs.Common.{◌≡◌, ◌<◌, inl, inr, ℕ, ◌+◌, Bool, true, false, ◌&&◌, ◌||◌, List, Some, length, refl, sym, ap, ◌∙◌, arith}
 use Rattle.std.{proofs.lemmas.{Bool.{and_from, or_left, or_right}, Option.{none-some}}, specs.Prelude.{slice_get, ◌↔◌, IsTrue}}
 use Rattle.pc_ground.specs.declared.{literal.Literal.{Literal}, row.{Row.{Row}, RowKind.TheVariants.{True, False, Lit, And, Or}}, version.Version.{Version}}
 use Rattle.pc_ground.specs.{declared.version.Version.TheVariants.{One, Two}, Literals.{Joins, IsPresent, Holds}}
 use Rattle.pc_ground.specs.{Tree.{Tree, always, never, leaf, both, either, negation, turned, size_of}, Rows.{root_kind, rows_of}, Refutes.{Signed, subtree_at}}
 use Rattle.pc_ground.proofs.Turned.{subtree_denied, size_negation, size_turned}
-use Rattle.pc_ground.proofs.{FlatRows.{length_rows, size_pos, subtree_size, subtree_past, children_both, children_either}, StageWalks.{some_same}}
+use Rattle.pc_ground.proofs.FlatRows.{length_rows, size_pos, subtree_size, subtree_past, children_both, children_either}
 use Rattle.pc_common.{specs.Chain.{Chain}, proofs.Bools.{true_or_false, and_first, and_second, or_second}}
 use Rattle.solver.specs.{Spelled.{spelled, IsSpelled}, Met.{IsMet}, Flags.{AreTruths, HasChildren, of_both, of_either, SomeChildren, AreChildFlags}}
 use Rattle.solver.specs.{Places.{left_side, denied_left, right_side, IsOr, IsDeniedIn, AreSides}, declared.tree.side.Side.{Side}}
-use Rattle.solver.proofs.HasAsserted.{row_root, length_spelled}
+use Rattle.solver.proofs.HasAsserted.{root_row, row_root, length_spelled}
 
 -- the two trees, each at its place
 two_children : (t : Tree ℕ) (p right : ℕ) → HasChildren t p right
@@ -25,39 +25,24 @@ children_inside rows p right flat has =
     let len = length_spelled rows flat in
     (omega (arith, first, size_pos k.0, len), omega (arith, second, size_pos k.1, len))
 
-root_skip : (rows : List (Row ℕ)) (p : ℕ) (r : Row ℕ) (s : Tree ℕ) → IsSpelled rows → p < size_of (spelled rows) → slice_get rows p ≡ Some r
-    → subtree_at (spelled rows) p ≡ Some s → r.skip ≡ size_of s
-root_skip rows p r s flat inside at e =
-    let there = row_root rows (spelled rows) p r flat inside at in
-    ap (λ (x : Row ℕ). x.skip) there.2 ∙ ap size_of (some_same (sym there.1 ∙ e))
-
 pub right_is : (rows : List (Row ℕ)) (p right : ℕ) (r : Row ℕ) → IsSpelled rows → HasChildren (spelled rows) p right
     → slice_get rows (p + 1) ≡ Some r → right ≡ p + 1 + r.skip
 right_is rows p right r flat has at =
     let k = two_children (spelled rows) p right has in
-    let first = subtree_size (spelled rows) (p + 1) k.0 k.2 in
-    omega (arith, k.4, root_skip rows (p + 1) r k.0 flat (omega (arith, first, size_pos k.0)) at k.2)
+    omega (arith, k.4, ap (λ (x : Row ℕ). x.skip) (root_row rows (spelled rows) (p + 1) r k.0 flat at k.2))
 
 -- the kind of a row is that of the tree that stands there
-pub kind_at : (rows : List (Row ℕ)) (p : ℕ) (r : Row ℕ) (s : Tree ℕ) → IsSpelled rows → p < length rows → slice_get rows p ≡ Some r
+pub kind_at : (rows : List (Row ℕ)) (p : ℕ) (r : Row ℕ) (s : Tree ℕ) → IsSpelled rows → slice_get rows p ≡ Some r
     → subtree_at (spelled rows) p ≡ Some s → root_kind s ≡ r.kind
-kind_at rows p r s flat inside at e =
-    let there = row_root rows (spelled rows) p r flat (omega (arith, inside, length_spelled rows flat)) at in
-    sym (ap (λ (x : Row ℕ). x.kind) there.2 ∙ ap root_kind (some_same (sym there.1 ∙ e)))
+kind_at rows p r s flat at e = ap (λ (x : Row ℕ). x.kind) (sym (root_row rows (spelled rows) p r s flat at e))
 
 both_of : {N : Type 0} (s : Tree N) → root_kind s ≡ And → (a : Tree N) × (b : Tree N) × (s ≡ both a b)
-both_of always e = cc
-both_of never e = cc
-both_of (leaf l) e = cc
 both_of (both a b) e = (a, b, refl)
-both_of (either a b) e = cc
+both_of s e = cc
 
 pub either_of : {N : Type 0} (s : Tree N) → root_kind s ≡ Or → (a : Tree N) × (b : Tree N) × (s ≡ either a b)
-either_of always e = cc
-either_of never e = cc
-either_of (leaf l) e = cc
-either_of (both a b) e = cc
 either_of (either a b) e = (a, b, refl)
+either_of s e = cc
 
 pub and_children : (rows : List (Row ℕ)) (p : ℕ) (r : Row ℕ) → IsSpelled rows → p < length rows → slice_get rows p ≡ Some r → r.kind ≡ And
     → SomeChildren (spelled rows) p
@@ -80,34 +65,21 @@ or_children rows p r flat inside at kind = (let parts = or_tree rows (spelled ro
 
 pub met_always : (ls : List (Literal ℕ)) (s : Tree ℕ) → root_kind s ≡ True → IsTrue true ↔ IsMet ls s
 met_always ls always e = ((λ h. tt), (λ h. refl))
-met_always ls never e = cc
-met_always ls (leaf l) e = cc
-met_always ls (both a b) e = cc
-met_always ls (either a b) e = cc
+met_always ls s e = cc
 
 pub met_never : (ls : List (Literal ℕ)) (s : Tree ℕ) → root_kind s ≡ False → IsTrue false ↔ IsMet ls s
-met_never ls always e = cc
 met_never ls never e = ((λ h. (let no : false ≡ true → ⊥ = λ k. cc in no h)), (λ h. absurd h))
-met_never ls (leaf l) e = cc
-met_never ls (both a b) e = cc
-met_never ls (either a b) e = cc
+met_never ls s e = cc
 
 pub met_leaf : (ls : List (Literal ℕ)) (s : Tree ℕ) (l : Literal ℕ) (b : Bool) → root_kind s ≡ Lit l
     → IsTrue b ↔ Holds (IsPresent ls) (Chain (Joins ls)) l → IsTrue b ↔ IsMet ls s
-met_leaf ls always l b e h = cc
-met_leaf ls never l b e h = cc
 met_leaf ls (leaf m) l b e h =
     let same : l ≡ m = (let other : m ≡ l = cc in sym other) in
-    let P : Literal ℕ → Type 0 = λ x. IsTrue b ↔ Holds (IsPresent ls) (Chain (Joins ls)) x in
-    subst P same h
-met_leaf ls (both x y) l b e h = cc
-met_leaf ls (either x y) l b e h = cc
+    rw same at h
+met_leaf ls s l b e h = cc
 
 pub met_both : (t : Tree ℕ) (ls : List (Literal ℕ)) (p : ℕ) (flags : List Bool) (s : Tree ℕ) (pair : Bool × Bool) → root_kind s ≡ And → subtree_at t p ≡ Some s
     → AreTruths t ls (p + 1) flags → AreChildFlags t flags p pair → IsTrue (pair.0 && pair.1) ↔ IsMet ls s
-met_both t ls p flags always pair e at truths children = cc
-met_both t ls p flags never pair e at truths children = cc
-met_both t ls p flags (leaf l) pair e at truths children = cc
 met_both t ls p flags (both a b) pair e at truths children =
     let places = children_both t p a b at in
     let are = children (p + 1 + size_of a) (of_both a b at) in
@@ -116,14 +88,10 @@ met_both t ls p flags (both a b) pair e at truths children =
       (λ h. (left.0 (sym are.0 ∙ and_first pair.0 pair.1 h), right.0 (sym are.1 ∙ and_second pair.0 pair.1 h))),
       (λ h. and_from pair.0 pair.1 (are.0 ∙ left.1 h.0) (are.1 ∙ right.1 h.1)),
     )
-met_both t ls p flags (either a b) pair e at truths children = cc
+met_both t ls p flags s pair e at truths children = cc
 
 pub met_either : (t : Tree ℕ) (ls : List (Literal ℕ)) (p : ℕ) (flags : List Bool) (s : Tree ℕ) (pair : Bool × Bool) → root_kind s ≡ Or → subtree_at t p ≡ Some s
     → AreTruths t ls (p + 1) flags → AreChildFlags t flags p pair → IsTrue (pair.0 || pair.1) ↔ IsMet ls s
-met_either t ls p flags always pair e at truths children = cc
-met_either t ls p flags never pair e at truths children = cc
-met_either t ls p flags (leaf l) pair e at truths children = cc
-met_either t ls p flags (both a b) pair e at truths children = cc
 met_either t ls p flags (either a b) pair e at truths children =
     let places = children_either t p a b at in
     let are = children (p + 1 + size_of a) (of_either a b at) in
@@ -138,6 +106,7 @@ met_either t ls p flags (either a b) pair e at truths children =
         | inr k ↦ or_right pair.0 pair.1 (are.1 ∙ right.1 k)
       ]),
     )
+met_either t ls p flags s pair e at truths children = cc
 
 -- no position is past the end
 pub truths_none : (rows : List (Row ℕ)) (ls : List (Literal ℕ)) (from : ℕ) (flags : List Bool) → IsSpelled rows
@@ -150,8 +119,7 @@ truths_none rows ls from flags flat e = λ p s past at.
 pub signed_children : (t : Tree ℕ) (n : Bool) (p : ℕ) (a b : Tree ℕ) → subtree_at (turned n t) p ≡ Some (either a b) → HasChildren t p (p + 1 + size_of a)
 signed_children t false p a b e = of_either a b e
 signed_children t true p a b e =
-    let P : ℕ → Type 0 = λ n. HasChildren t p (p + 1 + n) in
-    subst P (size_negation a) (of_both (negation a) (negation b) (subtree_denied t true p (either a b) e))
+    rw (← size_negation a) (of_both (negation a) (negation b) (subtree_denied t true p (either a b) e))
 
 pub or_sides : (rows : List (Row ℕ)) (v : Version) (q : Signed) (r : Row ℕ) (left right : Side) → IsSpelled rows → slice_get rows (q.position + 1) ≡ Some r
     → left ≡ left_side q → right ≡ right_side v q r.skip → AreSides v (spelled rows) q (left, right)

@@ -1,5 +1,5 @@
 -- Consistent literals over nodes are true in the world that they generate.
-use Rattle.std.{proofs.Common.{inl, inr, List, [], ◌∷◌, refl, sym, subst}, specs.{Prelude.{Contains, IsTrue}, List.{flat_map}}}
+use Rattle.std.{proofs.Common.{inl, inr, List, [], ◌∷◌, refl, subst}, specs.{Prelude.{Contains, IsTrue}, List.{flat_map}}}
 use Rattle.pc_common.specs.{World.{Node, Edge, World, has_node, has_edge, same_node}, Chain.{Leads, Acyclic}, Generated.{IsListed, HasEnds, IsGenerated}}
 use Rattle.pc_common.proofs.{Elements.{In, in_from_contains, contains_from_in, in_flat, from_flat}, Nodes.{has_node_is, has_edge_is}}
 use Rattle.pc_common.proofs.GeneratedWorlds.{generates, node_tells}
@@ -26,8 +26,7 @@ present_listed ls a h =
     go (an_edge b c) i (inl e) = (let P : Node → Type 0 = IsPresent ls in subst P e (as_start c (contains_from_in (an_edge b c) ls i)))
     go (an_edge b c) i (inr (inl e)) = (let P : Node → Type 0 = IsPresent ls in subst P e (as_end b (contains_from_in (an_edge b c) ls i)))
     go (an_edge b c) i (inr (inr j)) = absurd j
-    go (NoNode b) i j = absurd j
-    go (NoEdge b c) i j = absurd j
+    go l i j = absurd j
 
 listed_joins : (ls : List (Literal Node)) (a b : Node) → Joins ls a b → Contains (flat_map literal_edges ls) (a, b)
 listed_joins ls a b h =
@@ -39,13 +38,11 @@ joins_listed ls a b h =
     go from.0 from.1 from.2
   where
     go : (l : Literal Node) → In l ls → In (a, b) (literal_edges l) → Joins ls a b
-    go (a_node c) i j = absurd j
     go (an_edge c d) i (inl e) =
         let P : Edge → Type 0 = λ p. Joins ls p.0 p.1 in
         subst P e (contains_from_in (an_edge c d) ls i)
     go (an_edge c d) i (inr j) = absurd j
-    go (NoNode c) i j = absurd j
-    go (NoEdge c d) i j = absurd j
+    go l i j = absurd j
 
 leads_back : (ls : List (Literal Node)) (a : Node) (via : List Node) (b : Node) → Leads (IsListed (flat_map literal_edges ls)) a via b
     → Leads (Joins ls) a via b
@@ -55,13 +52,11 @@ leads_back ls a (x ∷ xs) b h = (joins_listed ls a x h.0, leads_back ls x xs b 
 literal_met : (ls : List (Literal Node)) (w : World Node) → IsConsistent ls → IsGenerated (flat_map literal_nodes ls) (flat_map literal_edges ls) w
     → (l : Literal Node) → Contains ls l → IsTrue (literal_true w l)
 literal_met ls w consistent g (a_node a) h =
-    let P : List Node → Type 0 = λ xs. Contains xs a in
-    (has_node_is w a).1 (subst P (sym g.nodes_are) (listed_present ls a (as_node h)))
+    (has_node_is w a).1 (rw g.nodes_are (listed_present ls a (as_node h)))
 literal_met ls w consistent g (an_edge a b) h = (has_edge_is w a b).1 ((g.order_is a b).1 ([], listed_joins ls a b h))
 literal_met ls w consistent g (NoNode a) h =
     not_true (has_node w a) (λ yes.
-    let P : List Node → Type 0 = λ xs. Contains xs a in
-    consistent.missing a h (present_listed ls a (subst P g.nodes_are ((has_node_is w a).0 yes))))
+    consistent.missing a h (present_listed ls a (rw g.nodes_are at ((has_node_is w a).0 yes))))
 literal_met ls w consistent g (NoEdge a b) h =
     not_true (has_edge w a b) (λ yes.
     let chain = (g.order_is a b).0 ((has_edge_is w a b).0 yes) in

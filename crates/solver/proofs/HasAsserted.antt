@@ -1,56 +1,55 @@
 -- Asserting a side: where a part's walk starts, one row more, one part more, and what a clash of a first part says of the whole.
-use Rattle.std.proofs.Common.{◌≡◌, ◌≤◌, ◌<◌, ℕ, ◌+◌, Bool, true, false, List, [], ◌∷◌, ◌++◌, Option, Some, None, take, length, refl, sym, ap, ◌∙◌, subst, arith, append_assoc}
+use Rattle.std.proofs.Common.{◌≡◌, ◌≤◌, ◌<◌, ℕ, ◌+◌, Bool, true, false, List, [], ◌∷◌, ◌++◌, Option, Some, take, length, refl, sym, ap, ◌∙◌, subst, arith, append_assoc}
 use Rattle.std.proofs.{lemmas.List.{append-nil, map_push, take-take, length-take, Elements.{All-contains, Contains-append_left}}, Math.Seq.{take-length, take-append_seam}}
 use Rattle.std.{proofs.lemmas.{Option.{slice_get_within, get_or_from_slice_get}, Grind.{flat_map-append}}, specs.Prelude.{slice_get, All}}
 use Rattle.pc_common.specs.{Chain.{Leads}, Steps.{Leaf}}
 use Rattle.pc_ground.specs.declared.{literal.Literal.{Literal, TheVariants.{Node, Edge, NoNode, NoEdge}}, row.{Row.{Row}, RowKind.{RowKind}}}
-use Rattle.pc_ground.specs.declared.row.RowKind.TheVariants.{True, False, Lit, And, Or}
-use Rattle.pc_ground.specs.Tree.{Tree, always, never, leaf, both, either, contrary, turned, size_of}
+use Rattle.pc_ground.specs.declared.row.RowKind.TheVariants.{Lit}
+use Rattle.pc_ground.specs.Tree.{Tree, always, contrary, turned, size_of}
 use Rattle.pc_ground.specs.{Rows.{rows_of, literals_of_kind, turned_kind, turned_row, turned_rows}, Literals.{Joins, IsPresent, as_node, as_start, as_end}}
 use Rattle.pc_ground.specs.Refutes.{Signed, Branch, all_signed, subtree_at, part_at, asserted, literal_of, literals_of, IsContradiction, a_cycle, a_path, an_absence}
 use Rattle.pc_ground.specs.Walks.{stride, Walk}
 use Rattle.pc_ground.proofs.FlatRows.{root_of, row_subtree, subtree_within, subtree_row, subtree_size, length_rows, literal_by_row, literals_of_row}
-use Rattle.pc_ground.proofs.{Walks.{walk_side, walk_turn, walk_within}, StageWalks.{some_same}}
-use Rattle.order_graph.specs.{Clashes.{leaf_of, IsClash}, State.{Graph}, Adding.{IsAdded}, declared.clash.Added.{Added}}
-use Rattle.order_graph.specs.{declared.clash.{Added.TheVariants.{Kept as was_kept, Clash as clashed}, Clash.{Clash}}, Ways.{IsBelow}}
+use Rattle.pc_ground.proofs.{Walks.{walk_side, walk_turn, walk_within}, Turned.{size_turned}, StageWalks.{some_same}}
+use Rattle.order_graph.specs.{Clashes.{leaf_of, IsClash}, State.{Graph}}
+use Rattle.order_graph.specs.{declared.clash.Clash.{Clash}, Ways.{IsBelow}}
 use Rattle.solver.specs.{Spelled.{spelled, IsSpelled}, Below.{IsKindBelow, IsRowBelow}, Places.{place_signed, asserted_in, asserted_at}}
-use Rattle.solver.{specs.{Opens.{positions, IsFurther, HasAsserted, HasAddedRow}, declared.tree.place.Place.{Place}}, proofs.IsSpelled.{turned_flat}}
+use Rattle.solver.{specs.{Opens.{positions, IsFurther}, declared.tree.place.Place.{Place}}, proofs.IsSpelled.{turned_flat, turned_at}}
 
 pub asserted_is : {N : Type 0} (t : Tree N) (n : Bool) (p : ℕ) (s : Tree N) → subtree_at (turned n t) p ≡ Some s
     → asserted_at t n p ≡ all_signed n (asserted s p)
 asserted_is {N} t n p s e = ap (λ (o : Option (Tree N)). all_signed n (asserted_in o p)) e
 
 -- the row at a position is its subtree's root
+pub root_row : (rows : List (Row ℕ)) (t : Tree ℕ) (p : ℕ) (r : Row ℕ) (s : Tree ℕ) → rows ≡ rows_of t → slice_get rows p ≡ Some r
+    → subtree_at t p ≡ Some s → r ≡ root_of s
+root_row rows t p r s flat at e = some_same (sym at ∙ ap (λ xs. slice_get xs p) flat ∙ subtree_row t p s e)
+
 pub row_root : (rows : List (Row ℕ)) (t : Tree ℕ) (p : ℕ) (r : Row ℕ) → rows ≡ rows_of t → p < size_of t → slice_get rows p ≡ Some r
     → (s : Tree ℕ) × (subtree_at t p ≡ Some s) × (r ≡ root_of s)
-row_root rows t p r flat inside at =
-    let there = subtree_within t p inside in
-    (there.0, there.1, some_same (sym at ∙ ap (λ xs. slice_get xs p) flat ∙ subtree_row t p there.0 there.1))
+row_root rows t p r flat inside at = (let there = subtree_within t p inside in (there.0, there.1, root_row rows t p r there.0 flat at there.1))
 
 pub length_spelled : (rows : List (Row ℕ)) → IsSpelled rows → length rows ≡ size_of (spelled rows)
 length_spelled rows flat = ap length flat ∙ length_rows (spelled rows)
 
--- the walk over a part, which ends where its rows do
-pub walk_start : (rows : List (Row ℕ)) (t : Tree ℕ) (root : ℕ) (r : Row ℕ) → rows ≡ rows_of t → root < size_of t → slice_get rows root ≡ Some r
-    → (root + r.skip ≤ size_of t) × Walk rows (root + r.skip) root (asserted_in (subtree_at t root) root)
-walk_start rows t root r flat inside at =
-    let there = row_root rows t root r flat inside at in
+-- the walk over a part of the tree or of its negation, which ends where its rows do
+pub walk_start : (rows : List (Row ℕ)) (n : Bool) (root : ℕ) (r : Row ℕ) → IsSpelled rows → root < size_of (spelled rows) → slice_get rows root ≡ Some r
+    → (root + r.skip ≤ length rows) × Walk (turned_rows n rows) (root + r.skip) root (asserted_in (subtree_at (turned n (spelled rows)) root) root)
+walk_start rows n root r flat inside at =
+    let t = turned n (spelled rows) in
+    let whole = size_turned n (spelled rows) in
+    let flat_turned = turned_flat n rows flat in
+    let there = row_root (turned_rows n rows) t root (turned_row n r) flat_turned (omega (arith, inside, whole)) (turned_at n rows root r (turned_row n r) at refl) in
     let s = there.0 in
     let skip : r.skip ≡ size_of s = ap (λ (x : Row ℕ). x.skip) there.2 in
     let size = subtree_size t root s there.1 in
-    let P : List (Row ℕ) → ℕ → List ℕ → Type 0 = λ xs n ps. Walk xs (root + n) root ps in
-    let walk : Walk (rows_of t) (root + size_of s) root (asserted s root) = walk_side t root s there.1 in
-    let by_rows : P rows (size_of s) (asserted s root) = subst (λ xs. P xs (size_of s) (asserted s root)) (sym flat) walk in
-    let by_skip : P rows r.skip (asserted s root) = subst (λ n. P rows n (asserted s root)) (sym skip) by_rows in
-    let is : asserted_in (subtree_at t root) root ≡ asserted s root = ap (λ (o : Option (Tree ℕ)). asserted_in o root) there.1 in
-    (omega (arith, skip, size), subst (P rows r.skip) (sym is) by_skip)
+    (omega (arith, skip, size, whole, length_spelled rows flat), rw (flat_turned, skip, there.1) (walk_side t root s there.1))
 
 pub walk_step : (rows : List (Row ℕ)) (end at : ℕ) (ps : List ℕ) (r : Row ℕ) → Walk rows end at ps → at < end → slice_get rows at ≡ Some r
     → (rest : List ℕ) × (ps ≡ at ∷ rest) × Walk rows end (at + stride r) rest × (at + stride r ≤ end)
 walk_step rows end at ps r walk before here =
     let turn = walk_turn walk before in
-    let P : Row ℕ → Type 0 = λ x. Walk rows end (at + stride x) turn.1 in
-    let next = subst P (some_same (sym turn.2 ∙ here)) turn.4 in
+    let next = rw (some_same (sym turn.2 ∙ here)) at turn.4 in
     (turn.1, turn.3, next, walk_within next)
 
 -- literals of some positions more
@@ -94,26 +93,20 @@ further_more f g h a b = record {
 pub kept_push : {X : Type 0} (xs ys zs : List X) (x : X) → take (length xs) ys ≡ xs → zs ≡ ys ++ x ∷ [] → take (length xs) zs ≡ xs
 kept_push xs ys zs x e f = take_through xs ys zs e (ap (take (length ys)) f ∙ take-append_seam ys (x ∷ []))
 
-contradiction_more : (ls ms : List (Literal ℕ)) (l : Leaf ℕ) → IsContradiction ls l → IsContradiction (ls ++ ms) l
-contradiction_more ls ms l c = go l c
-  where
-    leads : (a : ℕ) (via : List ℕ) (b : ℕ) → Leads (Joins ls) a via b → Leads (Joins (ls ++ ms)) a via b
-    leads a [] b l = Contains-append_left ls ms (Edge a b) l
-    leads a (x ∷ xs) b l = (Contains-append_left ls ms (Edge a x) l.0, leads x xs b l.1)
+leads_more : (ls ms : List (Literal ℕ)) (a : ℕ) (via : List ℕ) (b : ℕ) → Leads (Joins ls) a via b → Leads (Joins (ls ++ ms)) a via b
+leads_more ls ms a [] b h = Contains-append_left ls ms (Edge a b) h
+leads_more ls ms a (x ∷ xs) b h = (Contains-append_left ls ms (Edge a x) h.0, leads_more ls ms x xs b h.1)
 
-    present : (a : ℕ) → IsPresent ls a → IsPresent (ls ++ ms) a
-    present a (as_node h) = as_node (Contains-append_left ls ms (Node a) h)
-    present a (as_start b h) = as_start b (Contains-append_left ls ms (Edge a b) h)
-    present a (as_end b h) = as_end b (Contains-append_left ls ms (Edge b a) h)
-
-    go : (l : Leaf ℕ) → IsContradiction ls l → IsContradiction (ls ++ ms) l
-    go l (a_cycle a via h) = a_cycle a via (leads a via a h)
-    go l (a_path a via b h d) = a_path a via b (leads a via b h) (Contains-append_left ls ms (NoEdge a b) d)
-    go l (an_absence a d p) = an_absence a (Contains-append_left ls ms (NoNode a) d) (present a p)
+present_more : (ls ms : List (Literal ℕ)) (a : ℕ) → IsPresent ls a → IsPresent (ls ++ ms) a
+present_more ls ms a (as_node h) = as_node (Contains-append_left ls ms (Node a) h)
+present_more ls ms a (as_start b h) = as_start b (Contains-append_left ls ms (Edge a b) h)
+present_more ls ms a (as_end b h) = as_end b (Contains-append_left ls ms (Edge b a) h)
 
 -- a clash of a first part is one of the whole
-pub clash_more : (ls ms : List (Literal ℕ)) (k : Clash) → IsClash ls k → IsClash (ls ++ ms) k
-clash_more ls ms k c = contradiction_more ls ms (leaf_of k) c
+contradiction_more : (ls ms : List (Literal ℕ)) (l : Leaf ℕ) → IsContradiction ls l → IsContradiction (ls ++ ms) l
+contradiction_more ls ms l (a_cycle a via h) = a_cycle a via (leads_more ls ms a via a h)
+contradiction_more ls ms l (a_path a via b h d) = a_path a via b (leads_more ls ms a via b h) (Contains-append_left ls ms (NoEdge a b) d)
+contradiction_more ls ms l (an_absence a d p) = an_absence a (Contains-append_left ls ms (NoNode a) d) (present_more ls ms a p)
 
 -- the first rows of a part clash, so all of them do
 pub part_clash : (rows : List (Row ℕ)) (q : Signed) (r : Row ℕ) (ps rest whole : Branch) (ls : List (Literal ℕ)) (k : Clash) → IsSpelled rows
@@ -121,12 +114,11 @@ pub part_clash : (rows : List (Row ℕ)) (q : Signed) (r : Row ℕ) (ps rest who
     → ls ≡ literals_of (spelled rows) ps → ps ++ q ∷ rest ≡ whole → IsClash (ls ++ literals_of_kind r.kind) k → IsClash (literals_of (spelled rows) whole) k
 part_clash rows q r ps rest whole ls k flat at e f c =
     let t = spelled rows in
-    let P : List (Literal ℕ) → Type 0 = λ xs. IsClash xs k in
     let first : ls ++ literals_of_kind r.kind ≡ literals_of t (ps ++ q ∷ []) =
     literals_push rows q r ps (ps ++ q ∷ []) ls (ls ++ literals_of_kind r.kind) flat at e refl refl in
     let all : literals_of t (ps ++ q ∷ []) ++ literals_of t rest ≡ literals_of t whole =
     sym (literals_more t (ps ++ q ∷ []) rest) ∙ ap (literals_of t) (append_assoc ps (q ∷ []) rest ∙ f) in
-    subst P (ap (λ xs. xs ++ literals_of t rest) first ∙ all) (clash_more (ls ++ literals_of_kind r.kind) (literals_of t rest) k c)
+    rw (← all, ← first) (contradiction_more (ls ++ literals_of_kind r.kind) (literals_of t rest) (leaf_of k) c)
 
 -- the positions so far and those that the walk still comes to, once a row is entered
 pub whole_push : (new old : List Place) (q : Place) (ps rest : List ℕ) (whole : Branch) → new ≡ old ++ q ∷ [] → ps ≡ q.position ∷ rest
@@ -135,47 +127,21 @@ whole_push new old q ps rest whole e f g =
     ap (λ xs. xs ++ all_signed q.negated rest) (positions_push new old q e) ∙ append_assoc (positions old) (place_signed q ∷ []) (all_signed q.negated rest)
     ∙ ap (λ xs. positions old ++ all_signed q.negated xs) (sym f) ∙ g
 
--- a first part is asserted, and then the rest
-pub asserted_then : (t : Tree ℕ) (first more : Branch) (old mid new : List Place) (g h : Graph) (found : Option Clash)
-    → HasAsserted t first old g mid None → HasAsserted t more mid h new found → HasAsserted t (first ++ more) old h new found
-asserted_then t first more old mid new g h None a b =
-    (b.0 ∙ ap (λ xs. xs ++ more) a.0 ∙ append_assoc (positions old) first more, b.1)
-asserted_then t first more old mid new g h (Some k) a b =
-    let P : Branch → Type 0 = λ ps. IsClash (literals_of t ps) k in
-    subst P (ap (λ xs. xs ++ more) a.0 ∙ append_assoc (positions old) first more) b
-
 -- a clash of the first part is one of all
 pub asserted_clash : (t : Tree ℕ) (first more : Branch) (old : List Place) (k : Clash) → IsClash (literals_of t (positions old ++ first)) k
     → IsClash (literals_of t (positions old ++ (first ++ more))) k
 asserted_clash t first more old k c =
-    let P : List (Literal ℕ) → Type 0 = λ ls. IsClash ls k in
-    subst P (sym (literals_more t (positions old ++ first) more) ∙ ap (literals_of t) (append_assoc (positions old) first more))
-    (clash_more (literals_of t (positions old ++ first)) (literals_of t more) k c)
+    rw (← append_assoc (positions old) first more, literals_more t (positions old ++ first) more)
+    (contradiction_more (literals_of t (positions old ++ first)) (literals_of t more) (leaf_of k) c)
 
 root_stride : {N : Type 0} (s : Tree N) → 0 < stride (root_of s)
 root_stride always = omega arith
-root_stride never = omega arith
-root_stride (leaf l) = omega arith
-root_stride (both a b) = omega arith
-root_stride (either a b) = omega arith
+root_stride s = omega arith
 
 pub stride_pos : (rows : List (Row ℕ)) (t : Tree ℕ) (p : ℕ) (r : Row ℕ) → rows ≡ rows_of t → slice_get rows p ≡ Some r → 0 < stride r
 stride_pos rows t p r flat at =
     let there = row_subtree t p r (ap (λ xs. slice_get xs p) (sym flat) ∙ at) in
-    let P : Row ℕ → Type 0 = λ x. 0 < stride x in
-    subst P there.2 (root_stride there.0)
-
--- what was added is what the row asserts
-pub row_added : (old new : Graph) (l : Literal ℕ) (r : Row ℕ) (a : Added) → r.kind ≡ Lit l → IsAdded old l new a → HasAddedRow r old new a
-row_added old new l r was_kept e h =
-    let K : RowKind ℕ → Type 0 = λ kind. new.literals ≡ old.literals ++ literals_of_kind kind in
-    let first : take (length old.literals) new.literals ≡ old.literals =
-    ap (take (length old.literals)) h.0.literals ∙ take-append_seam old.literals (l ∷ []) in
-    (record { same_nodes = h.0.same_nodes; same_marks = h.0.marks; literals = first }, subst K (sym e) h.0.literals)
-row_added old new l r (clashed k) e h =
-    let F : Graph → Type 0 = IsFurther old in
-    let K : RowKind ℕ → Type 0 = λ kind. IsClash (old.literals ++ literals_of_kind kind) k in
-    (subst F (sym h.0) (further_same old), subst K (sym e) h.1)
+    rw (← there.2) (root_stride there.0)
 
 -- a row turned is over the same numbers
 pub turned_below : (n : ℕ) (negated : Bool) (r q : Row ℕ) → IsRowBelow n r → q ≡ turned_row negated r → IsRowBelow n q
@@ -183,17 +149,12 @@ turned_below n negated r q below e = (let P : Row ℕ → Type 0 = IsRowBelow n 
   where
     of_literal : (l : Literal ℕ) → IsBelow n l → IsBelow n (contrary l)
     of_literal (Node a) h = h
-    of_literal (Edge a b) h = h
-    of_literal (NoNode a) h = h
-    of_literal (NoEdge a b) h = h
+    of_literal l h = h
 
     of_kind : (m : Bool) (k : RowKind ℕ) → IsKindBelow n k → IsKindBelow n (turned_kind m k)
     of_kind false k h = h
-    of_kind true True h = tt
-    of_kind true False h = tt
     of_kind true (Lit l) h = of_literal l h
-    of_kind true And h = tt
-    of_kind true Or h = tt
+    of_kind true k h = tt
 
 -- the row at a position is over numbers below n
 pub row_below : (n : ℕ) (rows : List (Row ℕ)) (p : ℕ) (r : Row ℕ) → All (IsRowBelow n) rows → slice_get rows p ≡ Some r → IsRowBelow n r

@@ -1,21 +1,21 @@
 -- One turn of a descent, and its end.
-use Rattle.std.proofs.Common.{◌≡◌, ◌≤◌, ◌<◌, ℕ, ◌+◌, List, [], ◌∷◌, ◌++◌, take, reverse, length, sym, ap, ◌∙◌, subst, arith, append_assoc}
-use Rattle.std.{proofs.{lemmas.List.{reverse-append, length-map}, Math.Seq.{take-length}}, specs.Prelude.{All}}
+use Rattle.std.proofs.Common.{◌≡◌, ◌≤◌, ◌<◌, ℕ, ◌+◌, List, [], ◌∷◌, ◌++◌, reverse, length, ap, ◌∙◌, arith, append_assoc}
+use Rattle.std.{proofs.lemmas.List.{reverse-append}, specs.Prelude.{All}}
 use Rattle.pc_common.{specs.{World.{Node}, Steps.{Step, split}}, proofs.Elements.{contains_from_in}}
-use Rattle.pc_ground.specs.{declared.{row.Row.{Row}, version.Version.{Version}}, Tree.{Tree, turned, size_of}}
-use Rattle.pc_ground.{specs.Refutes.{Branch, Signed, signed, literals_of, left_branch, right_branch}, proofs.FlatRows.{children_either}}
+use Rattle.pc_ground.specs.{declared.{row.Row.{Row}, version.Version.{Version}}, Tree.{Tree, size_of}}
+use Rattle.pc_ground.specs.Refutes.{Branch, Signed, signed, literals_of, left_branch, right_branch}
 use Rattle.refutation.specs.Steps.{open_branches}
-use Rattle.order_graph.specs.{State.{Graph}, Clashes.{IsClash}, declared.clash.Clash.{Clash}}
+use Rattle.order_graph.specs.{State.{Graph}, Clashes.{leaf_of, IsClash}, declared.clash.Clash.{Clash}}
 use Rattle.solver.specs.{Spelled.{spelled, IsSpelled}, Below.{IsRowBelow}, Renamed.{tree_over}}
-use Rattle.solver.specs.{Places.{place_signed, side_positions, left_side, right_side, IsCandidate, AreSides}, Leaves.{IsClashBelow}}
-use Rattle.solver.specs.{Opens.{positions, waiting, IsLater, AreLater, opens, KeepsState, state_of, IsSame}, Numbered.{Numbered}}
+use Rattle.solver.specs.{Places.{side_positions, IsCandidate, AreSides}, Leaves.{IsClashBelow}}
+use Rattle.solver.specs.{Opens.{positions, waiting, IsLater, opens, KeepsState, state_of, IsSame}, Numbered.{Numbered}}
 use Rattle.solver.specs.{Branches.{branches_with, HasOpenBranch}, declared.{search.branch.Branch.{Branch as OpenBranch}, tree.place.Place.{Place}, tree.side.Side.{Side}}}
 use Rattle.solver.{specs.{declared.search.later.Later.{Later}, Weights.{weight}, Descents.{IsLonger, HasMore}}, proofs.Runs.{open_partial}}
-use Rattle.solver.proofs.{ClashLeaf.{clash_below, literals_below}, KeepsState.{split_kept, left_is, right_is}, Weight.{weight_more, weight_split}}
+use Rattle.solver.proofs.{ClashLeaf.{leaf_below, literals_below}, KeepsState.{split_kept, opens_split}, Weight.{weight_more, weight_split}}
 
 pub clash_in : (n : ℕ) (rows : List (Row ℕ)) (ps : Branch) (k : Clash) → IsSpelled rows → All (IsRowBelow n) rows
     → IsClash (literals_of (spelled rows) ps) k → IsClashBelow n k
-clash_in n rows ps k flat all c = clash_below n (literals_of (spelled rows) ps) k (literals_below n rows ps flat all) c
+clash_in n rows ps k flat all c = leaf_below n (literals_of (spelled rows) ps) (leaf_of k) (literals_below n rows ps flat all) c
 
 pub one_open : (v : Version) (t : Numbered) (b : OpenBranch) (more : Branch) → HasOpenBranch v t b more → 0 < open_branches b.refutation
 one_open v t b more kept = omega (arith, open_partial v (tree_over t.nodes (spelled t.rows)) b.refutation (branches_with t b more) kept.partial)
@@ -35,60 +35,37 @@ pub next_inside : (v : Version) (t : Numbered) (b : OpenBranch) (more : Branch) 
     → HasOpenBranch v t b more → b.later.items ≡ ms ++ l ∷ []
     → IsLater (spelled t.rows) (positions b.asserted) b.graph.marks l
 next_inside v t b more ms l kept popped =
-    let W : List Later → Type 0 = AreLater (spelled t.rows) (positions b.asserted) b.graph.marks in
-    (subst W (ap reverse popped ∙ reverse-append ms (l ∷ [])) kept.waits).0
-
--- once the mark is made and the trials are over
-pub same_after : (g h i : Graph) → h ≡ record g { marks = g.marks ++ length g.literals ∷ [] } → IsSame h i
-    → (i.literals ≡ g.literals) × (i.nodes ≡ g.nodes) × (i.marks ≡ g.marks ++ length g.literals ∷ [])
-same_after g h i e same = (
-  same.same_literals ∙ ap (λ (x : Graph). x.literals) e,
-  same.same_nodes ∙ ap (λ (x : Graph). x.nodes) e,
-  same.same_marks ∙ ap (λ (x : Graph). x.marks) e,
-)
+    (rw (ap reverse popped ∙ reverse-append ms (l ∷ [])) at kept.waits).0
 
 -- the branches weigh less once the candidate is split
-pub lighter_split : (v : Version) (t : Tree ℕ) (here : List Place) (ls ms : List Later) (l : Later) (q : Signed)
-    → (candidate : IsCandidate t (positions here) q)
-    → l.count ≡ length here → l.side ≡ right_side v q (size_of candidate.left) → ms ≡ ls ++ l ∷ []
-    → weight t (opens t (positions here ++ side_positions t (left_side q)) here ms) < weight t (opens t (positions here) here ls)
-lighter_split v t here ls ms l q candidate count side pushed =
+pub lighter_split : (v : Version) (t : Tree ℕ) (here there : List Place) (ls ms : List Later) (l : Later) (q : Signed) (c : Side × Side)
+    → (candidate : IsCandidate t (positions here) q) → there ≡ here
+    → AreSides v t q c → l.count ≡ length here → l.side ≡ c.1 → ms ≡ ls ++ l ∷ []
+    → weight t (opens t (positions there ++ side_positions t c.0) there ms) < weight t (opens t (positions here) here ls)
+lighter_split v t here there ls ms l q c candidate same are count side pushed =
     let ps = positions here in
     let n = q.negated in
     let p = q.position in
     let a = candidate.left in
     let b = candidate.right in
-    let subs = children_either (turned n t) p a b candidate.is_or in
-    let reversed : reverse ms ≡ l ∷ reverse ls = ap reverse pushed ∙ reverse-append ls (l ∷ []) in
-    let length_ps : length ps ≡ length here = length-map here place_signed in
-    let whole : take l.count ps ≡ ps = ap (λ k. take k ps) (count ∙ sym length_ps) ∙ take-length ps in
-    let left : ps ++ side_positions t (left_side q) ≡ left_branch ps n p a = left_is t ps n p a subs.0 in
-    let right : take l.count ps ++ side_positions t l.side ≡ right_branch v ps n p a b =
-    ap (λ rs. rs ++ side_positions t l.side) whole ∙ ap (λ z. ps ++ side_positions t z) side ∙ right_is v t ps n p a b subs.0 subs.1 in
-    let all : opens t (ps ++ side_positions t (left_side q)) here ms ≡ left_branch ps n p a ∷ right_branch v ps n p a b ∷ waiting t ps (reverse ls) =
-    ap (λ w. (ps ++ side_positions t (left_side q)) ∷ waiting t ps w) reversed
-    ∙ ap (λ u. u ∷ (take l.count ps ++ side_positions t l.side) ∷ waiting t (take l.count ps) (reverse ls)) left
-    ∙ ap (λ u. left_branch ps n p a ∷ u ∷ waiting t (take l.count ps) (reverse ls)) right
-    ∙ ap (λ u. left_branch ps n p a ∷ right_branch v ps n p a b ∷ waiting t u (reverse ls)) whole in
+    let sides = are a b candidate.is_or in
     let less = weight_split v t ps (waiting t ps (reverse ls)) n p a b candidate.is_or
     (λ i. candidate.no_left (contains_from_in (signed n (p + 1)) ps i)) (λ i. candidate.no_right (contains_from_in (signed n (p + 1 + size_of a)) ps i)) in
+    let all : opens t (positions there ++ side_positions t c.0) there ms ≡ left_branch ps n p a ∷ right_branch v ps n p a b ∷ waiting t ps (reverse ls) =
+    ap (λ xs. opens t (positions xs ++ side_positions t c.0) xs ms) same ∙ ap (λ z. opens t (ps ++ side_positions t z) here ms) sides.0
+    ∙ opens_split v t here ls ms l n p a b candidate.is_or count (side ∙ sides.1) pushed in
     omega (arith, less, ap (weight t) all)
 
+-- the mark is made, the trials are over, and the candidate is split
 pub advanced : (v : Version) (nodes : List Node) (t : Tree ℕ) (g h i : Graph) (here there : List Place) (ls ms : List Later)
     (ss us : List (Step Node)) (l : Later) (q : Signed) (c : Side × Side)
     → KeepsState v (state_of nodes t g here ls ss) [] → IsCandidate t (positions here) q → h ≡ record g { marks = g.marks ++ length g.literals ∷ [] }
     → IsSame h i → there ≡ here
     → AreSides v t q c → l.count ≡ length here → l.mark ≡ length g.marks → l.side ≡ c.1 → ms ≡ ls ++ l ∷ [] → us ≡ ss ++ split q.negated q.position ∷ []
     → KeepsState v (state_of nodes t i there ms us) (side_positions t c.0)
-    × (weight t (opens t (positions there ++ side_positions t c.0) there ms) < weight t (opens t (positions here) here ls))
 advanced v nodes t g h i here there ls ms ss us l q c kept candidate e same e_there are count mark side pushed steps =
-    let a = candidate.left in
-    let b = candidate.right in
-    let after = same_after g h i e same in
-    let sides = are a b candidate.is_or in
-    let next = split_kept v nodes t g i here ls ms ss us l q.negated q.position a b kept candidate.on_branch candidate.is_or
-    after.0 after.1 after.2 count mark (side ∙ sides.1) pushed steps in
-    let P : List Place → Side → Type 0 = λ xs z. KeepsState v (state_of nodes t i xs ms us) (side_positions t z) in
-    let less = lighter_split v t here ls ms l q candidate count (side ∙ sides.1) pushed in
-    let Q : List Place → Side → Type 0 = λ xs z. weight t (opens t (positions xs ++ side_positions t z) xs ms) < weight t (opens t (positions here) here ls) in
-    (subst (λ xs. P xs c.0) (sym e_there) (subst (P here) (sym sides.0) next), subst (λ xs. Q xs c.0) (sym e_there) (subst (Q here) (sym sides.0) less))
+    let sides = are candidate.left candidate.right candidate.is_or in
+    let next = split_kept v nodes t g i here ls ms ss us l q.negated q.position candidate.left candidate.right kept candidate.on_branch candidate.is_or
+    (same.same_literals ∙ ap (λ (x : Graph). x.literals) e) (same.same_nodes ∙ ap (λ (x : Graph). x.nodes) e)
+    (same.same_marks ∙ ap (λ (x : Graph). x.marks) e) count mark (side ∙ sides.1) pushed steps in
+    rw (e_there, sides.0) next

@@ -1,14 +1,14 @@
 -- Whether an Or is a candidate of its branch, from what is asked of it.
-use Rattle.std.proofs.Common.{◌≡◌, ◌≤◌, ◌<◌, inl, inr, ℕ, ◌+◌, Bool, true, false, List, [], ◌∷◌, Some, length, refl, sym, ap, ◌∙◌, subst, arith}
+use Rattle.std.proofs.Common.{◌≡◌, ◌≤◌, ◌<◌, inl, inr, ℕ, ◌+◌, Bool, true, false, List, [], ◌∷◌, Some, length, refl, sym, ap, ◌∙◌, arith}
 use Rattle.std.{proofs.lemmas.List.{length-map, Elements.{All-contains}}, specs.Prelude.{slice_get, Contains, IsTrue, ◌↔◌, All, MatchBool}}
 use Rattle.pc_common.proofs.Elements.{In, in_from_contains, contains_from_in, in_map}
 use Rattle.pc_ground.specs.declared.{literal.Literal.{Literal}, row.{Row.{Row}, RowKind.TheVariants.{Or}}, version.Version.TheVariants.{One}}
-use Rattle.pc_ground.specs.{Rows.{root_kind, turned_row, turned_rows}, Tree.{Tree, either, turned, size_of}}
+use Rattle.pc_ground.specs.{Rows.{turned_row, turned_rows}, Tree.{Tree, either, turned, size_of}}
 use Rattle.pc_ground.specs.Refutes.{Signed, signed, subtree_at, part_at, literals_of}
-use Rattle.pc_ground.proofs.{Turned.{subtree_denied, size_turned}, FlatRows.{subtree_size, size_pos}, StageWalks.{some_same}}
-use Rattle.solver.specs.{Spelled.{spelled, IsSpelled}, Met.{IsMet, IsMetUnder}, Flags.{flag, AreTruths}, Opens.{positions}, declared.{tree.place.Place.{Place}, tree.side.Side.{Side}}}
+use Rattle.pc_ground.proofs.{Turned.{subtree_denied, size_turned}, FlatRows.{subtree_size, size_pos}}
+use Rattle.solver.specs.{Spelled.{spelled, IsSpelled}, Met.{IsMet, IsMetUnder}, Opens.{positions}, declared.{tree.place.Place.{Place}, tree.side.Side.{Side}}}
 use Rattle.solver.specs.Places.{place_signed, IsOr, AreSides, IsUntaken, IsTaken, IsPending, IsPassed, IsCandidate, IsChosen, AreChosen}
-use Rattle.solver.proofs.{IsSpelled.{turned_flat}, IsIndexed.{place_is}, AreTruths.{or_tree}, HasAsserted.{length_spelled, row_root}}
+use Rattle.solver.proofs.{IsSpelled.{turned_flat}, IsIndexed.{place_is}, AreTruths.{or_tree}, HasAsserted.{length_spelled, root_row}}
 
 -- an Or's row, another one, and none
 pub or_row : (rows : List (Row ℕ)) (q : Signed) (r : Row ℕ) → IsSpelled rows → q.position < length rows
@@ -20,11 +20,8 @@ or_row rows q r flat inside at kind =
 pub other_row : (rows : List (Row ℕ)) (q : Signed) (r : Row ℕ) → IsSpelled rows → q.position < length rows
     → slice_get (turned_rows q.negated rows) q.position ≡ Some r → (r.kind ≡ Or → ⊥) → IsOr (spelled rows) q → ⊥
 other_row rows q r flat inside at other (a, b, e) =
-    let t = turned q.negated (spelled rows) in
-    let size = size_turned q.negated (spelled rows) in
-    let there = row_root (turned_rows q.negated rows) t q.position r (turned_flat q.negated rows flat)
-    (omega (arith, inside, size, length_spelled rows flat)) at in
-    other (ap (λ (x : Row ℕ). x.kind) there.2 ∙ ap root_kind (some_same (sym there.1 ∙ e)))
+    other (ap (λ (x : Row ℕ). x.kind)
+    (root_row (turned_rows q.negated rows) (turned q.negated (spelled rows)) q.position r (either a b) (turned_flat q.negated rows flat) at e))
 
 pub past_rows : (rows : List (Row ℕ)) (q : Signed) → IsSpelled rows → length rows ≤ q.position → IsOr (spelled rows) q → ⊥
 past_rows rows q flat past (a, b, e) =
@@ -41,12 +38,10 @@ pub pending : (t : Tree ℕ) (xs : List Place) (q : Place) (sides : Side × Side
     → MatchBool b (IsPending t xs q) (IsPassed t xs q)
 pending t xs q sides true (a, b, is) are untaken =
     let at = sides_at t q sides are a b is in
-    let U : ℕ → ℕ → Type 0 = IsUntaken xs q in
-    (a, b, is, subst (U (q.position + 1)) at.1 (subst (λ l. U l sides.1.root) at.0 untaken))
+    (a, b, is, rw (at.0, at.1) at untaken)
 pending t xs q sides false there are taken = λ a b is.
     let at = sides_at t q sides are a b is in
-    let T : ℕ → ℕ → Type 0 = IsTaken xs q in
-    subst (T (q.position + 1)) at.1 (subst (λ l. T l sides.1.root) at.0 taken)
+    rw (at.0, at.1) at taken
 
 pub has_signed : (xs : List Place) (q : Place) → Contains xs q → Contains (positions xs) (place_signed q)
 has_signed xs q has = contains_from_in (place_signed q) (positions xs) (in_map place_signed q xs (in_from_contains q xs has))
@@ -62,13 +57,6 @@ signed_has xs q has = contains_from_in q xs (in_back xs q (in_from_contains (pla
 -- what tells of the tree's part there tells of the Or there
 abbrev pub Tells : Tree ℕ → List (Literal ℕ) → Place → Bool → Type 0
 Tells t ls q truth = (s : Tree ℕ) → subtree_at t q.position ≡ Some s → IsTrue truth ↔ IsMet ls s
-
--- by the flags of the whole tree
-pub told_by : (t : Tree ℕ) (ls ms : List (Literal ℕ)) (flags : List Bool) (q : Place) (truth : Bool) → AreTruths t ls 0 flags
-    → truth ≡ flag flags q.position → ls ≡ ms → Tells t ms q truth
-told_by t ls ms flags q truth truths is same = λ s at.
-    let P : Bool → List (Literal ℕ) → Type 0 = λ b xs. IsTrue b ↔ IsMet xs s in
-    subst (P truth) same (subst (λ b. P b ls) (sym is) (truths q.position s (omega arith) at))
 
 pub plain_part : (t : Tree ℕ) (n : Bool) (p : ℕ) (s : Tree ℕ) → subtree_at (turned n t) p ≡ Some s → subtree_at t p ≡ Some (turned n s)
 plain_part t false p s e = e
@@ -103,14 +91,6 @@ pending_candidate t xs q truth true (a, b, is, untaken) told equal =
 pending_candidate t xs q truth false there told other = λ a b on is.
     let part = turned q.negated (either a b) in
     inl (met q.negated (literals_of t (positions xs)) part truth (told part (plain_part t q.negated q.position (either a b) is)) other)
-
-pub passed_chosen : (t : Tree ℕ) (xs : List Place) (q : Place) → IsPassed t xs q → IsChosen t (positions xs) (place_signed q)
-passed_chosen t xs q passed = λ a b on is.
-    let at : ℕ → Place = λ r. record { negated = q.negated; position = r } in
-    elim (passed a b is (signed_has xs q on)) [
-      | inl left ↦ inr (inl (has_signed xs (at (q.position + 1)) left))
-      | inr right ↦ inr (inr (has_signed xs (at (q.position + 1 + size_of a)) right))
-    ]
 
 -- where each asserted one is chosen, all are
 pub all_chosen : (t : Tree ℕ) (xs : List Place) → All (λ q. IsChosen t (positions xs) (place_signed q)) xs → AreChosen t (positions xs)

@@ -1,126 +1,81 @@
 -- What every open branch has: the root, positions of the tree alone, and with an And both of its children.
-use Rattle.std.proofs.Common.{◌≡◌, inl, inr, ℕ, ◌+◌, Bool, false, not, List, [], ◌∷◌, Some, refl, sym, ap, ◌∙◌, subst}
+use Rattle.std.proofs.Common.{◌≡◌, inl, inr, ℕ, ◌+◌, Bool, false, not, List, [], ◌∷◌, ◌++◌, Some, refl, sym, ◌∙◌, subst}
 use Rattle.pc_common.{specs.Steps.{Step, split, close}, proofs.Elements.{In, in_front, in_back, in_either, in_map, from_map}}
-use Rattle.pc_ground.specs.{Tree.{Tree, always, never, leaf, both, either, negation, turned, size_of}, declared.version.Version.{Version}}
+use Rattle.pc_ground.specs.{Tree.{Tree, always, both, negation, turned, size_of}, declared.version.Version.{Version}}
 use Rattle.pc_ground.specs.declared.version.Version.TheVariants.{One, Two}
 use Rattle.pc_ground.specs.Refutes.{Signed, signed, all_signed, Branch, subtree_at, part_at, asserted, with_side, left_branch, right_branch, Runs, IsPartial}
 use Rattle.pc_ground.proofs.{FlatRows.{children_both, children_either}, Turned.{subtree_denied}, StageWalks.{some_same}}
 
+-- an And at the position has both its parts on the branch
+abbrev pub HasParts : {N : Type 0} → Branch → Signed → Tree N → Type 0
+HasParts ps q (both a b) = In (signed q.negated (q.position + 1)) ps × In (signed q.negated (q.position + 1 + size_of a)) ps
+HasParts ps q s = Unit {0}
+
+-- the position is one of the tree, with the parts of an And
+abbrev pub IsPlaced : {N : Type 0} → Tree N → Branch → Signed → Type 0
+IsPlaced {N} t ps q = (s : Tree N) × (part_at t q ≡ Some s) × HasParts ps q s
+
 pub record IsGrown {N : Type 0} (t : Tree N) (ps : Branch) : Type 0 where
   pub root : In (signed false 0) ps
-  pub inside : (q : Signed) → In q ps → (s : Tree N) × (part_at t q ≡ Some s)
-  pub ands : (q : Signed) (a b : Tree N) → In q ps → part_at t q ≡ Some (both a b)
-      → In (signed q.negated (q.position + 1)) ps × In (signed q.negated (q.position + 1 + size_of a)) ps
+  pub placed : (q : Signed) → In q ps → IsPlaced t ps q
+
+pub both_parts : {N : Type 0} (t : Tree N) (ps : Branch) (q : Signed) (a b : Tree N) → IsGrown t ps → In q ps → part_at t q ≡ Some (both a b)
+    → HasParts ps q (both a b)
+both_parts {N} t ps q a b g i e = (let there = g.placed q i in let P : Tree N → Type 0 = HasParts ps q in subst P (some_same (sym there.1 ∙ e)) there.2)
 
 pub asserted_root : {N : Type 0} (s : Tree N) (p : ℕ) → In p (asserted s p)
 asserted_root always p = inl refl
-asserted_root never p = inl refl
-asserted_root (leaf l) p = inl refl
-asserted_root (both a b) p = inl refl
-asserted_root (either a b) p = inl refl
+asserted_root s p = inl refl
 
--- a position that a side asserts
-record IsPlaced {N : Type 0} (t : Tree N) (ps : List ℕ) (q : ℕ) : Type 0 where
-  pub tree : Tree N
-  pub at : subtree_at t q ≡ Some tree
-  pub both_in : (a b : Tree N) → tree ≡ both a b → In (q + 1) ps × In (q + 1 + size_of a) ps
+placed_alone : {N : Type 0} (t : Tree N) (n : Bool) (s : Tree N) (p : ℕ) (ps : Branch) (q : ℕ) → subtree_at (turned n t) p ≡ Some s
+    → HasParts ps (signed n p) s → In q (p ∷ []) → IsPlaced t ps (signed n q)
+placed_alone t n s p ps q at parts (inl e) = (let P : ℕ → Type 0 = λ m. IsPlaced t ps (signed n m) in subst P e (s, at, parts))
+placed_alone t n s p ps q at parts (inr i) = absurd i
 
-sides_same : {N : Type 0} (a b c d : Tree N) → both a b ≡ both c d → (a ≡ c) × (b ≡ d)
-sides_same a b c d e = ((let left : a ≡ c = cc in left), (let right : b ≡ d = cc in right))
-
-one_place : {N : Type 0} (t : Tree N) (ps : List ℕ) (p q : ℕ) (s : Tree N) → p ≡ q → subtree_at t p ≡ Some s
-    → ((a b : Tree N) → s ≡ both a b → ⊥) → IsPlaced t ps q
-one_place {N} t ps p q s same at none =
-    let P : ℕ → Type 0 = λ n. subtree_at t n ≡ Some s in
-    record { tree = s; at = subst P same at; both_in = λ a b e. absurd (none a b e) }
-
-more_placed : {N : Type 0} (t : Tree N) (ps qs : List ℕ) (q : ℕ) → ((p : ℕ) → In p ps → In p qs) → IsPlaced t ps q → IsPlaced t qs q
-more_placed t ps qs q f h = record {
-  tree = h.tree;
-  at = h.at;
-  both_in = λ a b e. let k = h.both_in a b e in (f (q + 1) k.0, f (q + 1 + size_of a) k.1);
-}
-
-asserted_placed : {N : Type 0} (t s : Tree N) (p : ℕ) → subtree_at t p ≡ Some s → (q : ℕ) → In q (asserted s p) → IsPlaced t (asserted s p) q
-asserted_placed t always p at q (inl e) = one_place t _ p q always e at (λ a b h. cc)
-asserted_placed t always p at q (inr i) = absurd i
-asserted_placed t never p at q (inl e) = one_place t _ p q never e at (λ a b h. cc)
-asserted_placed t never p at q (inr i) = absurd i
-asserted_placed t (leaf l) p at q (inl e) = one_place t _ p q (leaf l) e at (λ a b h. cc)
-asserted_placed t (leaf l) p at q (inr i) = absurd i
-asserted_placed t (either c d) p at q (inl e) = one_place t _ p q (either c d) e at (λ a b h. cc)
-asserted_placed t (either c d) p at q (inr i) = absurd i
-asserted_placed {N} t (both c d) p at q (inl e) =
+-- each position that a side asserts
+asserted_placed : {N : Type 0} (t : Tree N) (n : Bool) (s : Tree N) (p : ℕ) (ps : Branch) → subtree_at (turned n t) p ≡ Some s
+    → ((m : ℕ) → In m (asserted s p) → In (signed n m) ps) → (q : ℕ) → In q (asserted s p) → IsPlaced t ps (signed n q)
+asserted_placed t n (both c d) p ps at within q (inl e) =
     let left = asserted c (p + 1) in
     let right = asserted d (p + 1 + size_of c) in
-    let ps = asserted (both c d) p in
-    let P : ℕ → Type 0 = λ n. subtree_at t n ≡ Some (both c d) in
-    let here : In (p + 1) ps = inr (in_front (p + 1) left right (asserted_root c (p + 1))) in
-    let there : In (p + 1 + size_of c) ps = inr (in_back (p + 1 + size_of c) left right (asserted_root d (p + 1 + size_of c))) in
-    record {
-      tree = both c d;
-      at = subst P e at;
-      both_in = λ a b h.
-          let Q : ℕ → Tree N → Type 0 = λ n x. In (n + 1) ps × In (n + 1 + size_of x) ps in
-          subst (λ x. Q q x) (sides_same c d a b h).0 (subst (λ n. Q n c) e (here, there));
-    }
-asserted_placed t (both c d) p at q (inr i) =
+    let here = within (p + 1) (inr (in_front (p + 1) left right (asserted_root c (p + 1)))) in
+    let there = within (p + 1 + size_of c) (inr (in_back (p + 1 + size_of c) left right (asserted_root d (p + 1 + size_of c)))) in
+    placed_alone t n (both c d) p ps q at (here, there) (inl e)
+asserted_placed t n (both c d) p ps at within q (inr i) =
     let left = asserted c (p + 1) in
     let right = asserted d (p + 1 + size_of c) in
-    let ps = asserted (both c d) p in
-    let children = children_both t p c d at in
+    let children = children_both (turned n t) p c d at in
     elim (in_either q left right i) [
-      | inl h ↦ more_placed t left ps q (λ n k. inr (in_front n left right k)) (asserted_placed t c (p + 1) children.0 q h)
-      | inr h ↦ more_placed t right ps q (λ n k. inr (in_back n left right k)) (asserted_placed t d (p + 1 + size_of c) children.1 q h)
+      | inl h ↦ asserted_placed t n c (p + 1) ps children.0 (λ m k. within m (inr (in_front m left right k))) q h
+      | inr h ↦ asserted_placed t n d (p + 1 + size_of c) ps children.1 (λ m k. within m (inr (in_back m left right k))) q h
     ]
+asserted_placed t n s p ps at within q i = placed_alone t n s p ps q at tt i
 
-side_ands : {N : Type 0} (t s : Tree N) (p : ℕ) → subtree_at t p ≡ Some s → (q : ℕ) (a b : Tree N) → In q (asserted s p)
-    → subtree_at t q ≡ Some (both a b) → In (q + 1) (asserted s p) × In (q + 1 + size_of a) (asserted s p)
-side_ands t s p at q a b i e =
-    let placed = asserted_placed t s p at q i in
-    placed.both_in a b (some_same (sym placed.at ∙ e))
-
--- what a side asserts, under a sign
-side_inside : {N : Type 0} (t : Tree N) (n : Bool) (s : Tree N) (p : ℕ) → subtree_at (turned n t) p ≡ Some s
-    → (q : Signed) → In q (all_signed n (asserted s p)) → (u : Tree N) × (part_at t q ≡ Some u)
-side_inside t n s p at q i =
+side_placed : {N : Type 0} (t : Tree N) (n : Bool) (s : Tree N) (p : ℕ) (ps : Branch) → subtree_at (turned n t) p ≡ Some s
+    → ((r : Signed) → In r (all_signed n (asserted s p)) → In r ps) → (q : Signed) → In q (all_signed n (asserted s p)) → IsPlaced t ps q
+side_placed t n s p ps at within q i =
     let from = from_map (signed n) q (asserted s p) i in
-    let placed = asserted_placed (turned n t) s p at from.0 from.1 in
-    (placed.tree, ap (part_at t) (sym from.2) ∙ placed.at)
-
-signed_ands : {N : Type 0} (t : Tree N) (n : Bool) (s : Tree N) (p : ℕ) → subtree_at (turned n t) p ≡ Some s
-    → (q : Signed) (a b : Tree N) → In q (all_signed n (asserted s p)) → part_at t q ≡ Some (both a b)
-    → In (signed q.negated (q.position + 1)) (all_signed n (asserted s p)) × In (signed q.negated (q.position + 1 + size_of a)) (all_signed n (asserted s p))
-signed_ands t n s p at q a b i e =
-    let side = all_signed n (asserted s p) in
-    let from = from_map (signed n) q (asserted s p) i in
-    let k = side_ands (turned n t) s p at from.0 a b from.1 (ap (part_at t) from.2 ∙ e) in
-    let P : Signed → Type 0 = λ r. In (signed r.negated (r.position + 1)) side × In (signed r.negated (r.position + 1 + size_of a)) side in
-    subst P from.2 (in_map (signed n) (from.0 + 1) (asserted s p) k.0, in_map (signed n) (from.0 + 1 + size_of a) (asserted s p) k.1)
+    rw (← from.2) (asserted_placed t n s p ps at (λ m k. within (signed n m) (in_map (signed n) m (asserted s p) k)) from.0 from.1)
 
 pub grown_root : {N : Type 0} (t : Tree N) → IsGrown t (all_signed false (asserted t 0))
 grown_root t = record {
   root = in_map (signed false) 0 (asserted t 0) (asserted_root t 0);
-  inside = λ q i. side_inside t false t 0 refl q i;
-  ands = λ q a b i e. signed_ands t false t 0 refl q a b i e;
+  placed = λ q i. side_placed t false t 0 (all_signed false (asserted t 0)) refl (λ r k. k) q i;
 }
+
+more_parts : {N : Type 0} (ps side : Branch) (q : Signed) (s : Tree N) → HasParts ps q s → HasParts (ps ++ side) q s
+more_parts ps side q (both a b) h =
+    (in_front (signed q.negated (q.position + 1)) ps side h.0, in_front (signed q.negated (q.position + 1 + size_of a)) ps side h.1)
+more_parts ps side q s h = tt
 
 pub grown_side : {N : Type 0} (t : Tree N) (ps : Branch) (n : Bool) (s : Tree N) (p : ℕ) → IsGrown t ps → subtree_at (turned n t) p ≡ Some s
     → IsGrown t (with_side ps n s p)
 grown_side t ps n s p g at =
     let side = all_signed n (asserted s p) in record {
       root = in_front (signed false 0) ps side g.root;
-      inside = λ q i. elim (in_either q ps side i) [
-        | inl h ↦ g.inside q h
-        | inr h ↦ side_inside t n s p at q h
-      ];
-      ands = λ q a b i e. elim (in_either q ps side i) [
-        | inl h ↦
-            let k = g.ands q a b h e in
-            (in_front (signed q.negated (q.position + 1)) ps side k.0, in_front (signed q.negated (q.position + 1 + size_of a)) ps side k.1)
-        | inr h ↦
-            let k = signed_ands t n s p at q a b h e in
-            (in_back (signed q.negated (q.position + 1)) ps side k.0, in_back (signed q.negated (q.position + 1 + size_of a)) ps side k.1)
+      placed = λ q i. elim (in_either q ps side i) [
+        | inl h ↦ (let there = g.placed q h in (there.0, there.1, more_parts ps side q there.0 there.2))
+        | inr h ↦ side_placed t n s p (ps ++ side) at (λ r k. in_back r ps side k) q h
       ];
     }
 

@@ -53,7 +53,5 @@ in_rows nodes (either a b) f r (inr i) =
 pub rows_known : (nodes : List Node) (t : Tree Node) (rows : List (Row Node)) → rows ≡ rows_of t → nodes ≡ numbered t
     → (p : ℕ) (r : Row Node) → slice_get rows p ≡ Some r → IsRowKnown nodes r
 rows_known nodes t rows e n p r at =
-    let P : List Node → Type 0 = λ ns. IsRowKnown ns r in
-    let here : Contains (rows_of t) r = (let Q : List (Row Node) → Type 0 = λ rs. Contains rs r in
-    subst Q e (p, slice_get_within rows p r at, get_or_from_slice_get rows p r r at)) in
-    subst P (sym n) (in_rows (numbered t) t (λ a i. numbered_has t a (contains_from_in a (nodes_of_tree t) i)) r (in_from_contains r (rows_of t) here))
+    let here : Contains (rows_of t) r = rw (← e) (p, slice_get_within rows p r at, get_or_from_slice_get rows p r r at) in
+    rw n (in_rows (numbered t) t (λ a i. numbered_has t a (contains_from_in a (nodes_of_tree t) i)) r (in_from_contains r (rows_of t) here))

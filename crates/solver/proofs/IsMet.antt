@@ -3,7 +3,7 @@ use Rattle.std.{proofs.Common.{◌≡◌, inl, inr, ℕ, ◌+◌, false, List, S
 use Rattle.pc_common.proofs.Elements.{In, in_from_contains, contains_from_in, in_flat}
 use Rattle.pc_ground.specs.{declared.literal.Literal.{Literal}, Tree.{Tree, always, never, leaf, both, either, size_of}, Literals.{AreMet}}
 use Rattle.pc_ground.{specs.Refutes.{Branch, Signed, signed, subtree_at, part_at, literal_of, literals_of}, proofs.FlatRows.{children_both, children_either}}
-use Rattle.solver.{specs.{Met.{IsMet}, Places.{AreChosen}}, proofs.IsGrown.{IsGrown}}
+use Rattle.solver.{specs.{Met.{IsMet}, Places.{AreChosen}}, proofs.IsGrown.{IsGrown, both_parts}}
 
 -- no False stands in the tree
 abbrev pub NoFalse : {N : Type 0} → Tree N → Type 0
@@ -20,7 +20,7 @@ met_at t ps grown met chosen none always p i e = tt
 met_at t ps grown met chosen none never p i e = none p e
 met_at t ps grown met chosen none (leaf l) p i e = met l (literal_on t ps (signed false p) l i e)
 met_at t ps grown met chosen none (both a b) p i e =
-    let on = grown.ands (signed false p) a b i e in
+    let on = both_parts t ps (signed false p) a b grown i e in
     let children = children_both t p a b e in (
       met_at t ps grown met chosen none a (p + 1) on.0 children.0,
       met_at t ps grown met chosen none b (p + 1 + size_of a) on.1 children.1,
@@ -34,8 +34,3 @@ met_at t ps grown met chosen none (either a b) p i e =
         | inr right ↦ inr (met_at t ps grown met chosen none b (p + 1 + size_of a) (in_from_contains (signed false (p + 1 + size_of a)) ps right) children.1)
       ]
     ]
-
--- the whole tree
-pub met_whole : {N : Type 0} (t : Tree N) (ps : Branch) → IsGrown t ps → AreMet (literals_of t ps) → AreChosen t ps → NoFalse t
-    → IsMet (literals_of t ps) t
-met_whole t ps grown met chosen none = met_at t ps grown met chosen none t 0 grown.root refl

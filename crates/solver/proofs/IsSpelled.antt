@@ -1,18 +1,16 @@
 -- The rows of a tree spell it, and turned they spell the turned tree.
 use Rattle.std.proofs.{Common.{◌≡◌, ℕ, Bool, List, [], ◌∷◌, ◌++◌, Some, refl, sym, ap, ◌∙◌, append_assoc}, lemmas.List.{append-nil}}
 use Rattle.std.specs.{Prelude.{slice_get}, Option.{option_map}}
-use Rattle.pc_ground.specs.{declared.row.{Row.{Row}, RowKind.TheVariants.{And, Or}}, Tree.{Tree, always, never, leaf, both, either, turned}}
+use Rattle.pc_ground.specs.{declared.row.{Row.{Row}, RowKind.TheVariants.{And, Or}}, Tree.{Tree, both, either, turned}}
 use Rattle.pc_ground.{specs.Rows.{rows_of, turned_row, turned_rows}, proofs.Turned.{rows_turned, row_turned}}
 use Rattle.solver.specs.Spelled.{before, trees, first_tree, spelled, IsSpelled}
 
 trees_rows : {N : Type 0} (t : Tree N) (rest : List (Row N)) → trees (rows_of t ++ rest) ≡ t ∷ trees rest
-trees_rows always rest = refl
-trees_rows never rest = refl
-trees_rows (leaf l) rest = refl
 trees_rows (both a b) rest =
     ap (before And) (ap trees (append_assoc (rows_of a) (rows_of b) rest) ∙ trees_rows a (rows_of b ++ rest) ∙ ap (λ ts. a ∷ ts) (trees_rows b rest))
 trees_rows (either a b) rest =
     ap (before Or) (ap trees (append_assoc (rows_of a) (rows_of b) rest) ∙ trees_rows a (rows_of b ++ rest) ∙ ap (λ ts. a ∷ ts) (trees_rows b rest))
+trees_rows t rest = refl
 
 pub spelled_rows : {N : Type 0} (t : Tree N) → spelled (rows_of t) ≡ t
 unfolding spelled

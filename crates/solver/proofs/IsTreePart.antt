@@ -1,9 +1,9 @@
 -- The rows of a subtree, by themselves.
 use Rattle.std.proofs.Common.{◌≡◌, ◌≤◌, ◌<◌, ℕ, ◌+◌, ◌-◌, Bool, List, Some, take, drop, length, sym, ap, ◌∙◌, subst, arith}
-use Rattle.std.{proofs.{lemmas.List.Elements.{All-take, All-drop}, Math.Seq.{take-append_seam}}, specs.Prelude.{slice_get, slice_range, All, IsTrue, ◌↔◌}}
+use Rattle.std.{proofs.Math.Seq.{take-append_seam}, specs.Prelude.{slice_get, slice_range, IsTrue, ◌↔◌}}
 use Rattle.pc_ground.specs.{declared.{literal.Literal.{Literal}, row.Row.{Row}}, Tree.{Tree, size_of}, Rows.{rows_of}, Refutes.{subtree_at}}
 use Rattle.pc_ground.proofs.{FlatRows.{IsPart, subtree_part, subtree_size, length_rows}, StageWalks.{some_same}}
-use Rattle.solver.{specs.{Spelled.{spelled, IsSpelled}, Below.{IsRowBelow}, Met.{IsMet}, Flags.{IsTreePart}}, proofs.IsSpelled.{spelled_is, is_spelled}}
+use Rattle.solver.{specs.{Spelled.{spelled, IsSpelled}, Met.{IsMet}, Flags.{IsTreePart}}, proofs.IsSpelled.{spelled_is}}
 use Rattle.solver.proofs.HasAsserted.{row_root, length_spelled}
 
 pub tree_part : (rows : List (Row ℕ)) (p end : ℕ) (r : Row ℕ) → IsSpelled rows → p < length rows → slice_get rows p ≡ Some r → end ≡ p + r.skip
@@ -22,16 +22,9 @@ tree_part rows p end r flat inside at e =
     ∙ take-append_seam (rows_of s) part.0 in
     ((s, there.1, same), omega (arith, e, skip, size, len))
 
-pub part_spelled : (t : Tree ℕ) (p : ℕ) (part : List (Row ℕ)) → IsTreePart t p part → IsSpelled part
-part_spelled t p part (s, at, e) = is_spelled part s e
-
-pub part_below : (n : ℕ) (rows : List (Row ℕ)) (a b : ℕ) → All (IsRowBelow n) rows → All (IsRowBelow n) (slice_range rows a b)
-part_below n rows a b all = All-take (IsRowBelow n) (b - a) (drop a rows) (All-drop (IsRowBelow n) a rows all)
-
 -- what is so of the part by itself is so of the subtree there
 pub part_met : (t : Tree ℕ) (p : ℕ) (part : List (Row ℕ)) (ls : List (Literal ℕ)) (b : Bool) (s : Tree ℕ) → IsTreePart t p part → subtree_at t p ≡ Some s
     → IsTrue b ↔ IsMet ls (spelled part) → IsTrue b ↔ IsMet ls s
 part_met t p part ls b s (x, at, e) there told =
     let same : spelled part ≡ s = spelled_is part x e ∙ some_same (sym at ∙ there) in
-    let P : Tree ℕ → Type 0 = λ y. IsTrue b ↔ IsMet ls y in
-    subst P same told
+    rw same at told

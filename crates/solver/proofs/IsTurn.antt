@@ -4,44 +4,41 @@ use Rattle.std.proofs.lemmas.{List.{append-nil, Elements.{All-contains}}, Option
 use Rattle.std.specs.{Prelude.{Contains, All, slice_get, nat_lt}, Option.{option_map}}
 use Rattle.pc_common.{specs.{World.{Node}, Steps.{Step, close, false_step}}, proofs.Elements.{In, contains_from_in, in_front, in_back}}
 use Rattle.pc_common.proofs.Bools.{true_or_false}
-use Rattle.pc_ground.specs.declared.{literal.Literal.{Literal}, row.{Row.{Row}, RowKind.TheVariants.{False}}, version.Version.{Version}}
+use Rattle.pc_ground.specs.declared.{row.{Row.{Row}, RowKind.TheVariants.{False}}, version.Version.{Version}}
 use Rattle.pc_ground.specs.{Rows.{rows_of, root_kind}, Tree.{Tree, always, never, leaf, both, either, turned, size_of}, Literals.{IsConsistent}}
-use Rattle.pc_ground.specs.Refutes.{Branch, signed, all_signed, subtree_at, part_at, literals_of, a_falsity, IsPartial, IsRefutation}
+use Rattle.pc_ground.specs.Refutes.{Branch, Signed, signed, all_signed, subtree_at, part_at, literals_of, a_falsity, IsPartial, IsRefutation}
 use Rattle.pc_ground.{specs.Folded.{HasNoConstant, IsFolded}, proofs.{FlatRows.{subtree_size, size_pos}, Turned.{size_turned}}}
-use Rattle.pc_ground.proofs.StageWalks.{some_same}
 use Rattle.graph_text.specs.{Graphs.{graph_nodes, graph_edges}, declared.graph.Graph.{Graph as PlainGraph}}
-use Rattle.order_graph.{specs.{State.{IsGraph}, Ways.{IsBelow}}, proofs.GeneratesWorld.{consistent_generate}}
+use Rattle.order_graph.{specs.State.{IsGraph}, proofs.GeneratesWorld.{consistent_generate}}
 use Rattle.solver.specs.{Spelled.{spelled, IsSpelled}, Numbered.{Numbered, IsNumbered, HasNoFalse}, Renamed.{tree_over, rows_over, node_at, renamed_tree}}
-use Rattle.solver.specs.{Below.{IsRowBelow}, Met.{IsMet, IsMetUnder}, Places.{place_signed, IsCandidate, AreChosen, root_side, side_positions}}
-use Rattle.solver.specs.{Opens.{positions, waiting, opens, KeepsState, state_of}, Shown.{ArePresent, AreEdges}, Answers.{IsWitness, IsAnswer}}
-use Rattle.solver.specs.{Turns.{IsTurnOfRows, IsTurnOfTree}, declared.{search.Turn.{Turn, TheVariants.{More, Done}}, search.branch.Branch.{Branch as OpenBranch}}}
-use Rattle.solver.specs.{declared.{tree.place.Place.{Place}, search.later.Later.{Later}}, Branches.{branches_of, HasOpenBranch, IsBlank}}
-use Rattle.solver.{specs.Searched.{HasUnmetBranch, HasCandidate}, proofs.RenamedTree.{part_renamed, size_renamed, asserted_renamed, tree_of_names}}
-use Rattle.solver.proofs.{IsSpelled.{spelled_is, is_spelled}, IsGrown.{IsGrown, grown_first}, IsChosen.{plain_part}, IsMet.{met_whole}, ShownWorld.{Shows, AreBelow, shown_world}}
-use Rattle.solver.proofs.{IsKnown.{number_named}, HasAsserted.{length_spelled, row_root}}
+use Rattle.solver.specs.{Below.{IsRowBelow}, Met.{IsMet}, Places.{place_signed, IsCandidate, AreChosen, root_side, side_positions}}
+use Rattle.solver.specs.{Opens.{positions, waiting}, Shown.{ArePresent, AreEdges}, Answers.{IsWitness}}
+use Rattle.solver.specs.declared.search.branch.Branch.{Branch as OpenBranch}
+use Rattle.solver.specs.{declared.tree.place.Place.{Place}, Branches.{branches_of, HasOpenBranch, IsBlank}}
+use Rattle.solver.{specs.Searched.{Searched, HasUnmetBranch, HasCandidate}, proofs.RenamedTree.{part_renamed, size_renamed, asserted_renamed, tree_of_names}}
+use Rattle.solver.proofs.{IsSpelled.{spelled_is, is_spelled}, IsGrown.{IsGrown, HasParts, grown_first}, IsChosen.{plain_part}, IsMet.{met_at}, ShownWorld.{Shows, AreBelow, shown_world}}
+use Rattle.solver.proofs.{IsKnown.{number_named}, HasAsserted.{length_spelled}, AreTruths.{kind_at}}
 
 option_back : {X Y : Type 0} (g : X → Y) (o : Option X) (y : Y) → option_map g o ≡ Some y → (x : X) × (o ≡ Some x) × (g x ≡ y)
 option_back g None y e = cc
 option_back g (Some x) y e = (x, refl, (let same : g x ≡ y = cc in same))
 
+parts_back : {M N : Type 0} (f : M → N) (ps : Branch) (q : Signed) (s : Tree M) → HasParts ps q (renamed_tree f s) → HasParts ps q s
+parts_back f ps q (both a b) h = (let P : ℕ → Type 0 = λ n. In (signed q.negated (q.position + 1 + n)) ps in (h.0, subst P (size_renamed f a) h.1))
+parts_back f ps q s h = tt
+
 grown_back : {M N : Type 0} (f : M → N) (t : Tree M) (ps : Branch) → IsGrown (renamed_tree f t) ps → IsGrown t ps
 grown_back f t ps g = record {
   root = g.root;
-  inside = λ q i.
-      let there = g.inside q i in
+  placed = λ q i.
+      let there = g.placed q i in
       let back = option_back (renamed_tree f) (part_at t q) there.0 (sym (part_renamed f t q) ∙ there.1) in
-      (back.0, back.1);
-  ands = λ q a b i e.
-      let k = g.ands q (renamed_tree f a) (renamed_tree f b) i (part_renamed f t q ∙ ap (option_map (renamed_tree f)) e) in
-      let P : ℕ → Type 0 = λ n. In (signed q.negated (q.position + 1 + n)) ps in
-      (k.0, subst P (size_renamed f a) k.1);
+      (back.0, back.1, parts_back f ps q back.0 (rw back.2 there.2));
 }
 
 kept_run : (v : Version) (t : Numbered) (b : OpenBranch) → HasOpenBranch v t b []
     → IsPartial v (tree_over t.nodes (spelled t.rows)) b.refutation (branches_of t b)
-kept_run v t b kept =
-    let P : Branch → Type 0 = λ ps. IsPartial v (tree_over t.nodes (spelled t.rows)) b.refutation (opens (spelled t.rows) ps b.asserted b.later.items) in
-    subst P (append-nil (positions b.asserted)) kept.partial
+kept_run v t b kept = rw (append-nil (positions b.asserted)) at kept.partial
 
 kept_grown : (v : Version) (t : Numbered) (b : OpenBranch) → HasOpenBranch v t b [] → IsGrown (spelled t.rows) (positions b.asserted)
 kept_grown v t b kept =
@@ -55,25 +52,20 @@ kept_met : (v : Version) (t : Numbered) (b : OpenBranch) → HasOpenBranch v t b
 kept_met v t b kept consistent chosen none =
     let s = spelled t.rows in
     let ps = positions b.asserted in
-    let P : List (Literal ℕ) → Type 0 = IsConsistent in
-    let Q : List (Literal ℕ) → Type 0 = λ xs. IsMet xs s in
-    subst Q (sym kept.literals) (met_whole s ps (kept_grown v t b kept)
-    (consistent_generate (literals_of s ps) (subst P kept.literals consistent)).met chosen none)
+    let grown = kept_grown v t b kept in
+    rw kept.literals (met_at s ps grown (consistent_generate (literals_of s ps) (rw kept.literals at consistent)).met chosen none s 0 grown.root refl)
 
 rows_below : (n : ℕ) (t : Tree ℕ) → ((r : Row ℕ) → In r (rows_of t) → IsRowBelow n r) → AreBelow n t
-rows_below n always f = tt
-rows_below n never f = tt
 rows_below n (leaf l) f = f _ (inl refl)
 rows_below n (both a b) f =
     (rows_below n a (λ r i. f r (inr (in_front r (rows_of a) (rows_of b) i))), rows_below n b (λ r i. f r (inr (in_back r (rows_of a) (rows_of b) i))))
 rows_below n (either a b) f =
     (rows_below n a (λ r i. f r (inr (in_front r (rows_of a) (rows_of b) i))), rows_below n b (λ r i. f r (inr (in_back r (rows_of a) (rows_of b) i))))
+rows_below n t f = tt
 
 tree_below : (n : ℕ) (rows : List (Row ℕ)) → IsSpelled rows → All (IsRowBelow n) rows → AreBelow n (spelled rows)
 tree_below n rows flat all =
-    let P : List (Row ℕ) → Type 0 = All (IsRowBelow n) in
-    let whole = subst P flat all in
-    rows_below n (spelled rows) (λ r i. All-contains (IsRowBelow n) (rows_of (spelled rows)) r whole (contains_from_in r (rows_of (spelled rows)) i))
+    rows_below n (spelled rows) (λ r i. All-contains (IsRowBelow n) (rows_of (spelled rows)) r (rw flat at all) (contains_from_in r (rows_of (spelled rows)) i))
 
 named_in : (nodes : List Node) (k : ℕ) (a : Node) → k < length nodes → node_at nodes k ≡ a → Contains nodes a
 named_in nodes k a inside e =
@@ -89,9 +81,8 @@ pub witness : (v : Version) (t : Numbered) (b : OpenBranch) (shown : PlainGraph)
 witness v t b shown numbered none kept graph chosen present edges =
     let nodes = t.nodes in
     let ls = b.graph.literals in
-    let B : ℕ → Type 0 = λ m. All (IsBelow m) ls in
     let shows : Shows nodes ls (graph_nodes shown) (graph_edges shown) =
-    record { distinct = numbered.distinct; below = subst B kept.all_nodes graph.below; consistent = graph.consistent; present = present; edges = edges } in
+    record { distinct = numbered.distinct; below = rw kept.all_nodes at graph.below; consistent = graph.consistent; present = present; edges = edges } in
     let met = kept_met v t b kept graph.consistent chosen none in
     let below = tree_below (length nodes) t.rows numbered.tree numbered.below in
     let made = shown_world nodes ls (graph_nodes shown) (graph_edges shown) (spelled t.rows) shows below met in record {
@@ -104,15 +95,16 @@ witness v t b shown numbered none kept graph chosen present edges =
     }
 
 -- what the type of a search keeps, as its clauses say it
-pub searching : (v : Version) (tree : Numbered) (b : OpenBranch) (first : Place) → HasCandidate v tree b first
-    → HasUnmetBranch (record { version = v; nodes = tree.nodes; rows = tree.rows; graph = b.graph; steps = b.refutation; branches = branches_of tree b })
-searching v tree b first s =
+pub searching : (v : Version) (tree : Numbered) (b : OpenBranch) (first : Place) (s : Searched) → HasCandidate v tree b first
+    → record { version = v; nodes = tree.nodes; rows = tree.rows; graph = b.graph; steps = b.refutation; branches = branches_of tree b } ≡ s
+    → HasUnmetBranch s
+searching v tree b first searched s is =
     let here = b.asserted in
     let t = spelled tree.rows in
     let q = place_signed first in
     let candidate = s.candidate in
     let part = turned q.negated (either candidate.left candidate.right) in
-    let P : List (Literal ℕ) → Type 0 = λ xs. IsMetUnder q.negated xs part in record {
+    rw (← is) (record {
       first = positions here;
       others = waiting t (positions here) (reverse b.later.items);
       branches = refl;
@@ -123,8 +115,8 @@ searching v tree b first s =
       part = part;
       on_branch = candidate.on_branch;
       at_place = plain_part t q.negated q.position (either candidate.left candidate.right) candidate.is_or;
-      not_met = λ h. candidate.is_false (subst P s.state.literals h);
-    }
+      not_met = λ h. candidate.is_false (rw s.state.literals at h);
+    })
 
 pub candidate_small : (rows : List (Row ℕ)) (ps : Branch) (q : Place) → IsSpelled rows → length rows < 2 ^ 63
     → IsCandidate (spelled rows) ps (place_signed q) → q.position < 2 ^ 63
@@ -142,79 +134,58 @@ names_tree nodes rows t e =
 some_false : {N : Type 0} (s : Tree N) → HasNoConstant s → (p : ℕ) → subtree_at s p ≡ Some never → ⊥
 some_false always h p e = h
 some_false never h p e = h
-some_false (leaf l) h zero e = cc
-some_false (leaf l) h (suc p) e = cc
-some_false (both a b) h zero e = cc
 some_false (both a b) h (suc p) e =
     elim (true_or_false (nat_lt p (size_of a))) [
       | inl l ↦ some_false a h.0 p (rw l at e)
       | inr r ↦ some_false b h.1 (p - size_of a) (rw r at e)
     ]
-some_false (either a b) h zero e = cc
 some_false (either a b) h (suc p) e =
     elim (true_or_false (nat_lt p (size_of a))) [
       | inl l ↦ some_false a h.0 p (rw l at e)
       | inr r ↦ some_false b h.1 (p - size_of a) (rw r at e)
     ]
+some_false s h zero e = cc
+some_false s h (suc p) e = cc
 
 pub no_false : {N : Type 0} (t : Tree N) → IsFolded t → (t ≡ never → ⊥) → (p : ℕ) → subtree_at t p ≡ Some never → ⊥
-no_false always h other zero e = cc
-no_false always h other (suc p) e = cc
 no_false never h other p e = other refl
-no_false (leaf l) h other zero e = cc
-no_false (leaf l) h other (suc p) e = cc
 no_false (both a b) h other p e = some_false (both a b) h p e
 no_false (either a b) h other p e = some_false (either a b) h p e
+no_false t h other zero e = cc
+no_false t h other (suc p) e = cc
 
 folded_back : {M N : Type 0} (f : M → N) (t : Tree M) → HasNoConstant (renamed_tree f t) → HasNoConstant t
-folded_back f always h = h
-folded_back f never h = h
-folded_back f (leaf l) h = tt
 folded_back f (both a b) h = (folded_back f a h.0, folded_back f b h.1)
 folded_back f (either a b) h = (folded_back f a h.0, folded_back f b h.1)
+folded_back f t h = h
 
 pub folded_numbers : {M N : Type 0} (f : M → N) (t : Tree M) → IsFolded (renamed_tree f t) → IsFolded t
-folded_numbers f always h = tt
-folded_numbers f never h = tt
-folded_numbers f (leaf l) h = tt
 folded_numbers f (both a b) h = folded_back f (both a b) h
 folded_numbers f (either a b) h = folded_back f (either a b) h
+folded_numbers f t h = tt
 
 never_of : {N : Type 0} (s : Tree N) → root_kind s ≡ False → s ≡ never
-never_of always e = cc
 never_of never e = refl
-never_of (leaf l) e = cc
-never_of (both a b) e = cc
-never_of (either a b) e = cc
+never_of s e = cc
 
 -- the first row is False, where the whole tree is
 pub whole_false : (rows : List (Row ℕ)) (r : Row ℕ) → IsSpelled rows → slice_get rows 0 ≡ Some r → r.kind ≡ False → spelled rows ≡ never
-whole_false rows r flat at kind =
-    let there = row_root rows (spelled rows) 0 r flat (size_pos (spelled rows)) at in
-    let same : spelled rows ≡ there.0 = some_same there.1 in
-    same ∙ never_of there.0 (sym (ap (λ (x : Row ℕ). x.kind) there.2) ∙ kind)
+whole_false rows r flat at kind = never_of (spelled rows) (kind_at rows 0 r (spelled rows) flat at refl ∙ kind)
 
 pub not_false : (rows : List (Row ℕ)) (r : Row ℕ) → IsSpelled rows → slice_get rows 0 ≡ Some r → (r.kind ≡ False → ⊥) → spelled rows ≡ never → ⊥
-not_false rows r flat at other e =
-    let there = row_root rows (spelled rows) 0 r flat (size_pos (spelled rows)) at in
-    let same : there.0 ≡ never = sym (some_same there.1) ∙ e in
-    other (ap (λ (x : Row ℕ). x.kind) there.2 ∙ ap root_kind same)
+not_false rows r flat at other e = other (sym (kind_at rows 0 r (spelled rows) flat at refl) ∙ ap root_kind e)
 
 -- what is kept before the root is entered
 pub first_kept : (v : Version) (t : Numbered) (b : OpenBranch) → IsBlank t b → HasOpenBranch v t b (side_positions (spelled t.rows) root_side)
 first_kept v t b blank =
     let s = spelled t.rows in
-    let A : List Place → List Later → List (Step Node) → Type 0 =
-    λ as' ls' ss'. KeepsState v (state_of t.nodes s b.graph as' ls' ss') (side_positions s root_side) in
-    let first : A [] [] [] = record {
+    rw (blank.steps, blank.later, blank.asserted) (record {
       literals = blank.literals;
       all_nodes = blank.nodes;
       marks = omega (arith, ap length blank.marks);
       waits = tt;
       partial = ap (λ ps. all_signed false ps ∷ []) (asserted_renamed (node_at t.nodes) s 0);
-    } in
-    subst (λ x. A b.asserted b.later.items x) (sym blank.steps)
-    (subst (λ x. A b.asserted x []) (sym blank.later) (subst (λ x. A x [] []) (sym blank.asserted) first))
+    })
 
 -- the refutation of False
 pub false_refuted : (v : Version) (nodes : List Node) (t : Tree ℕ) (ss : List (Step Node)) → t ≡ never → ss ≡ close false_step ∷ []
@@ -222,16 +193,4 @@ pub false_refuted : (v : Version) (nodes : List Node) (t : Tree ℕ) (ss : List 
 false_refuted v nodes t ss e f =
     let T = tree_over nodes t in
     let is_never : T ≡ never = ap (tree_over nodes) e in
-    let run : IsPartial v T (close false_step ∷ []) [] = (a_falsity is_never, refl) in
-    let P : List (Step Node) → Type 0 = IsRefutation v T in
-    subst P (sym f) run
-
-pub turn_of : (v : Version) (had nodes : List Node) (rows : List (Row ℕ)) (t : Tree Node) (turn : Turn) → had ≡ nodes
-    → tree_over had (spelled rows) ≡ t → IsTurnOfRows v had rows turn
-    → IsTurnOfTree v nodes t turn
-turn_of v had nodes rows t (More s) e f h =
-    (h.0, h.1 ∙ e, ap (λ ns. tree_over ns (spelled s.rows)) h.1 ∙ ap (λ rs. tree_over had (spelled rs)) h.2 ∙ f, h.3)
-turn_of v had nodes rows t (Done a) e f h =
-    let P : List Node → Type 0 = λ ns. IsAnswer v ns (tree_over had (spelled rows)) a in
-    let Q : Tree Node → Type 0 = λ x. IsAnswer v nodes x a in
-    subst Q f (subst P e h)
+    rw f (a_falsity is_never, refl)

@@ -1,16 +1,16 @@
 -- What a search keeps: after a split, after a side is entered, and after a side's clash.
-use Rattle.std.proofs.Common.{◌≡◌, ◌≤◌, ℕ, ◌+◌, Bool, not, List, [], ◌∷◌, ◌++◌, Option, Some, take, drop, reverse, length, refl, sym, ap, ◌∙◌, subst, arith, append_assoc, length-append}
+use Rattle.std.proofs.Common.{◌≡◌, ◌≤◌, ℕ, ◌+◌, Bool, not, List, [], ◌∷◌, ◌++◌, Option, Some, take, drop, reverse, length, refl, sym, ap, ◌∙◌, arith, append_assoc, length-append}
 use Rattle.std.proofs.lemmas.List.{append-nil, take_all, take-take, take-append-le, take-append-drop, length-map, length-take, get_or_append_left, reverse-append}
 use Rattle.std.proofs.Math.Seq.{take-length, take-append_seam, get_or-append_seam}
 use Rattle.std.specs.{Prelude.{slice_index, Contains}, Option.{option_map}, List.{take-map}}
 use Rattle.pc_common.specs.{World.{Node}, Steps.{Leaf, Step, split, close}}
 use Rattle.pc_ground.specs.{Tree.{Tree, either, negation, turned, size_of}, declared.version.Version.{Version, TheVariants.{One, Two}}}
-use Rattle.pc_ground.specs.Refutes.{Branch, Signed, signed, all_signed, subtree_at, part_at, asserted, literals_of, Closes, left_branch, right_branch, IsPartial}
+use Rattle.pc_ground.specs.Refutes.{Branch, signed, all_signed, subtree_at, asserted, literals_of, Closes, left_branch, right_branch, IsPartial}
 use Rattle.pc_ground.proofs.{Turned.{subtree_denied, size_turned}, FlatRows.{children_either, subtree_size, size_pos}}
 use Rattle.order_graph.specs.State.{Graph, IsCut}
 use Rattle.solver.specs.{Renamed.{tree_over, renamed_tree, node_at}, Places.{place_signed, asserted_at, side_positions, left_side, right_side, IsSideIn}}
 use Rattle.solver.specs.{Opens.{positions, waiting, IsLater, AreLater, opens, KeepsState, state_of, IsFurther}, declared.tree.place.Place.{Place}}
-use Rattle.solver.{specs.declared.{search.later.Later.{Later}, tree.side.Side.{Side}}, proofs.Runs.{runs_split, runs_close}}
+use Rattle.solver.{specs.declared.search.later.Later.{Later}, proofs.Runs.{runs_split, runs_close}}
 use Rattle.solver.proofs.{RenamedTree.{part_renamed, negation_renamed, asserted_renamed, size_renamed}, HasAsserted.{asserted_is, literals_more}}
 use Rattle.solver.proofs.AreTruths.{denied_in}
 
@@ -22,37 +22,27 @@ waiting_more t ps qs marks (l ∷ ls) h = rw (take-append-le l.count ps qs h.0.c
 pub later_more : (t : Tree ℕ) (ps qs : Branch) (marks : List ℕ) (ls : List Later) → AreLater t ps marks ls → AreLater t (ps ++ qs) marks ls
 later_more t ps qs marks [] h = tt
 later_more t ps qs marks (l ∷ ls) h =
-    let same = take-append-le l.count ps qs h.0.count in
-    let P : Branch → Type 0 = λ rs. slice_index marks l.mark ≡ length (literals_of t rs) in
-    let Q : Branch → Type 0 = λ rs. AreLater t rs (take (l.mark + 1) marks) ls in (
-      record { count = omega (arith, h.0.count, length-append ps qs); live = h.0.live; literals = subst P (sym same) h.0.literals; side = h.0.side },
-      subst Q (sym same) h.1,
+    let same = take-append-le l.count ps qs h.0.count in (
+      record { count = omega (arith, h.0.count, length-append ps qs); live = h.0.live; literals = rw same h.0.literals; side = h.0.side },
+      rw same h.1,
     )
 
 marks_more : (t : Tree ℕ) (ps : Branch) (marks more : List ℕ) (ls : List Later) → AreLater t ps marks ls → AreLater t ps (marks ++ more) ls
 marks_more t ps marks more [] h = tt
 marks_more t ps marks more (l ∷ ls) h =
     let same : take (l.mark + 1) (marks ++ more) ≡ take (l.mark + 1) marks =
-    take-append-le (l.mark + 1) marks more (omega (arith, h.0.live)) in
-    let Q : List ℕ → Type 0 = λ ms. AreLater t (take l.count ps) ms ls in (
+    take-append-le (l.mark + 1) marks more (omega (arith, h.0.live)) in (
       record {
         count = h.0.count;
         live = omega (arith, h.0.live, length-append marks more);
         literals = get_or_append_left marks more 0 l.mark h.0.live ∙ h.0.literals;
         side = h.0.side;
       },
-      subst Q (sym same) h.1,
+      rw same h.1,
     )
 
-pub part_over : (nodes : List Node) (t : Tree ℕ) (q : Signed) (s : Tree ℕ) → part_at t q ≡ Some s → part_at (tree_over nodes t) q ≡ Some (tree_over nodes s)
-part_over nodes t q s e = part_renamed (node_at nodes) t q ∙ ap (λ (o : Option (Tree ℕ)). option_map (renamed_tree (node_at nodes)) o) e
-
--- what the branches of a split assert, over numbers
-pub left_is : (t : Tree ℕ) (ps : Branch) (n : Bool) (p : ℕ) (a : Tree ℕ) → subtree_at (turned n t) (p + 1) ≡ Some a
-    → ps ++ side_positions t (left_side (signed n p)) ≡ left_branch ps n p a
-left_is t ps n p a at = ap (λ qs. ps ++ qs) (asserted_is t n (p + 1) a at)
-
-pub right_is : (v : Version) (t : Tree ℕ) (ps : Branch) (n : Bool) (p : ℕ) (a b : Tree ℕ)
+-- what the right branch of a split asserts, over numbers
+right_is : (v : Version) (t : Tree ℕ) (ps : Branch) (n : Bool) (p : ℕ) (a b : Tree ℕ)
     → subtree_at (turned n t) (p + 1) ≡ Some a → subtree_at (turned n t) (p + 1 + size_of a) ≡ Some b
     → ps ++ side_positions t (right_side v (signed n p) (size_of a)) ≡ right_branch v ps n p a b
 right_is One t ps n p a b left right = ap (λ qs. ps ++ qs) (asserted_is t n (p + 1 + size_of a) b right)
@@ -62,11 +52,24 @@ right_is Two t ps n p a b left right =
     ∙ ap (λ qs. ps ++ (qs ++ own)) (asserted_is t (not n) (p + 1) (negation a) (subtree_denied t n (p + 1) a left))
     ∙ sym (append_assoc ps (all_signed (not n) (asserted (negation a) (p + 1))) own)
 
--- and over nodes
-pub left_over : (nodes : List Node) (ps : Branch) (n : Bool) (p : ℕ) (a : Tree ℕ) → left_branch ps n p (tree_over nodes a) ≡ left_branch ps n p a
-left_over nodes ps n p a = ap (λ qs. ps ++ all_signed n qs) (asserted_renamed (node_at nodes) a (p + 1))
+-- the branches once the Or is split
+pub opens_split : (v : Version) (t : Tree ℕ) (aps : List Place) (ls ms : List Later) (l : Later) (n : Bool) (p : ℕ) (a b : Tree ℕ)
+    → subtree_at (turned n t) p ≡ Some (either a b) → l.count ≡ length aps → l.side ≡ right_side v (signed n p) (size_of a) → ms ≡ ls ++ l ∷ []
+    → opens t (positions aps ++ side_positions t (left_side (signed n p))) aps ms
+    ≡ left_branch (positions aps) n p a ∷ right_branch v (positions aps) n p a b ∷ waiting t (positions aps) (reverse ls)
+opens_split v t aps ls ms l n p a b at count side pushed =
+    let ps = positions aps in
+    let children = children_either (turned n t) p a b at in
+    let whole : take l.count ps ≡ ps = ap (λ k. take k ps) (count ∙ sym (length-map aps place_signed)) ∙ take-length ps in
+    let right : ps ++ side_positions t l.side ≡ right_branch v ps n p a b =
+    ap (λ z. ps ++ side_positions t z) side ∙ right_is v t ps n p a b children.0 children.1 in
+    ap (λ w. (ps ++ side_positions t (left_side (signed n p))) ∷ waiting t ps w) (ap reverse pushed ∙ reverse-append ls (l ∷ []))
+    ∙ ap (λ qs. (ps ++ qs) ∷ waiting t ps (l ∷ reverse ls)) (asserted_is t n (p + 1) a children.0)
+    ∙ ap (λ rs. left_branch ps n p a ∷ (rs ++ side_positions t l.side) ∷ waiting t rs (reverse ls)) whole
+    ∙ ap (λ r. left_branch ps n p a ∷ r ∷ waiting t ps (reverse ls)) right
 
-pub right_over : (nodes : List Node) (v : Version) (ps : Branch) (n : Bool) (p : ℕ) (a b : Tree ℕ)
+-- and over nodes
+right_over : (nodes : List Node) (v : Version) (ps : Branch) (n : Bool) (p : ℕ) (a b : Tree ℕ)
     → right_branch v ps n p (tree_over nodes a) (tree_over nodes b) ≡ right_branch v ps n p a b
 right_over nodes One ps n p a b =
     let y = tree_over nodes b in
@@ -100,9 +103,6 @@ split_kept v nodes t g h aps ls ms ss us l n p a b kept on at same_literals same
     let all_marks : take (l.mark + 1) h.marks ≡ g.marks ++ length g.literals ∷ [] =
     ap (λ k. take (k + 1) h.marks) mark ∙ ap (take (length g.marks + 1)) marks
     ∙ take_all _ (g.marks ++ length g.literals ∷ []) (omega (arith, length-append g.marks (length g.literals ∷ []))) in
-    let M : List ℕ → Type 0 = λ xs. AreLater t ps xs (reverse ls) in
-    let B : Branch → Type 0 = λ rs. AreLater t rs (take (l.mark + 1) h.marks) (reverse ls) in
-    let S : Side → Type 0 = IsSideIn t in
     let inside : IsSideIn t (right_side v (signed n p) (size_of a)) =
     (omega (arith, right_size, size_pos b, turned_size), denied_in v t (p + 1) (omega (arith, left_size, size_pos a, turned_size))) in
     let first : IsLater t ps h.marks l = record {
@@ -110,32 +110,23 @@ split_kept v nodes t g h aps ls ms ss us l n p a b kept on at same_literals same
       live = omega (arith, mark, ap length marks, length-append g.marks (length g.literals ∷ []));
       literals = ap (slice_index h.marks) mark ∙ ap (λ xs. slice_index xs (length g.marks)) marks ∙ get_or-append_seam g.marks (length g.literals) [] 0
           ∙ ap length kept.literals ∙ ap (λ rs. length (literals_of t rs)) (sym whole);
-      side = subst S (sym side) inside;
+      side = rw side inside;
     } in
-    let rest : B (take l.count ps) = subst B (sym whole) (subst M (sym all_marks) (marks_more t ps g.marks (length g.literals ∷ []) (reverse ls) kept.waits)) in
-    let W : List Later → Type 0 = AreLater t ps h.marks in
     let x = tree_over nodes a in
     let y = tree_over nodes b in
     let here = ps ++ side_positions t (left_side (signed n p)) in
-    let run : IsPartial v T ss (ps ∷ waiting t ps (reverse ls)) =
-    (let P : Branch → Type 0 = λ rs. IsPartial v T ss (rs ∷ waiting t ps (reverse ls)) in subst P (append-nil ps) kept.partial) in
-    let next = runs_split v T ss ps (waiting t ps (reverse ls)) n p x y run on (part_over nodes t (signed n p) (either a b) at) in
-    let left : left_branch ps n p x ≡ here = left_over nodes ps n p a ∙ sym (left_is t ps n p a children.0) in
-    let right : right_branch v ps n p x y ≡ take l.count ps ++ side_positions t l.side =
-    right_over nodes v ps n p a b ∙ sym (right_is v t ps n p a b children.0 children.1)
-    ∙ ap (λ z. ps ++ side_positions t z) (sym side) ∙ ap (λ rs. rs ++ side_positions t l.side) (sym whole) in
-    let behind : waiting t ps (reverse ls) ≡ waiting t (take l.count ps) (reverse ls) = ap (λ rs. waiting t rs (reverse ls)) (sym whole) in
-    let P : Branch → Branch → List Branch → Type 0 = λ u r w. IsPartial v T (ss ++ split n p ∷ []) (u ∷ r ∷ w) in
-    let moved : IsPartial v T (ss ++ split n p ∷ []) (here ∷ waiting t ps (l ∷ reverse ls)) =
-    subst (λ w. P here (take l.count ps ++ side_positions t l.side) w) behind
-    (subst (λ r. P here r (waiting t ps (reverse ls))) right
-    (subst (λ u. P u (right_branch v ps n p x y) (waiting t ps (reverse ls))) left next)) in
-    let Q : List (Step Node) → List Later → Type 0 = λ u w. IsPartial v T u (here ∷ waiting t ps w) in record {
+    let run = rw (append-nil ps) at kept.partial in
+    let over = part_renamed (node_at nodes) t (signed n p) ∙ ap (λ (o : Option (Tree ℕ)). option_map (renamed_tree (node_at nodes)) o) at in
+    let next = runs_split v T ss ps (waiting t ps (reverse ls)) n p x y run on over in
+    let split_over : left_branch ps n p x ∷ right_branch v ps n p x y ∷ waiting t ps (reverse ls) ≡ opens t here aps ms =
+    ap (λ qs. (ps ++ all_signed n qs) ∷ right_branch v ps n p x y ∷ waiting t ps (reverse ls)) (asserted_renamed (node_at nodes) a (p + 1))
+    ∙ ap (λ r. left_branch ps n p a ∷ r ∷ waiting t ps (reverse ls)) (right_over nodes v ps n p a b)
+    ∙ sym (opens_split v t aps ls ms l n p a b at count side pushed) in record {
       literals = same_literals ∙ kept.literals;
       all_nodes = same_nodes ∙ kept.all_nodes;
       marks = omega (arith, kept.marks, ap length marks, length-append g.marks (length g.literals ∷ []), ap length steps, length-append ss (split n p ∷ []));
-      waits = subst W (sym reversed) (first, rest);
-      partial = subst (λ w. Q us w) (sym reversed) (subst (λ u. Q u (l ∷ reverse ls)) (sym steps) moved);
+      waits = rw reversed (first, rw (whole, all_marks) (marks_more t ps g.marks (length g.literals ∷ []) (reverse ls) kept.waits));
+      partial = rw (steps, ← split_over) next;
     }
 
 -- the side is all asserted
@@ -147,16 +138,13 @@ entered_kept v nodes t g h aps bs ls ss more kept entered stand further =
     let same : waiting t (positions bs) (reverse ls) ≡ waiting t ps (reverse ls) =
     ap (λ qs. waiting t qs (reverse ls)) entered ∙ waiting_more t ps more g.marks (reverse ls) kept.waits in
     let all : opens t (positions bs ++ []) bs ls ≡ opens t (ps ++ more) aps ls =
-    ap (λ qs. qs ∷ waiting t (positions bs) (reverse ls)) (append-nil (positions bs) ∙ entered) ∙ ap (λ w. (ps ++ more) ∷ w) same in
-    let M : List ℕ → Type 0 = λ marks. AreLater t (positions bs) marks (reverse ls) in
-    let B : Branch → Type 0 = λ qs. AreLater t qs g.marks (reverse ls) in
-    let P : List Branch → Type 0 = IsPartial v (tree_over nodes t) ss in (
+    ap (λ qs. qs ∷ waiting t (positions bs) (reverse ls)) (append-nil (positions bs) ∙ entered) ∙ ap (λ w. (ps ++ more) ∷ w) same in (
       record {
         literals = stand;
         all_nodes = further.same_nodes ∙ kept.all_nodes;
         marks = omega (arith, kept.marks, ap length further.same_marks);
-        waits = subst M (sym further.same_marks) (subst B (sym entered) (later_more t ps more g.marks (reverse ls) kept.waits));
-        partial = subst P (sym all) kept.partial;
+        waits = rw (further.same_marks, entered) (later_more t ps more g.marks (reverse ls) kept.waits);
+        partial = rw all kept.partial;
       },
       all,
     )
@@ -182,8 +170,7 @@ closed_kept v nodes t g h i aps bs cs ls ms ss us s l more kept closes steps pop
     let ps = positions aps in
     let T = tree_over nodes t in
     let reversed : reverse ls ≡ l ∷ reverse ms = ap reverse popped ∙ reverse-append ms (l ∷ []) in
-    let W : List Later → Type 0 = AreLater t ps g.marks in
-    let waits : AreLater t ps g.marks (l ∷ reverse ms) = subst W reversed kept.waits in
+    let waits : AreLater t ps g.marks (l ∷ reverse ms) = rw reversed at kept.waits in
     let here = waits.0 in
     let length_ps : length ps ≡ length aps = length-map aps place_signed in
     let short : cs ≡ take l.count aps = cut_positions ∙ take_shorter l.count aps bs (omega (arith, here.count, length_ps)) extends in
@@ -196,23 +183,19 @@ closed_kept v nodes t g h i aps bs cs ls ms ss us s l more kept closes steps pop
     ∙ take_shorter (length (literals_of t (take l.count ps))) g.literals h.literals (omega (arith, within, ap length kept.literals)) further.literals
     ∙ ap (take (length (literals_of t (take l.count ps)))) kept.literals ∙ take_length t l.count ps ∙ ap (literals_of t) (sym qs_is) in
     let marks : i.marks ≡ take (l.mark + 1) g.marks = cut.marks ∙ ap (take (l.mark + 1)) further.same_marks in
-    let M : List ℕ → Type 0 = λ xs. AreLater t (positions cs) xs (reverse ms) in
-    let B : Branch → Type 0 = λ rs. AreLater t rs (take (l.mark + 1) g.marks) (reverse ms) in
     let tail : (take l.count ps ++ side_positions t l.side) ∷ waiting t (take l.count ps) (reverse ms)
     ≡ opens t (positions cs ++ side_positions t l.side) cs ms =
     ap (λ rs. (rs ++ side_positions t l.side) ∷ waiting t rs (reverse ms)) (sym qs_is) in
     let all : opens t (ps ++ more) aps ls ≡ (ps ++ more) ∷ opens t (positions cs ++ side_positions t l.side) cs ms =
     ap (λ w. (ps ++ more) ∷ waiting t ps w) reversed ∙ ap (λ w. (ps ++ more) ∷ w) tail in
-    let P : List Branch → Type 0 = IsPartial v T ss in
-    let run : IsPartial v T ss ((ps ++ more) ∷ opens t (positions cs ++ side_positions t l.side) cs ms) = subst P all kept.partial in
-    let closed = runs_close v T ss (ps ++ more) (opens t (positions cs ++ side_positions t l.side) cs ms) s run closes in
-    let Q : List (Step Node) → Type 0 = λ xs. IsPartial v T xs (opens t (positions cs ++ side_positions t l.side) cs ms) in (
+    let run : IsPartial v T ss ((ps ++ more) ∷ opens t (positions cs ++ side_positions t l.side) cs ms) = rw all at kept.partial in
+    let closed = runs_close v T ss (ps ++ more) (opens t (positions cs ++ side_positions t l.side) cs ms) s run closes in (
       record {
         literals = stand;
         all_nodes = cut.same_nodes ∙ further.same_nodes ∙ kept.all_nodes;
         marks = omega (arith, kept.marks, ap length marks, length-take (l.mark + 1) g.marks, ap length steps, length-append ss (close s ∷ []));
-        waits = subst M (sym marks) (subst B (sym qs_is) waits.1);
-        partial = subst Q (sym steps) closed;
+        waits = rw (marks, qs_is) waits.1;
+        partial = rw steps closed;
       },
       all,
     )
@@ -225,7 +208,4 @@ pub closed_all : (v : Version) (nodes : List Node) (t : Tree ℕ) (g : Graph) (a
 closed_all v nodes t g aps ls ss us s more kept closes steps none =
     let ps = positions aps ++ more in
     let T = tree_over nodes t in
-    let P : List Later → Type 0 = λ w. IsPartial v T ss (ps ∷ waiting t (positions aps) (reverse w)) in
-    let closed = runs_close v T ss ps [] s (subst P none kept.partial) closes in
-    let Q : List (Step Node) → Type 0 = λ xs. IsPartial v T xs [] in
-    subst Q (sym steps) closed
+    rw steps (runs_close v T ss ps [] s (rw none at kept.partial) closes)

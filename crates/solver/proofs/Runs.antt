@@ -14,9 +14,6 @@ runs_append v t (split n p ∷ ss) us (ps ∷ opens) mid rest e r =
     (e.0, e.1, e.2, runs_append v t ss us (left_branch ps n p e.0 ∷ right_branch v ps n p e.0 e.1 ∷ opens) mid rest e.3 r)
 runs_append v t (close l ∷ ss) us (ps ∷ opens) mid rest e r = (e.0, runs_append v t ss us opens mid rest e.1 r)
 
-one_less : (ps : Branch) (opens : List Branch) → length (ps ∷ opens) - 1 ≡ length opens
-one_less ps opens = omega arith
-
 -- how many branches the steps leave open
 pub open_run : (v : Version) (t : Tree Node) (ss : List (Step Node)) (opens rest : List Branch) → Runs v t ss opens rest
     → fold open_after (length opens) ss ≡ length rest
@@ -25,7 +22,9 @@ open_run v t (s ∷ ss) [] rest e = absurd e
 open_run v t (split n p ∷ ss) (ps ∷ opens) rest e =
     let more : length (ps ∷ opens) + 1 ≡ length (left_branch ps n p e.0 ∷ right_branch v ps n p e.0 e.1 ∷ opens) = omega arith in
     ap (λ k. fold open_after k ss) more ∙ open_run v t ss (left_branch ps n p e.0 ∷ right_branch v ps n p e.0 e.1 ∷ opens) rest e.3
-open_run v t (close l ∷ ss) (ps ∷ opens) rest e = ap (λ k. fold open_after k ss) (one_less ps opens) ∙ open_run v t ss opens rest e.1
+open_run v t (close l ∷ ss) (ps ∷ opens) rest e =
+    let less : length (ps ∷ opens) - 1 ≡ length opens = omega arith in
+    ap (λ k. fold open_after k ss) less ∙ open_run v t ss opens rest e.1
 
 pub open_partial : (v : Version) (t : Tree Node) (ss : List (Step Node)) (opens : List Branch) → IsPartial v t ss opens → open_branches ss ≡ length opens
 open_partial v t ss opens run = open_run v t ss (all_signed false (asserted t 0) ∷ []) opens run

@@ -1,10 +1,10 @@
 -- A consistent list of literals over numbers gives a graph over the nodes, whose world makes a tree true that the literals meet.
-use Rattle.std.proofs.Common.{◌≡◌, ◌<◌, inl, inr, ℕ, Bool, true, false, List, [], ◌∷◌, Some, map, length, refl, sym, ap, ◌∙◌, subst}
-use Rattle.std.{proofs.lemmas.{List.Elements.{All-contains}, Option.{slice_get-get_or}, Bool.{and_from, or_left, or_right}}, specs.Prelude.{Contains, All, IsTrue, not}}
+use Rattle.std.proofs.Common.{◌≡◌, ◌<◌, inl, inr, ℕ, Bool, true, false, List, [], ◌∷◌, Some, map, length, refl, sym, ap, ◌∙◌}
+use Rattle.std.{proofs.lemmas.{List.Elements.{All-contains}, Option.{slice_get-get_or}, Bool.{and_from, or_left, or_right}}, specs.Prelude.{All, IsTrue, not}}
 use Rattle.pc_common.specs.{World.{Node, Edge, World, IsWorld, has_node, has_edge, same_node}, Chain.{Leads, Chain, Acyclic}}
 use Rattle.pc_common.{specs.Generated.{IsListed, HasEnds, IsGenerated}, proofs.{Nodes.{has_node_is, has_edge_is}, GeneratedWorlds.{generates, node_tells}}}
 use Rattle.pc_ground.specs.{declared.literal.Literal.{Literal, TheVariants.{Node as a_node, Edge as an_edge, NoNode, NoEdge}}, Numbers.{AreDistinct}}
-use Rattle.pc_ground.specs.{Tree.{Tree, always, never, leaf, both, either, tree_true}, Literals.{Joins, IsPresent, as_start, as_end, IsConsistent}}
+use Rattle.pc_ground.specs.{Tree.{Tree, always, never, leaf, both, either, tree_true}, Literals.{Joins, as_start, as_end, IsConsistent}}
 use Rattle.order_graph.specs.Ways.{IsBelow}
 use Rattle.solver.{specs.{Renamed.{tree_over, node_at}, Met.{IsMet}, Shown.{ArePresent, AreEdges}}, proofs.IsKnown.{number_named}}
 
@@ -44,15 +44,13 @@ chain_back nodes ls ns es s j below a [] b at h =
     let e = (s.edges a b).0 h in
     let ends = edge_below (length nodes) ls s.below e.0 e.1 e.2 in
     let same : e.0 ≡ j = one_number nodes s.distinct e.0 j ends.0 below (e.3 ∙ sym at) in
-    let P : ℕ → Type 0 = λ x. Chain (Joins ls) x e.1 in
-    (e.1, ends.1, e.4, subst P same ([], e.2))
+    (e.1, ends.1, e.4, rw (← same) ([], e.2))
 chain_back nodes ls ns es s j below a (x ∷ xs) b at h =
     let e = (s.edges a x).0 h.0 in
     let ends = edge_below (length nodes) ls s.below e.0 e.1 e.2 in
     let same : e.0 ≡ j = one_number nodes s.distinct e.0 j ends.0 below (e.3 ∙ sym at) in
     let rest = chain_back nodes ls ns es s e.1 ends.1 x xs b e.4 h.1 in
-    let P : ℕ → Type 0 = λ y. Chain (Joins ls) y rest.0 in
-    (rest.0, rest.1, rest.2, subst P same (e.1 ∷ rest.3.0, (e.2, rest.3.1)))
+    (rest.0, rest.1, rest.2, rw (← same) (e.1 ∷ rest.3.0, (e.2, rest.3.1)))
 
 first_number : (nodes : List Node) (ls : List (Literal ℕ)) (ns : List Node) (es : List Edge) → Shows nodes ls ns es
     → (a : Node) (via : List Node) (b : Node) → Leads (IsListed es) a via b → (j : ℕ) × (j < length nodes) × (node_at nodes j ≡ a)
@@ -64,8 +62,7 @@ acyclic nodes ls ns es s a chain =
     let j = first_number nodes ls ns es s a chain.0 a chain.1 in
     let back = chain_back nodes ls ns es s j.0 j.1 a chain.0 a j.2 chain.1 in
     let same : back.0 ≡ j.0 = one_number nodes s.distinct back.0 j.0 back.1 j.1 (back.2 ∙ sym j.2) in
-    let P : ℕ → Type 0 = λ k. Chain (Joins ls) j.0 k in
-    s.consistent.acyclic j.0 (subst P same back.3)
+    s.consistent.acyclic j.0 (rw same at back.3)
 
 chain_on : (nodes : List Node) (ls : List (Literal ℕ)) (ns : List Node) (es : List Edge) → Shows nodes ls ns es
     → (j : ℕ) (via : List ℕ) (k : ℕ) → Leads (Joins ls) j via k → Leads (IsListed es) (node_at nodes j) (map (node_at nodes) via) (node_at nodes k)
@@ -75,11 +72,10 @@ chain_on nodes ls ns es s j (x ∷ xs) k h =
 
 -- the nodes of a tree's literals are numbers below n
 abbrev pub AreBelow : ℕ → Tree ℕ → Type 0
-AreBelow n always = Unit {0}
-AreBelow n never = Unit {0}
 AreBelow n (leaf l) = IsBelow n l
 AreBelow n (both a b) = AreBelow n a × AreBelow n b
 AreBelow n (either a b) = AreBelow n a × AreBelow n b
+AreBelow n t = Unit {0}
 
 pub not_true : (b : Bool) → (b ≡ true → ⊥) → not b ≡ true
 not_true true f = absurd (f refl)
@@ -90,25 +86,21 @@ met_true : (nodes : List Node) (ls : List (Literal ℕ)) (ns : List Node) (es : 
 met_true nodes ls ns es w s g always below h = refl
 met_true nodes ls ns es w s g never below h = absurd h
 met_true nodes ls ns es w s g (leaf (a_node a)) below h =
-    let P : List Node → Type 0 = λ xs. Contains xs (node_at nodes a) in
-    (has_node_is w (node_at nodes a)).1 (subst P (sym g.nodes_are) ((s.present (node_at nodes a)).1 (a, below, h, refl)))
+    (has_node_is w (node_at nodes a)).1 (rw g.nodes_are ((s.present (node_at nodes a)).1 (a, below, h, refl)))
 met_true nodes ls ns es w s g (leaf (an_edge a b)) below h =
     (has_edge_is w (node_at nodes a) (node_at nodes b)).1
     ((g.order_is (node_at nodes a) (node_at nodes b)).1 (map (node_at nodes) h.0, chain_on nodes ls ns es s a h.0 b h.1))
 met_true nodes ls ns es w s g (leaf (NoNode a)) below h =
     not_true (has_node w (node_at nodes a)) (λ yes.
-    let P : List Node → Type 0 = λ xs. Contains xs (node_at nodes a) in
-    let k = (s.present (node_at nodes a)).0 (subst P g.nodes_are ((has_node_is w (node_at nodes a)).0 yes)) in
+    let k = (s.present (node_at nodes a)).0 (rw g.nodes_are at ((has_node_is w (node_at nodes a)).0 yes)) in
     let same : k.0 ≡ a = one_number nodes s.distinct k.0 a k.1 below k.3 in
-    let Q : ℕ → Type 0 = IsPresent ls in
-    h (subst Q same k.2))
+    h (rw same at k.2))
 met_true nodes ls ns es w s g (leaf (NoEdge a b)) below h =
     not_true (has_edge w (node_at nodes a) (node_at nodes b)) (λ yes.
     let chain = (g.order_is (node_at nodes a) (node_at nodes b)).0 ((has_edge_is w (node_at nodes a) (node_at nodes b)).0 yes) in
     let back = chain_back nodes ls ns es s a below.0 (node_at nodes a) chain.0 (node_at nodes b) refl chain.1 in
     let same : back.0 ≡ b = one_number nodes s.distinct back.0 b back.1 below.1 back.2 in
-    let Q : ℕ → Type 0 = λ k. Chain (Joins ls) a k in
-    h (subst Q same back.3))
+    h (rw same at back.3))
 met_true nodes ls ns es w s g (both a b) below h =
     and_from (tree_true w (tree_over nodes a)) (tree_true w (tree_over nodes b)) (met_true nodes ls ns es w s g a below.0 h.0)
     (met_true nodes ls ns es w s g b below.1 h.1)

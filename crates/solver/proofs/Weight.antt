@@ -1,10 +1,10 @@
 -- The weight of open branches falls with each split, and with each branch that is closed.
-use Rattle.std.proofs.Common.{◌≡◌, ◌≤◌, ◌<◌, inl, inr, ℕ, zero, suc, ◌+◌, ◌-◌, ◌*◌, ◌^◌, Bool, true, false, not, ◌||◌, ◌⊎◌, List, [], ◌∷◌, Some, refl, sym, ap, ◌∙◌, subst, arith, eq-eqb, eqb-true}
+use Rattle.std.proofs.Common.{◌≡◌, ◌≤◌, ◌<◌, inl, inr, ℕ, zero, suc, ◌+◌, ◌-◌, ◌*◌, ◌^◌, Bool, true, false, not, ◌||◌, ◌⊎◌, List, [], ◌∷◌, Some, refl, ap, ◌∙◌, subst, arith, eq-eqb, eqb-true}
 use Rattle.std.proofs.{Math.Nat.{pow-le-pow_right, pow-suc, one-le-pow}, lemmas.{List.Sums.{sum_by-cons}, Bool.{ltb-false, or_left, or_right}}}
 use Rattle.std.specs.Prelude.{if◌then◌else◌, nat_lt, ◌==◌}
 use Rattle.pc_common.proofs.Elements.{In, in_front, in_back, in_map, any_holds, holds_any}
 use Rattle.pc_common.proofs.Bools.{true_or_false, or_second}
-use Rattle.pc_ground.specs.{Tree.{Tree, always, never, leaf, both, either, negation, turned, size_of}, declared.version.Version.{Version}}
+use Rattle.pc_ground.specs.{Tree.{Tree, both, either, negation, turned, size_of}, declared.version.Version.{Version}}
 use Rattle.pc_ground.specs.declared.version.Version.TheVariants.{One, Two}
 use Rattle.pc_ground.specs.Refutes.{Branch, Signed, signed, all_signed, subtree_at, asserted, with_side, left_branch, right_branch}
 use Rattle.solver.{specs.Weights.{is_sign, under, is_on, pending_ors, pending_splits, weight}, proofs.IsGrown.{asserted_root}}
@@ -23,28 +23,23 @@ on_more : (ps qs : List ℕ) (p : ℕ) → IsWithin ps qs → is_on ps p ≡ tru
 on_more ps qs p w e = on_from_in qs p (w p (in_from_on ps p e))
 
 count_more : (c d : Bool) → (c ≡ true → d ≡ true) → (if d then 0 else 1) ≤ (if c then 0 else 1)
-count_more true true f = omega arith
 count_more true false f = cc (f refl)
-count_more false true f = omega arith
-count_more false false f = omega arith
+count_more c true f = omega arith
+count_more c false f = omega arith
 
-sides_more : (ps qs : List ℕ) (p r : ℕ) → IsWithin ps qs → (is_on ps p || is_on ps r) ≡ true → (is_on qs p || is_on qs r) ≡ true
-sides_more ps qs p r w e =
+sides_more : (ps qs : List ℕ) (p r : ℕ) → IsWithin ps qs → (if is_on qs p || is_on qs r then 0 else 1) ≤ (if is_on ps p || is_on ps r then 0 else 1)
+sides_more ps qs p r w = count_more (is_on ps p || is_on ps r) (is_on qs p || is_on qs r) (λ e.
     elim (true_or_false (is_on ps p)) [
       | inl h ↦ or_left (is_on qs p) (is_on qs r) (on_more ps qs p w h)
       | inr h ↦ or_right (is_on qs p) (is_on qs r) (on_more ps qs r w (or_second (is_on ps p) (is_on ps r) h e))
-    ]
+    ])
 
 -- with more positions no more Ors are pending
 pub pending_more : {N : Type 0} (t : Tree N) (p : ℕ) (ps qs : List ℕ) → IsWithin ps qs → pending_ors t p qs ≤ pending_ors t p ps
-pending_more always p ps qs w = omega arith
-pending_more never p ps qs w = omega arith
-pending_more (leaf l) p ps qs w = omega arith
 pending_more (both a b) p ps qs w = omega (arith, pending_more a (p + 1) ps qs w, pending_more b (p + 1 + size_of a) ps qs w)
 pending_more (either a b) p ps qs w =
-    let here = count_more (is_on ps (p + 1) || is_on ps (p + 1 + size_of a)) (is_on qs (p + 1) || is_on qs (p + 1 + size_of a))
-    (sides_more ps qs (p + 1) (p + 1 + size_of a) w) in
-    omega (arith, here, pending_more a (p + 1) ps qs w, pending_more b (p + 1 + size_of a) ps qs w)
+    omega (arith, sides_more ps qs (p + 1) (p + 1 + size_of a) w, pending_more a (p + 1) ps qs w, pending_more b (p + 1 + size_of a) ps qs w)
+pending_more t p ps qs w = omega arith
 
 -- an Or has no side in the one list, and one in the other
 record IsDecidedBy (p : ℕ) (size : ℕ) (ps qs : List ℕ) : Type 0 where
@@ -54,62 +49,37 @@ record IsDecidedBy (p : ℕ) (size : ℕ) (ps qs : List ℕ) : Type 0 where
 count_less : (c d : Bool) → c ≡ false → d ≡ true → (if d then 0 else 1) < (if c then 0 else 1)
 count_less c d e f = rw (e, f) (omega arith)
 
-moved : (p q : ℕ) (size : ℕ) (ps qs : List ℕ) → p ≡ q → IsDecidedBy p size ps qs → IsDecidedBy q size ps qs
-moved p q size ps qs e d = let P : ℕ → Type 0 = λ n. IsDecidedBy n size ps qs in subst P e d
-
 sides_same : {N : Type 0} (a b c d : Tree N) → Some (either a b) ≡ Some (either c d) → a ≡ c
 sides_same a b c d e = (let left : a ≡ c = cc in left)
 
--- the Or that is decided counts less
-pending_one_less : {N : Type 0} (t : Tree N) (p q : ℕ) (a b : Tree N) (ps qs : List ℕ) → IsWithin ps qs → subtree_at t q ≡ Some (either a b)
-    → IsDecidedBy (p + q) (size_of a) ps qs → pending_ors t p qs < pending_ors t p ps
-pending_one_less always p zero a b ps qs w e d = cc
-pending_one_less never p zero a b ps qs w e d = cc
-pending_one_less (leaf l) p zero a b ps qs w e d = cc
-pending_one_less (both x y) p zero a b ps qs w e d = cc
-pending_one_less (either x y) p zero a b ps qs w e d =
-    let size : size_of x ≡ size_of a = ap size_of (sides_same x y a b e) in
-    let P : ℕ → ℕ → Type 0 = λ n m. IsDecidedBy n m ps qs in
-    let k = subst (P p) (sym size) (moved (p + 0) p (size_of a) ps qs (omega arith) d) in
-    let here = count_less (is_on ps (p + 1) || is_on ps (p + 1 + size_of x)) (is_on qs (p + 1) || is_on qs (p + 1 + size_of x)) k.before k.after in
-    omega (arith, here, pending_more x (p + 1) ps qs w, pending_more y (p + 1 + size_of x) ps qs w)
-pending_one_less always p (suc q) a b ps qs w e d = cc
-pending_one_less never p (suc q) a b ps qs w e d = cc
-pending_one_less (leaf l) p (suc q) a b ps qs w e d = cc
-pending_one_less (both x y) p (suc q) a b ps qs w e d =
-    let left_more = pending_more x (p + 1) ps qs w in
-    let right_more = pending_more y (p + 1 + size_of x) ps qs w in
+-- of two parts the one that has the Or counts less, and the other no more
+part_less : {N : Type 0} (x y : Tree N) (p q : ℕ) (ps qs : List ℕ) → IsWithin ps qs
+    → (nat_lt q (size_of x) ≡ true → pending_ors x (p + 1) qs < pending_ors x (p + 1) ps)
+    → (nat_lt q (size_of x) ≡ false → pending_ors y (p + 1 + size_of x) qs < pending_ors y (p + 1 + size_of x) ps)
+    → pending_ors (both x y) p qs < pending_ors (both x y) p ps
+part_less x y p q ps qs w left right =
     elim (true_or_false (nat_lt q (size_of x))) [
-      | inl h ↦
-          let less = pending_one_less x (p + 1) q a b ps qs w (rw h at e)
-          (moved (p + suc q) (p + 1 + q) (size_of a) ps qs (omega arith) d) in
-          omega (arith, less, right_more)
-      | inr h ↦
-          let past = ltb-false q (size_of x) h in
-          let less = pending_one_less y (p + 1 + size_of x) (q - size_of x) a b ps qs w (rw h at e)
-          (moved (p + suc q) (p + 1 + size_of x + (q - size_of x)) (size_of a) ps qs (omega (arith, past)) d) in
-          omega (arith, less, left_more)
-    ]
-pending_one_less (either x y) p (suc q) a b ps qs w e d =
-    let here = count_more (is_on ps (p + 1) || is_on ps (p + 1 + size_of x)) (is_on qs (p + 1) || is_on qs (p + 1 + size_of x))
-    (sides_more ps qs (p + 1) (p + 1 + size_of x) w) in
-    let left_more = pending_more x (p + 1) ps qs w in
-    let right_more = pending_more y (p + 1 + size_of x) ps qs w in
-    elim (true_or_false (nat_lt q (size_of x))) [
-      | inl h ↦
-          let less = pending_one_less x (p + 1) q a b ps qs w (rw h at e)
-          (moved (p + suc q) (p + 1 + q) (size_of a) ps qs (omega arith) d) in
-          omega (arith, here, less, right_more)
-      | inr h ↦
-          let past = ltb-false q (size_of x) h in
-          let less = pending_one_less y (p + 1 + size_of x) (q - size_of x) a b ps qs w (rw h at e)
-          (moved (p + suc q) (p + 1 + size_of x + (q - size_of x)) (size_of a) ps qs (omega (arith, past)) d) in
-          omega (arith, here, less, left_more)
+      | inl h ↦ omega (arith, left h, pending_more y (p + 1 + size_of x) ps qs w)
+      | inr h ↦ omega (arith, right h, pending_more x (p + 1) ps qs w)
     ]
 
--- a branch counts something
-pub power_pos : (n : ℕ) → 1 ≤ 3 ^ n
-power_pos n = one-le-pow n 3 (omega arith)
+-- the Or that is decided counts less
+pending_one_less : {N : Type 0} (t : Tree N) (p q r : ℕ) (a b : Tree N) (ps qs : List ℕ) → IsWithin ps qs → subtree_at t q ≡ Some (either a b)
+    → r ≡ p + q → IsDecidedBy r (size_of a) ps qs → pending_ors t p qs < pending_ors t p ps
+pending_one_less (either x y) p zero r a b ps qs w e at d =
+    let here : r ≡ p = omega (arith, at) in
+    let k = rw (here, ← ap size_of (sides_same x y a b e)) at d in
+    let less = count_less (is_on ps (p + 1) || is_on ps (p + 1 + size_of x)) (is_on qs (p + 1) || is_on qs (p + 1 + size_of x)) k.before k.after in
+    omega (arith, less, pending_more x (p + 1) ps qs w, pending_more y (p + 1 + size_of x) ps qs w)
+pending_one_less (both x y) p (suc q) r a b ps qs w e at d =
+    part_less x y p q ps qs w (λ h. pending_one_less x (p + 1) q r a b ps qs w (rw h at e) (omega (arith, at)) d)
+    (λ h. pending_one_less y (p + 1 + size_of x) (q - size_of x) r a b ps qs w (rw h at e) (omega (arith, at, ltb-false q (size_of x) h)) d)
+pending_one_less (either x y) p (suc q) r a b ps qs w e at d =
+    let less = part_less x y p q ps qs w (λ h. pending_one_less x (p + 1) q r a b ps qs w (rw h at e) (omega (arith, at)) d)
+    (λ h. pending_one_less y (p + 1 + size_of x) (q - size_of x) r a b ps qs w (rw h at e) (omega (arith, at, ltb-false q (size_of x) h)) d) in
+    omega (arith, sides_more ps qs (p + 1) (p + 1 + size_of x) w, less)
+pending_one_less t p zero r a b ps qs w e at d = cc
+pending_one_less t p (suc q) r a b ps qs w e at d = cc
 
 -- two smaller powers of three are less than one
 powers_less : (u v w : ℕ) → v < u → w < u → 3 ^ v + 3 ^ w < 3 ^ u
@@ -118,7 +88,7 @@ powers_less (suc u) v w h k =
     let left : 3 ^ v ≤ 3 ^ u = pow-le-pow_right {n = 3} (omega arith) {i = v} {j = u} (omega (arith, h)) in
     let right : 3 ^ w ≤ 3 ^ u = pow-le-pow_right {n = 3} (omega arith) {i = w} {j = u} (omega (arith, k)) in
     let whole : 3 ^ suc u ≡ 3 ^ u * 3 = pow-suc 3 u in
-    let pos = power_pos u in
+    let pos = one-le-pow u 3 (omega arith) in
     omega (arith, left, right, whole, pos)
 
 weight_cons : {N : Type 0} (t : Tree N) (ps : Branch) (opens : List Branch) → weight t (ps ∷ opens) ≡ 3 ^ pending_splits t ps + weight t opens
@@ -126,7 +96,7 @@ unfolding weight
 weight_cons t ps opens = sum_by-cons (λ qs. 3 ^ pending_splits t qs) ps opens
 
 pub weight_more : {N : Type 0} (t : Tree N) (ps : Branch) (opens : List Branch) → weight t opens < weight t (ps ∷ opens)
-weight_more t ps opens = let pos = power_pos (pending_splits t ps) in omega (arith, pos, weight_cons t ps opens)
+weight_more t ps opens = let pos = one-le-pow (pending_splits t ps) 3 (omega arith) in omega (arith, pos, weight_cons t ps opens)
 
 sign_self : (n : Bool) → is_sign n n ≡ true
 sign_self false = refl
@@ -134,9 +104,8 @@ sign_self true = refl
 
 sign_is : (n m : Bool) → is_sign n m ≡ true → m ≡ n
 sign_is false false e = refl
-sign_is false true e = cc
-sign_is true false e = cc
 sign_is true true e = refl
+sign_is n m e = cc
 
 -- what is on a branch under a sign is among its positions of this sign, and they alone are
 in_under : (n : Bool) (ps : Branch) (p : ℕ) → In (signed n p) ps → In p (under n ps)
@@ -198,8 +167,7 @@ pending_less t n p a b ps qs w e no_left no_right some =
       | inl h ↦ or_left (is_on new (p + 1)) (is_on new (p + 1 + size_of a)) (on_from_in new (p + 1) (in_under n qs (p + 1) h))
       | inr h ↦ or_right (is_on new (p + 1)) (is_on new (p + 1 + size_of a)) (on_from_in new (p + 1 + size_of a) (in_under n qs (p + 1 + size_of a) h))
     ] in
-    let less = pending_one_less (turned n t) 0 p a b old new (within_under n ps qs w) e
-    (moved p (0 + p) (size_of a) old new (omega arith) (record { before = before; after = after })) in
+    let less = pending_one_less (turned n t) 0 p p a b old new (within_under n ps qs w) e (omega arith) (record { before = before; after = after }) in
     let more = pending_more (turned (not n) t) 0 (under (not n) ps) (under (not n) qs) (within_under (not n) ps qs w) in
     sums_less n (λ m. pending_ors (turned m t) 0 (under m qs)) (λ m. pending_ors (turned m t) 0 (under m ps)) less more
 

@@ -3,60 +3,38 @@ use Rattle.std.proofs.{Common.{◌≡◌, ◌⊎◌, inl, inr, List, [], ◌∷�
 use Rattle.std.{proofs.lemmas.Grind.{flat_map-append}, specs.Prelude.{Contains, ◌↔◌}}
 use Rattle.pc_common.{specs.World.{Node}, proofs.Elements.{In, in_from_contains, contains_from_in, in_front, in_back, in_either, in_flat, from_flat}}
 use Rattle.pc_ground.specs.declared.literal.Literal.{Literal, TheVariants.{Node as a_node, Edge as an_edge, NoNode as not_node, NoEdge as not_edge}}
-use Rattle.pc_ground.specs.declared.{node_key.NodeKey.{NodeKey}, row.RowKind.{RowKind, TheVariants.{Lit, True, False, And, Or}}}
-use Rattle.pc_ground.specs.{Keys.{key_node, literal_node, renamed_kind}, Tree.{Tree, leaf, either, always, never, both}}
+use Rattle.pc_ground.specs.declared.{node_key.NodeKey.{NodeKey}, row.RowKind.{RowKind, TheVariants.{Lit}}}
+use Rattle.pc_ground.specs.{Keys.{key_node, literal_node, renamed_kind}, Tree.{Tree, leaf, either}}
 use Rattle.pc_ground.specs.{Literals.{IsPresent, as_node, as_start, as_end}, Refutes.{Signed, Branch, part_at, literal_of, literals_of}}
-use Rattle.tree_check.specs.Facts.{PlainFact, at_position, edge, no_edge, no_node, present, facts_of_literal, facts_of_part, facts_at, facts_of_kind, facts_on, HasFacts, HasAdded}
+use Rattle.refutation.specs.BranchFacts.{PlainBranchFact, at_position, edge, no_edge, no_node, present}
+use Rattle.tree_check.specs.Facts.{facts_of_literal, facts_of_part, facts_at, facts_of_kind, facts_on, HasFacts, HasAdded}
 
 no_place : (l : Literal Node) (p : Signed) → In (at_position p) (facts_of_literal l) → ⊥
-no_place (a_node a) p (inl e) = cc
-no_place (a_node a) p (inr i) = i
 no_place (an_edge a b) p (inl e) = cc
 no_place (an_edge a b) p (inr (inl e)) = cc
 no_place (an_edge a b) p (inr (inr (inl e))) = cc
 no_place (an_edge a b) p (inr (inr (inr i))) = i
-no_place (not_node a) p (inl e) = cc
-no_place (not_node a) p (inr i) = i
-no_place (not_edge a b) p (inl e) = cc
-no_place (not_edge a b) p (inr i) = i
+no_place _ p i = elim i [ inl e ↦ cc | inr none ↦ none ]
 
 -- that a position is asserted is known of that position alone
 place_at : (o : Option (Tree Node)) (p q : Signed) → In (at_position p) (facts_of_part o q) → q ≡ p
 place_at None p q i = absurd i
-place_at (Some always) p q (inl e) = cc
-place_at (Some always) p q (inr i) = absurd i
-place_at (Some never) p q (inl e) = cc
-place_at (Some never) p q (inr i) = absurd i
 place_at (Some (leaf l)) p q i = absurd (no_place l p i)
-place_at (Some (both a b)) p q (inl e) = cc
-place_at (Some (both a b)) p q (inr i) = absurd i
-place_at (Some (either a b)) p q (inl e) = cc
-place_at (Some (either a b)) p q (inr i) = absurd i
+place_at _ p q i = elim i [ inl e ↦ cc | inr none ↦ absurd none ]
 
 -- what the literal of a position says is known of it
-literal_facts : (o : Option (Tree Node)) (q : Signed) (l : Literal Node) (k : PlainFact) → In l (literal_of o) → In k (facts_of_literal l)
+literal_facts : (o : Option (Tree Node)) (q : Signed) (l : Literal Node) (k : PlainBranchFact) → In l (literal_of o) → In k (facts_of_literal l)
     → In k (facts_of_part o q)
-literal_facts None q l k i j = absurd i
-literal_facts (Some always) q l k i j = absurd i
-literal_facts (Some never) q l k i j = absurd i
 literal_facts (Some (leaf m)) q l k (inl e) j = (let P : Literal Node → Type 0 = λ x. In k (facts_of_literal x) in subst P (sym e) j)
 literal_facts (Some (leaf m)) q l k (inr i) j = absurd i
-literal_facts (Some (both a b)) q l k i j = absurd i
-literal_facts (Some (either a b)) q l k i j = absurd i
+literal_facts _ q l k i j = absurd i
 
 -- and what else is known of it than that it is asserted, its literal says
-facts_literal : (o : Option (Tree Node)) (q : Signed) (k : PlainFact) → ((p : Signed) → at_position p ≡ k → ⊥) → In k (facts_of_part o q)
+facts_literal : (o : Option (Tree Node)) (q : Signed) (k : PlainBranchFact) → ((p : Signed) → at_position p ≡ k → ⊥) → In k (facts_of_part o q)
     → (l : Literal Node) × In l (literal_of o) × In k (facts_of_literal l)
 facts_literal None q k none i = absurd i
-facts_literal (Some always) q k none (inl e) = absurd (none q e)
-facts_literal (Some always) q k none (inr i) = absurd i
-facts_literal (Some never) q k none (inl e) = absurd (none q e)
-facts_literal (Some never) q k none (inr i) = absurd i
 facts_literal (Some (leaf l)) q k none i = (l, inl refl, i)
-facts_literal (Some (both a b)) q k none (inl e) = absurd (none q e)
-facts_literal (Some (both a b)) q k none (inr i) = absurd i
-facts_literal (Some (either a b)) q k none (inl e) = absurd (none q e)
-facts_literal (Some (either a b)) q k none (inr i) = absurd i
+facts_literal _ q k none i = elim i [ inl e ↦ absurd (none q e) | inr nowhere ↦ absurd nowhere ]
 
 -- an Or of the branch is known
 or_in : (t : Tree Node) (ps : Branch) (p : Signed) (a b : Tree Node) → part_at t p ≡ Some (either a b) → In p ps → In (at_position p) (facts_on t ps)
@@ -71,14 +49,14 @@ place_from t ps p i =
     subst P (place_at (part_at t at.0) p at.0 at.2) at.1
 
 -- what a literal of the branch says is known
-facts_from : (t : Tree Node) (ps : Branch) (l : Literal Node) (k : PlainFact) → Contains (literals_of t ps) l → In k (facts_of_literal l)
+facts_from : (t : Tree Node) (ps : Branch) (l : Literal Node) (k : PlainBranchFact) → Contains (literals_of t ps) l → In k (facts_of_literal l)
     → Contains (facts_on t ps) k
 facts_from t ps l k has j =
     let at = from_flat (λ p. literal_of (part_at t p)) l ps (in_from_contains l (literals_of t ps) has) in
     contains_from_in k (facts_on t ps) (in_flat (facts_at t) at.0 k ps at.1 (literal_facts (part_at t at.0) at.0 l k at.2 j))
 
 -- and what else is known than which positions are asserted, a literal says
-literal_from : (t : Tree Node) (ps : Branch) (k : PlainFact) → ((p : Signed) → at_position p ≡ k → ⊥) → Contains (facts_on t ps) k
+literal_from : (t : Tree Node) (ps : Branch) (k : PlainBranchFact) → ((p : Signed) → at_position p ≡ k → ⊥) → Contains (facts_on t ps) k
     → (l : Literal Node) × Contains (literals_of t ps) l × In k (facts_of_literal l)
 literal_from t ps k none has =
     let at = from_flat (facts_at t) k ps (in_from_contains k (facts_on t ps) has) in
@@ -86,40 +64,29 @@ literal_from t ps k none has =
     (l.0, contains_from_in l.0 (literals_of t ps) (in_flat (λ p. literal_of (part_at t p)) at.0 l.0 ps at.1 l.1), l.2)
 
 edge_of : (l : Literal Node) (a b : Node) → In (edge a b) (facts_of_literal l) → l ≡ an_edge a b
-edge_of (a_node c) a b (inl e) = cc
-edge_of (a_node c) a b (inr i) = absurd i
 edge_of (an_edge c d) a b (inl e) = (let x : c ≡ a = cc in let y : d ≡ b = cc in ap (λ n. an_edge n d) x ∙ ap (an_edge a) y)
 edge_of (an_edge c d) a b (inr (inl e)) = cc
 edge_of (an_edge c d) a b (inr (inr (inl e))) = cc
 edge_of (an_edge c d) a b (inr (inr (inr i))) = absurd i
-edge_of (not_node c) a b (inl e) = cc
-edge_of (not_node c) a b (inr i) = absurd i
-edge_of (not_edge c d) a b (inl e) = cc
-edge_of (not_edge c d) a b (inr i) = absurd i
+edge_of _ a b i = elim i [ inl e ↦ cc | inr none ↦ absurd none ]
 
 no_edge_of : (l : Literal Node) (a b : Node) → In (no_edge a b) (facts_of_literal l) → l ≡ not_edge a b
-no_edge_of (a_node c) a b (inl e) = cc
-no_edge_of (a_node c) a b (inr i) = absurd i
 no_edge_of (an_edge c d) a b (inl e) = cc
 no_edge_of (an_edge c d) a b (inr (inl e)) = cc
 no_edge_of (an_edge c d) a b (inr (inr (inl e))) = cc
 no_edge_of (an_edge c d) a b (inr (inr (inr i))) = absurd i
-no_edge_of (not_node c) a b (inl e) = cc
-no_edge_of (not_node c) a b (inr i) = absurd i
 no_edge_of (not_edge c d) a b (inl e) = (let x : c ≡ a = cc in let y : d ≡ b = cc in ap (λ n. not_edge n d) x ∙ ap (not_edge a) y)
 no_edge_of (not_edge c d) a b (inr i) = absurd i
+no_edge_of _ a b i = elim i [ inl e ↦ cc | inr none ↦ absurd none ]
 
 no_node_of : (l : Literal Node) (a : Node) → In (no_node a) (facts_of_literal l) → l ≡ not_node a
-no_node_of (a_node c) a (inl e) = cc
-no_node_of (a_node c) a (inr i) = absurd i
 no_node_of (an_edge c d) a (inl e) = cc
 no_node_of (an_edge c d) a (inr (inl e)) = cc
 no_node_of (an_edge c d) a (inr (inr (inl e))) = cc
 no_node_of (an_edge c d) a (inr (inr (inr i))) = absurd i
 no_node_of (not_node c) a (inl e) = (let x : c ≡ a = cc in ap not_node x)
 no_node_of (not_node c) a (inr i) = absurd i
-no_node_of (not_edge c d) a (inl e) = cc
-no_node_of (not_edge c d) a (inr i) = absurd i
+no_node_of _ a i = elim i [ inl e ↦ cc | inr none ↦ absurd none ]
 
 module _ (ls : List (Literal Node)) (a : Node) where
   present_of : (l : Literal Node) → Contains ls l → In (present a) (facts_of_literal l) → IsPresent ls a
@@ -135,7 +102,7 @@ module _ (ls : List (Literal Node)) (a : Node) where
   present_of (not_edge c d) has (inr i) = absurd i
 
 -- what the facts of a branch say of its positions and literals
-module _ (t : Tree Node) (facts : List PlainFact) (ps : Branch) (has : HasFacts t facts ps) where
+module _ (t : Tree Node) (facts : List PlainBranchFact) (ps : Branch) (has : HasFacts t facts ps) where
   pub position_of_fact : (p : Signed) → Contains facts (at_position p) → Contains ps p
   position_of_fact p h = contains_from_in p ps (place_from t ps p (in_from_contains (at_position p) (facts_on t ps) ((has (at_position p)).0 h)))
 
@@ -195,12 +162,12 @@ take_through (x ∷ xs) (y ∷ ys) (z ∷ zs) e f =
     ap (λ w. w ∷ take (length xs) zs) (second ∙ first) ∙ ap (λ ws. x ∷ ws) (take_through xs ys zs rest more)
 
 -- nothing added
-pub added_none : (xs : List PlainFact) → HasAdded xs [] xs
+pub added_none : (xs : List PlainBranchFact) → HasAdded xs [] xs
 added_none xs =
     record { same_first = take-length xs; members = λ k. (λ h. inl h, λ either. elim either [ inl h ↦ h | inr h ↦ absurd (in_from_contains k [] h) ]) }
 
 -- one fact added
-pub added_one : (xs ys : List PlainFact) (x : PlainFact) → take (length xs) ys ≡ xs → ((k : PlainFact) → Contains ys k ↔ (Contains xs k ⊎ (k ≡ x)))
+pub added_one : (xs ys : List PlainBranchFact) (x : PlainBranchFact) → take (length xs) ys ≡ xs → ((k : PlainBranchFact) → Contains ys k ↔ (Contains xs k ⊎ (k ≡ x)))
     → HasAdded xs (x ∷ []) ys
 added_one xs ys x same_first h = record {
   same_first = same_first;
@@ -210,12 +177,12 @@ added_one xs ys x same_first h = record {
   );
 }
   where
-    only : (k : PlainFact) → In k (x ∷ []) → k ≡ x
+    only : (k : PlainBranchFact) → In k (x ∷ []) → k ≡ x
     only k (inl e) = sym e
     only k (inr i) = absurd i
 
 -- some added, and then some more
-pub added_then : {xs ys zs more last : List PlainFact} → HasAdded xs more ys → HasAdded ys last zs → HasAdded xs (more ++ last) zs
+pub added_then : {xs ys zs more last : List PlainBranchFact} → HasAdded xs more ys → HasAdded ys last zs → HasAdded xs (more ++ last) zs
 added_then {xs} {ys} {zs} {more} {last} f g = record {
   same_first = take_through xs ys zs f.same_first g.same_first;
   members = λ k. (
@@ -233,11 +200,11 @@ added_then {xs} {ys} {zs} {more} {last} f g = record {
   );
 }
 
-facts_more : (t : Tree Node) (ps qs : Branch) (k : PlainFact) → Contains (facts_on t (ps ++ qs)) k ↔ (Contains (facts_on t ps) k ⊎ Contains (facts_on t qs) k)
+facts_more : (t : Tree Node) (ps qs : Branch) (k : PlainBranchFact) → Contains (facts_on t (ps ++ qs)) k ↔ (Contains (facts_on t ps) k ⊎ Contains (facts_on t qs) k)
 facts_more t ps qs k = rw (flat_map-append (facts_at t) ps qs) (contains_either (facts_on t ps) (facts_on t qs) k)
 
 -- the facts of a branch with further positions
-pub has_more : (t : Tree Node) (facts new : List PlainFact) (ps qs : Branch) → HasFacts t facts ps → HasAdded facts (facts_on t qs) new
+pub has_more : (t : Tree Node) (facts new : List PlainBranchFact) (ps qs : Branch) → HasFacts t facts ps → HasAdded facts (facts_on t qs) new
     → HasFacts t new (ps ++ qs)
 has_more t facts new ps qs has add = λ k. (
   λ h. (facts_more t ps qs k).1 (elim ((add.members k).0 h) [ inl i ↦ inl ((has k).0 i) | inr i ↦ inr i ]),
@@ -245,7 +212,7 @@ has_more t facts new ps qs has add = λ k. (
 )
 
 -- positions that are there already say nothing more
-pub has_again : (t : Tree Node) (facts : List PlainFact) (ps qs : Branch) → HasFacts t facts ps → ((q : Signed) → In q qs → In q ps)
+pub has_again : (t : Tree Node) (facts : List PlainBranchFact) (ps qs : Branch) → HasFacts t facts ps → ((q : Signed) → In q qs → In q ps)
     → HasFacts t facts (ps ++ qs)
 has_again t facts ps qs has there = λ k. (
   λ h. (facts_more t ps qs k).1 (inl ((has k).0 h)),
@@ -266,8 +233,5 @@ facts_of_lit p k l e = ap (λ x. facts_of_kind p (renamed_kind key_node x)) (sym
 
 pub fact_of_position : (p : Signed) (k : RowKind NodeKey) → ((l : Literal NodeKey) → k ≡ Lit l → ⊥)
     → at_position p ∷ [] ≡ facts_of_kind p (renamed_kind key_node k)
-fact_of_position p True none = refl
-fact_of_position p False none = refl
 fact_of_position p (Lit l) none = absurd (none l refl)
-fact_of_position p And none = refl
-fact_of_position p Or none = refl
+fact_of_position p _ none = refl

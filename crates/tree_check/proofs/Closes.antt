@@ -3,7 +3,8 @@ use Rattle.std.{proofs.Common.{◌≡◌, ◌⊎◌, inl, inr, List, [], ◌∷�
 use Rattle.pc_common.specs.{World.{Node}, Chain.{Leads}, Steps.{Leaf, cycle, path, absent, false_step}}
 use Rattle.pc_ground.specs.{declared.literal.Literal.{Literal, TheVariants.{NoNode, NoEdge}}, Tree.{Tree, never}, Literals.{Joins, IsPresent}}
 use Rattle.pc_ground.specs.Refutes.{Branch, literals_of, IsContradiction, a_cycle, a_path, an_absence, Closes, a_contradiction, a_falsity}
-use Rattle.tree_check.specs.{Facts.{PlainFact, HasFacts, HasEdge}, Leaves.{IsCycle, IsPath, IsAbsent}}
+use Rattle.refutation.specs.BranchFacts.{PlainBranchFact}
+use Rattle.tree_check.specs.{Facts.{HasFacts, HasEdge}, Leaves.{IsCycle, IsPath, IsAbsent}}
 use Rattle.tree_check.proofs.BranchFacts.{edge_literal, no_edge_literal, no_node_literal, present_literal}
 
 leads_as : {N : Type 0} (R S : N → N → Type 0) → ((a b : N) → R a b → S a b) → (a : N) (via : List N) (b : N) → Leads R a via b → Leads S a via b
@@ -68,7 +69,7 @@ module _ (t : Tree Node) (ls : List (Literal Node)) where
   pub falsity_of : Closes t ls false_step → t ≡ never
   falsity_of h = elim (from_closes false_step h) [ inl c ↦ absurd (none_false false_step c refl) | inr both ↦ both.0 ]
 
-module _ (t : Tree Node) (facts : List PlainFact) (ps : Branch) (has : HasFacts t facts ps) where
+module _ (t : Tree Node) (facts : List PlainBranchFact) (ps : Branch) (has : HasFacts t facts ps) where
   pub cycle_closes : (nodes : List Node) → IsCycle facts nodes ↔ Closes t (literals_of t ps) (cycle nodes)
   cycle_closes [] =
       (λ h. absurd h, λ h. let c = from_cycle t ls (cycle []) (contradiction_of t ls (cycle []) (λ e. cc) h) [] refl in absurd (none c.0 c.1 c.2))

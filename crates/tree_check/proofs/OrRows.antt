@@ -1,9 +1,9 @@
 -- The children of an Or of the tree, or of its negation, by the rows.
-use Rattle.std.{proofs.Common.{◌≡◌, ◌<◌, ℕ, ◌+◌, Bool, true, List, Some, length, refl, sym, ◌∙◌, ap, arith, false}, specs.Prelude.{slice_get, option_map}}
+use Rattle.std.{proofs.Common.{◌≡◌, ◌<◌, ℕ, ◌+◌, Bool, true, List, Some, length, refl, sym, ◌∙◌, ap, arith}, specs.Prelude.{slice_get, option_map}}
 use Rattle.pc_common.specs.World.{Node}
-use Rattle.pc_ground.specs.declared.{node_key.NodeKey.{NodeKey}, row.{RowKind.{RowKind, TheVariants.{False, Lit, Or, True, And}}, Row.{Row}}}
-use Rattle.pc_ground.specs.declared.literal.Literal.{Literal, TheVariants.{Node as a_node, Edge, NoNode, NoEdge}}
-use Rattle.pc_ground.specs.{Keys.{key_node, renamed, renamed_kind, row_node}, Tree.{Tree, always, never, leaf, both, either, contrary, turned, size_of}}
+use Rattle.pc_ground.specs.declared.{node_key.NodeKey.{NodeKey}, row.{RowKind.{RowKind, TheVariants.{False, Lit, Or}}, Row.{Row}}}
+use Rattle.pc_ground.specs.declared.literal.Literal.{Literal, TheVariants.{Node as a_node}}
+use Rattle.pc_ground.specs.{Keys.{key_node, renamed, renamed_kind, row_node}, Tree.{Tree, never, either, contrary, turned, size_of}}
 use Rattle.pc_ground.specs.{Rows.{rows_of, root_kind, turned_kind, turned_row, turned_rows, IsFlat}, Refutes.{subtree_at}}
 use Rattle.pc_ground.proofs.FlatRows.{root_of, subtree_row, subtree_size, length_rows, children_either, or_subtree, size_pos, renamed_false}
 use Rattle.pc_ground.proofs.{Turned.{size_turned, rows_turned, row_turned}, StageWalks.{some_same}}
@@ -13,11 +13,8 @@ root_inside rows (t, flat) = omega (arith, ap length flat, length_rows t, size_p
 
 -- the kind of a row of keys is that of the row of nodes
 or_from : (k : RowKind NodeKey) → renamed_kind key_node k ≡ Or → k ≡ Or
-or_from True e = cc
-or_from False e = cc
-or_from (Lit l) e = cc
-or_from And e = cc
 or_from Or e = refl
+or_from _ e = cc
 
 row_kind : (t : Tree Node) (p : ℕ) (s : Tree Node) (r : Row NodeKey) → subtree_at t p ≡ Some s → slice_get (rows_of t) p ≡ Some (row_node r)
     → renamed_kind key_node r.kind ≡ root_kind s
@@ -38,11 +35,8 @@ pub row_never : (t : Tree Node) (r : Row NodeKey) → slice_get (rows_of t) 0 �
 row_never t r here e = kind_never t (sym (row_kind t 0 t r refl here) ∙ ap (renamed_kind key_node) e)
   where
     kind_never : (t : Tree Node) → root_kind t ≡ False → t ≡ never
-    kind_never always e = cc
     kind_never never e = refl
-    kind_never (leaf l) e = cc
-    kind_never (both a b) e = cc
-    kind_never (either a b) e = cc
+    kind_never _ e = cc
 
 -- the children of an Or at p, whose left one has the row q
 pub record HasSides (t : Tree Node) (p : ℕ) (skip : ℕ) : Type 0 where
@@ -74,17 +68,11 @@ turned_flat n rows t flat = ap (turned_rows n) flat ∙ sym (rows_turned n t)
 
 renamed_literal : (l : Literal NodeKey) → renamed key_node (contrary l) ≡ contrary (renamed key_node l)
 renamed_literal (a_node a) = refl
-renamed_literal (Edge a b) = refl
-renamed_literal (NoNode a) = refl
-renamed_literal (NoEdge a b) = refl
+renamed_literal _ = refl
 
 renamed_turned : (n : Bool) (k : RowKind NodeKey) → turned_kind n (renamed_kind key_node k) ≡ renamed_kind key_node (turned_kind n k)
-renamed_turned false k = refl
-renamed_turned true True = refl
-renamed_turned true False = refl
 renamed_turned true (Lit l) = ap Lit (sym (renamed_literal l))
-renamed_turned true And = refl
-renamed_turned true Or = refl
+renamed_turned _ _ = refl
 
 -- the row that the code turned
 pub turned_here : (n : Bool) (rows : List (Row Node)) (p : ℕ) (r : Row NodeKey) → slice_get rows p ≡ Some (row_node r)

@@ -2,23 +2,21 @@
 use Rattle.std.proofs.Common.{◌≡◌, ◌≤◌, ◌<◌, ℕ, ◌+◌, inl, inr, Bool, List, [], ◌∷◌, ◌++◌, Option, None, Some, length, take, refl, sym, ◌∙◌, ap, subst, arith, append_assoc}
 use Rattle.std.{proofs.lemmas.{List.{append-nil, map-append}, Grind.{flat_map-append}}, specs.Prelude.{Contains, slice_get, option_map}}
 use Rattle.pc_common.{specs.World.{Node}, proofs.Elements.{In, in_from_contains, contains_from_in, in_front, in_back, in_either, in_map, from_map}}
-use Rattle.pc_ground.specs.declared.{node_key.NodeKey.{NodeKey}, literal.Literal.{Literal}, row.RowKind.{RowKind, TheVariants.{True, Lit, False, And, Or}}}
+use Rattle.pc_ground.specs.declared.{node_key.NodeKey.{NodeKey}, literal.Literal.{Literal}, row.RowKind.{RowKind, TheVariants.{True, Lit}}}
 use Rattle.pc_ground.specs.{declared.row.Row.{Row}, Keys.{key_node, renamed_kind}, Tree.{Tree, always, leaf, both, turned, size_of, never, either}}
 use Rattle.pc_ground.specs.{Rows.{rows_of, turned_row, turned_rows, IsFlat}, Walks.{stride, stride_of, Walk}}
 use Rattle.pc_ground.specs.Refutes.{Signed, signed, all_signed, Branch, subtree_at, asserted}
 use Rattle.pc_ground.proofs.{FlatRows.{root_of, row_subtree, subtree_size, length_rows, children_both, rows_injective}, StageWalks.{some_same}}
 use Rattle.pc_ground.proofs.{Turned.{size_turned, row_turned}, Walks.{walk_side, walk_turn, walk_done, walk_within}}
-use Rattle.tree_check.specs.Facts.{PlainFact, at_position, facts_of_literal, facts_of_part, facts_at, facts_of_kind, facts_on, HasAdded}
+use Rattle.refutation.specs.BranchFacts.{PlainBranchFact, at_position}
+use Rattle.tree_check.specs.Facts.{facts_of_literal, facts_of_part, facts_at, facts_of_kind, facts_on, HasAdded}
 use Rattle.tree_check.specs.{Sides.{positions_of, positions_at}, OpenBranches.{IsClosedUnderAnd, IsBranch}}
 use Rattle.tree_check.proofs.{BranchFacts.{position_of_fact, added_none, added_then, has_more, has_again, facts_none}, OrRows.{turned_flat}}
 
 -- keys renamed, a row is as long
 pub stride_node : (k : RowKind NodeKey) (n : ℕ) → stride_of (renamed_kind key_node k) n ≡ stride_of k n
 stride_node True n = refl
-stride_node False n = refl
-stride_node (Lit l) n = refl
-stride_node And n = refl
-stride_node Or n = refl
+stride_node _ n = refl
 
 root_stride : {N : Type 0} (s : Tree N) → 0 < stride (root_of s)
 root_stride always = omega arith
@@ -28,7 +26,7 @@ root_stride (both a b) = omega arith
 root_stride (either a b) = omega arith
 
 -- how far a walk over the part at root is: the positions that are done, with their facts, and those that are to come
-pub record HasWalked (rows : List (Row Node)) (n : Bool) (root end at : ℕ) (old new : List PlainFact) : Type 0 where
+pub record HasWalked (rows : List (Row Node)) (n : Bool) (root end at : ℕ) (old new : List PlainBranchFact) : Type 0 where
   pub tree : Tree Node
   pub flat : rows ≡ rows_of tree
   pub side : Tree Node
@@ -44,7 +42,7 @@ part_of_row : (n : Bool) (rows : List (Row Node)) (t : Tree Node) (p : ℕ) (r :
     → (s : Tree Node) × (subtree_at (turned n t) p ≡ Some s) × (root_of s ≡ r)
 part_of_row n rows t p r flat here = row_subtree (turned n t) p r (ap (λ xs. slice_get xs p) (sym (turned_flat n rows t flat)) ∙ here)
 
-pub walked_start : (rows : List (Row Node)) (n : Bool) (root : ℕ) (r : Row Node) (facts : List PlainFact) → IsFlat rows → slice_get rows root ≡ Some r
+pub walked_start : (rows : List (Row Node)) (n : Bool) (root : ℕ) (r : Row Node) (facts : List PlainBranchFact) → IsFlat rows → slice_get rows root ≡ Some r
     → (root + r.skip ≤ length rows) × HasWalked rows n root (root + r.skip) root facts facts
 walked_start rows n root r facts (t, flat) here =
     let u = turned n t in
@@ -71,10 +69,7 @@ walked_start rows n root r facts (t, flat) here =
 
 root_facts : (s : Tree Node) (q : Signed) → facts_of_kind q (root_of s).kind ≡ facts_of_part (Some s) q
 root_facts always q = refl
-root_facts never q = refl
-root_facts (leaf l) q = refl
-root_facts (both a b) q = refl
-root_facts (either a b) q = refl
+root_facts _ q = refl
 
 facts_here : (t : Tree Node) (n : Bool) (rows : List (Row Node)) (p : ℕ) (r : Row Node) → rows ≡ rows_of t → slice_get (turned_rows n rows) p ≡ Some r
     → facts_of_kind (signed n p) r.kind ≡ facts_at t (signed n p)
@@ -83,14 +78,14 @@ facts_here t n rows p r flat here =
     ap (λ (x : Row Node). facts_of_kind (signed n p) x.kind) (sym sub.2) ∙ root_facts sub.0 (signed n p)
     ∙ ap (λ o. facts_of_part o (signed n p)) (sym sub.1)
 
-pub walked_step : (rows : List (Row Node)) (n : Bool) (root end at : ℕ) (old mid new : List PlainFact) (r : Row Node) → HasWalked rows n root end at old mid
+pub walked_step : (rows : List (Row Node)) (n : Bool) (root end at : ℕ) (old mid new : List PlainBranchFact) (r : Row Node) → HasWalked rows n root end at old mid
     → at < end → slice_get (turned_rows n rows) at ≡ Some r → HasAdded mid (facts_of_kind (signed n at) r.kind) new
     → HasWalked rows n root end (at + stride r) old new
 walked_step rows n root end at old mid new r w before here add =
     let turn = walk_turn w.walk before in
     let same : turn.0 ≡ r = some_same (sym turn.2 ∙ here) in
     let P : Row Node → Type 0 = λ x. Walk (turned_rows n rows) end (at + stride x) turn.1 in
-    let Q : List PlainFact → Type 0 = λ ks. HasAdded old ks new in
+    let Q : List PlainBranchFact → Type 0 = λ ks. HasAdded old ks new in
     let done = all_signed n w.done in
     let one : Branch = signed n at ∷ [] in
     let both : facts_on w.tree done ++ facts_of_kind (signed n at) r.kind ≡ facts_on w.tree (all_signed n (w.done ++ at ∷ [])) =
@@ -107,11 +102,11 @@ walked_step rows n root end at old mid new r w before here add =
       added = subst Q both (added_then w.added add);
     }
 
-pub walked_first : (rows : List (Row Node)) (n : Bool) (root end at : ℕ) (old new : List PlainFact) → HasWalked rows n root end at old new
+pub walked_first : (rows : List (Row Node)) (n : Bool) (root end at : ℕ) (old new : List PlainBranchFact) → HasWalked rows n root end at old new
     → take (length old) new ≡ old
 walked_first rows n root end at old new w = w.added.same_first
 
-pub walked_within : (rows : List (Row Node)) (n : Bool) (root end at : ℕ) (old new : List PlainFact) → HasWalked rows n root end at old new → at ≤ end
+pub walked_within : (rows : List (Row Node)) (n : Bool) (root end at : ℕ) (old new : List PlainBranchFact) → HasWalked rows n root end at old new → at ≤ end
 walked_within rows n root end at old new w = walk_within w.walk
 
 pub row_stride : (rows : List (Row Node)) (n : Bool) (at : ℕ) (r : Row Node) → IsFlat rows → slice_get (turned_rows n rows) at ≡ Some r → 0 < stride r
@@ -120,23 +115,20 @@ row_stride rows n at r (t, flat) here =
     let P : Row Node → Type 0 = λ x. 0 < stride x in
     subst P sub.2 (root_stride sub.0)
 
-pub walked_all : (rows : List (Row Node)) (n : Bool) (root end at : ℕ) (old new : List PlainFact) → HasWalked rows n root end at old new → end ≤ at
+pub walked_all : (rows : List (Row Node)) (n : Bool) (root end at : ℕ) (old new : List PlainBranchFact) → HasWalked rows n root end at old new → end ≤ at
     → (t : Tree Node) → rows ≡ rows_of t → HasAdded old (facts_on t (positions_at t n root)) new
 walked_all rows n root end at old new w past t flat =
     let one : w.tree ≡ t = rows_injective w.tree t (sym w.flat ∙ flat) in
     let none : w.coming ≡ [] = walk_done w.walk past in
     let all : w.done ≡ asserted w.side root = sym (append-nil w.done) ∙ ap (λ xs. w.done ++ xs) (sym none) ∙ w.whole in
     let here : all_signed n w.done ≡ positions_at w.tree n root = ap (all_signed n) all ∙ ap (λ o. positions_of o n root) (sym w.there) in
-    let P : List PlainFact → Type 0 = λ ks. HasAdded old ks new in
+    let P : List PlainBranchFact → Type 0 = λ ks. HasAdded old ks new in
     subst P (ap (facts_on w.tree) here ∙ ap (λ x. facts_on x (positions_at x n root)) one) w.added
 
 -- a part of one literal asserts what the literal says
 alone : (s : Tree Node) (p : ℕ) (l : Literal Node) → (root_of s).kind ≡ Lit l → asserted s p ≡ p ∷ []
-alone always p l e = cc
-alone never p l e = cc
 alone (leaf m) p l e = refl
-alone (both a b) p l e = cc
-alone (either a b) p l e = cc
+alone _ p l e = cc
 
 facts_of_one : (t : Tree Node) (n : Bool) (rows : List (Row Node)) (root : ℕ) (r : Row Node) (l : Literal Node) → rows ≡ rows_of t
     → slice_get (turned_rows n rows) root ≡ Some r → r.kind ≡ Lit l → facts_of_literal l ≡ facts_on t (positions_at t n root)
@@ -199,7 +191,7 @@ whole_at t ps n root whole = go (subtree_at (turned n t) root) refl
     go (Some s) e = whole_with t s ps n root whole e
 
 -- a part whose root is on the branch is on the branch
-pub entered_again : (t : Tree Node) (facts : List PlainFact) (ps : Branch) (n : Bool) (root : ℕ) → Contains facts (at_position (signed n root))
+pub entered_again : (t : Tree Node) (facts : List PlainBranchFact) (ps : Branch) (n : Bool) (root : ℕ) → Contains facts (at_position (signed n root))
     → IsBranch t facts ps → IsBranch t facts (ps ++ positions_at t n root)
 entered_again t facts ps n root fact (has, whole) =
     (has_again t facts ps (positions_at t n root) has (there (subtree_at (turned n t) root) refl), whole_at t ps n root whole)
@@ -215,17 +207,17 @@ entered_again t facts ps n root fact (has, whole) =
         subst P from.2 (in_from_contains (signed n from.0) ps (whole n root from.0 s on e (contains_from_in from.0 (asserted s root) from.1)))
 
 -- a part that was walked
-pub entered_all : (t : Tree Node) (facts new : List PlainFact) (ps : Branch) (n : Bool) (root : ℕ) → HasAdded facts (facts_on t (positions_at t n root)) new
+pub entered_all : (t : Tree Node) (facts new : List PlainBranchFact) (ps : Branch) (n : Bool) (root : ℕ) → HasAdded facts (facts_on t (positions_at t n root)) new
     → IsBranch t facts ps → IsBranch t new (ps ++ positions_at t n root)
 entered_all t facts new ps n root add (has, whole) = (has_more t facts new ps (positions_at t n root) has add, whole_at t ps n root whole)
 
 -- a part of one literal
-pub entered_literal : (t : Tree Node) (n : Bool) (rows : List (Row Node)) (r : Row Node) (l : Literal Node) (facts new : List PlainFact) (ps : Branch)
+pub entered_literal : (t : Tree Node) (n : Bool) (rows : List (Row Node)) (r : Row Node) (l : Literal Node) (facts new : List PlainBranchFact) (ps : Branch)
     (root : ℕ)
     → rows ≡ rows_of t → slice_get (turned_rows n rows) root ≡ Some r → r.kind ≡ Lit l → HasAdded facts (facts_of_literal l) new → IsBranch t facts ps
     → IsBranch t new (ps ++ positions_at t n root)
 entered_literal t n rows r l facts new ps root flat here is add b =
-    let P : List PlainFact → Type 0 = λ ks. HasAdded facts ks new in
+    let P : List PlainBranchFact → Type 0 = λ ks. HasAdded facts ks new in
     entered_all t facts new ps n root (subst P (facts_of_one t n rows root r l flat here is) add) b
 
 pub none_branch : (t : Tree Node) → IsBranch t [] []

@@ -5,11 +5,12 @@ use Rattle.pc_common.specs.{World.{Node}, Steps.{Leaf, split, close}}
 use Rattle.pc_ground.specs.{declared.{row.Row.{Row}, version.Version.{Version, TheVariants.{One, Two}}}, Tree.{Tree, negation, turned, size_of}, Rows.{rows_of}}
 use Rattle.pc_ground.specs.Refutes.{all_signed, Branch, subtree_at, asserted, literals_of, Closes, IsSplit, left_branch, right_branch, Runs}
 use Rattle.pc_ground.proofs.{FlatRows.{children_either}, Turned.{subtree_denied}}
-use Rattle.tree_check.specs.{Facts.{PlainFact, HasFacts}, Sides.{positions_of, positions_at, with_all, left_side, right_side}}
+use Rattle.refutation.specs.BranchFacts.{PlainBranchFact}
+use Rattle.tree_check.specs.{Facts.{HasFacts}, Sides.{positions_of, positions_at, with_all, left_side, right_side}}
 use Rattle.tree_check.specs.{OpenBranches.{OpenBranches, open_branches, IsBranch, IsLater, AreLater, AreOpen, AreSides, Stands}, declared.later.Later.{Later}}
 
 -- a checker that has an open branch
-pub stands_open : (o : OpenBranches) (version : Version) (rows : List (Row Node)) (facts : List PlainFact) (later : List Later) (is_open : Bool)
+pub stands_open : (o : OpenBranches) (version : Version) (rows : List (Row Node)) (facts : List PlainBranchFact) (later : List Later) (is_open : Bool)
     → open_branches version rows facts later is_open ≡ o → is_open ≡ true → (v : Version) (t : Tree Node) (opens : List Branch) → Stands o v t opens
     → (version ≡ v) × (rows ≡ rows_of t) × AreOpen t true facts (reverse later) opens
 stands_open o version rows facts later is_open view is v t opens st =
@@ -34,15 +35,15 @@ shorter (x ∷ xs) [] e = cc
 shorter (x ∷ xs) (y ∷ ys) e = (let rest : take (length xs) ys ≡ xs = cc in omega (arith, shorter xs ys rest))
 
 -- the branches that wait are the same, with more facts on the first one
-later_more : (t : Tree Node) (facts new : List PlainFact) (ls : List Later) (opens : List Branch) → take (length facts) new ≡ facts
+later_more : (t : Tree Node) (facts new : List PlainBranchFact) (ls : List Later) (opens : List Branch) → take (length facts) new ≡ facts
     → AreLater t facts ls opens → AreLater t new ls opens
 later_more t facts new [] [] first h = h
 later_more t facts new [] (qs ∷ opens) first h = h
 later_more t facts new (l ∷ ls) [] first h = h
 later_more t facts new (l ∷ ls) (qs ∷ opens) first (one, rest) =
     let same : take l.facts facts ≡ take l.facts new = sym (take_less l.facts facts new one.within first) in
-    let P : List PlainFact → Type 0 = λ ks. IsBranch t ks one.before in
-    let Q : List PlainFact → Type 0 = λ ks. AreLater t ks ls opens in (
+    let P : List PlainBranchFact → Type 0 = λ ks. IsBranch t ks one.before in
+    let Q : List PlainBranchFact → Type 0 = λ ks. AreLater t ks ls opens in (
       record {
         before = one.before;
         within = omega (arith, one.within, shorter facts new first);
@@ -74,12 +75,12 @@ right_all Two t ps n p left right a b is_left is_right at below =
     ap (λ xs. (ps ++ xs) ++ all_signed n (asserted b here)) denied ∙ ap (λ ys. (ps ++ positions_at t (not n) left) ++ ys) added
 
 -- no Or is asserted there, so nothing is split
-pub no_split : (v : Version) (t : Tree Node) (n : Bool) (p : ℕ) (facts : List PlainFact) (ls : List Later) (opens : List Branch) → AreOpen t true facts ls opens
+pub no_split : (v : Version) (t : Tree Node) (n : Bool) (p : ℕ) (facts : List PlainBranchFact) (ls : List Later) (opens : List Branch) → AreOpen t true facts ls opens
     → ((ps : Branch) → HasFacts t facts ps → (a b : Tree Node) → IsSplit t ps n p a b → ⊥) → (next : List Branch) → Runs v t (split n p ∷ []) opens next → ⊥
 no_split v t n p facts ls [] op none next run = run
 no_split v t n p facts ls (ps ∷ opens) op none next run = none ps op.0.0 run.0 run.1 run.2
 
-pub did_split : (v : Version) (t : Tree Node) (n : Bool) (p left right : ℕ) (facts new : List PlainFact) (later : List Later) (opens : List Branch)
+pub did_split : (v : Version) (t : Tree Node) (n : Bool) (p left right : ℕ) (facts new : List PlainBranchFact) (later : List Later) (opens : List Branch)
     → AreOpen t true facts (reverse later) opens → ((ps : Branch) → HasFacts t facts ps → AreSides t ps n p left right) → take (length facts) new ≡ facts
     → ((ps : Branch) → IsBranch t facts ps → IsBranch t new (with_all t ps (left_side n left)))
     → (next : List Branch) × Runs v t (split n p ∷ []) opens next
@@ -93,8 +94,8 @@ did_split v t n p left right facts new later (ps ∷ opens) op sides first enter
     let l : Later = record { facts = length facts; side = right_side v n left right } in
     let here = left_branch ps n p a in
     let there = right_branch v ps n p a b in
-    let B : List PlainFact → Type 0 = λ ks. IsBranch t ks ps in
-    let L : List PlainFact → Type 0 = λ ks. AreLater t ks (reverse later) opens in
+    let B : List PlainBranchFact → Type 0 = λ ks. IsBranch t ks ps in
+    let L : List PlainBranchFact → Type 0 = λ ks. AreLater t ks (reverse later) opens in
     let O : List Later → Type 0 = λ ls. AreOpen t true new ls (here ∷ there ∷ opens) in
     let H : Branch → Type 0 = λ qs. IsBranch t new qs in
     let waits : IsLater t new l there = record {
@@ -109,12 +110,12 @@ did_split v t n p left right facts new later (ps ∷ opens) op sides first enter
           (subst H (left_all t ps n p left a found.at_left below.0) (entered ps op.0), (waits, subst L (sym first) op.1)),
     )
 
-pub no_close : (v : Version) (t : Tree Node) (leaf : Leaf Node) (facts : List PlainFact) (ls : List Later) (opens : List Branch) → AreOpen t true facts ls opens
+pub no_close : (v : Version) (t : Tree Node) (leaf : Leaf Node) (facts : List PlainBranchFact) (ls : List Later) (opens : List Branch) → AreOpen t true facts ls opens
     → ((ps : Branch) → HasFacts t facts ps → Closes t (literals_of t ps) leaf → ⊥) → (next : List Branch) → Runs v t (close leaf ∷ []) opens next → ⊥
 no_close v t leaf facts ls [] op none next run = op
 no_close v t leaf facts ls (ps ∷ opens) op none next run = none ps op.0.0 run.0
 
-pub did_close : (v : Version) (t : Tree Node) (leaf : Leaf Node) (facts : List PlainFact) (ls : List Later) (opens : List Branch) (old new : OpenBranches)
+pub did_close : (v : Version) (t : Tree Node) (leaf : Leaf Node) (facts : List PlainBranchFact) (ls : List Later) (opens : List Branch) (old new : OpenBranches)
     → Stands old v t opens → AreOpen t true facts ls opens → ((ps : Branch) → HasFacts t facts ps → Closes t (literals_of t ps) leaf)
     → ((ps : Branch) (rest : List Branch) → Stands old v t (ps ∷ rest) → Stands new v t rest)
     → (next : List Branch) × Runs v t (close leaf ∷ []) opens next × Stands new v t next
@@ -122,7 +123,7 @@ did_close v t leaf facts ls [] old new st op closes rest = absurd op
 did_close v t leaf facts ls (ps ∷ opens) old new st op closes rest = (opens, (closes ps op.0.0, refl), rest ps opens st)
 
 -- the next branch that waits, once its side is entered
-pub did_open : (is_open : Bool) (t : Tree Node) (facts cut new : List PlainFact) (later rest : List Later) (l : Later) (ps : Branch) (opens : List Branch)
+pub did_open : (is_open : Bool) (t : Tree Node) (facts cut new : List PlainBranchFact) (later rest : List Later) (l : Later) (ps : Branch) (opens : List Branch)
     → AreOpen t is_open facts (reverse later) (ps ∷ opens) → later ≡ rest ++ l ∷ [] → cut ≡ take l.facts facts → take (length cut) new ≡ cut
     → ((qs : Branch) → IsBranch t cut qs → IsBranch t new (with_all t qs l.side)) → AreOpen t is_open new (reverse rest) opens
 did_open false t facts cut new later rest l ps opens op e same first entered = cc
@@ -133,15 +134,15 @@ did_open true t facts cut new later rest l ps opens op e same first entered =
     go : (opens : List Branch) → AreLater t facts (l ∷ reverse rest) opens → AreOpen t true new (reverse rest) opens
     go [] h = h
     go (qs ∷ more) (one, others) =
-        let B : List PlainFact → Type 0 = λ ks. IsBranch t ks one.before in
+        let B : List PlainBranchFact → Type 0 = λ ks. IsBranch t ks one.before in
         let C : Branch → Type 0 = λ x. IsBranch t new x in
-        let D : List PlainFact → Type 0 = λ ks. AreLater t ks (reverse rest) more in (
+        let D : List PlainBranchFact → Type 0 = λ ks. AreLater t ks (reverse rest) more in (
           subst C (sym one.all) (entered one.before (subst B (sym same) one.first)),
           later_more t cut new (reverse rest) more first (subst D (sym same) others),
         )
 
 -- a checker that has an open branch, by its parts
-pub stands_by : (version : Version) (rows : List (Row Node)) (facts : List PlainFact) (later : List Later) (is_open : Bool) → is_open ≡ true
+pub stands_by : (version : Version) (rows : List (Row Node)) (facts : List PlainBranchFact) (later : List Later) (is_open : Bool) → is_open ≡ true
     → (v : Version) (t : Tree Node) (opens : List Branch) → version ≡ v → rows ≡ rows_of t → AreOpen t true facts (reverse later) opens
     → Stands (open_branches version rows facts later is_open) v t opens
 stands_by version rows facts later is_open is v t opens same flat op =

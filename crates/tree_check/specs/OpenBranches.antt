@@ -3,7 +3,8 @@ use Rattle.std.specs.Prelude.{ℕ, ◌≡◌, ◌≤◌, ◌+◌, Bool, true, fa
 use Rattle.pc_common.specs.{World.{Node}, Steps.{Step}}
 use Rattle.pc_ground.specs.{declared.{row.Row.{Row}, version.Version.{Version}}, Tree.{Tree, turned, size_of}, Rows.{rows_of}}
 use Rattle.pc_ground.specs.Refutes.{signed, all_signed, Branch, subtree_at, asserted, IsSplit, Runs}
-use Rattle.tree_check.specs.{Facts.{PlainFact, HasFacts}, Sides.{with_all}, declared.later.Later.{Later}}
+use Rattle.refutation.specs.BranchFacts.{PlainBranchFact}
+use Rattle.tree_check.specs.{Facts.{HasFacts}, Sides.{with_all}, declared.later.Later.{Later}}
 
 -- what a checker is seen as
 pub record OpenBranches : Type 0 where
@@ -12,14 +13,14 @@ pub record OpenBranches : Type 0 where
   -- the tree
   pub rows : List (Row Node)
   -- what is known on the first open branch
-  pub facts : List PlainFact
+  pub facts : List PlainBranchFact
   -- the branches that wait, the next one last
   pub later : List Later
   -- whether a branch is open
   pub is_open : Bool
 
 -- the same, of its parts
-abbrev pub open_branches : Version → List (Row Node) → List PlainFact → List Later → Bool → OpenBranches
+abbrev pub open_branches : Version → List (Row Node) → List PlainBranchFact → List Later → Bool → OpenBranches
 open_branches version rows facts later is_open =
     record { version = version; rows = rows; facts = facts; later = later; is_open = is_open }
 
@@ -31,25 +32,25 @@ IsClosedUnderAnd t ps =
     → Contains ps (signed negated q)
 
 -- these are the facts of the branch, and they are closed under And
-abbrev pub IsBranch : Tree Node → List PlainFact → Branch → Type 0
+abbrev pub IsBranch : Tree Node → List PlainBranchFact → Branch → Type 0
 IsBranch t facts ps = HasFacts t facts ps × IsClosedUnderAnd t ps
 
 -- a waiting branch: one that has the first facts, with one side more
-pub record IsLater (t : Tree Node) (facts : List PlainFact) (l : Later) (qs : Branch) : Type 0 where
+pub record IsLater (t : Tree Node) (facts : List PlainBranchFact) (l : Later) (qs : Branch) : Type 0 where
   pub before : Branch
   pub within : l.facts ≤ length facts
   pub first : IsBranch t (take l.facts facts) before
   pub all : qs ≡ with_all t before l.side
 
 -- the waiting branches, the next one first
-abbrev pub AreLater : Tree Node → List PlainFact → List Later → List Branch → Type 0
+abbrev pub AreLater : Tree Node → List PlainBranchFact → List Later → List Branch → Type 0
 AreLater t facts [] [] = Unit {0}
 AreLater t facts [] (qs ∷ opens) = ⊥
 AreLater t facts (l ∷ ls) [] = ⊥
 AreLater t facts (l ∷ ls) (qs ∷ opens) = IsLater t facts l qs × AreLater t (take l.facts facts) ls opens
 
 -- the open branches: none where the flag says so, and else the first one, with those that wait
-abbrev pub AreOpen : Tree Node → Bool → List PlainFact → List Later → List Branch → Type 0
+abbrev pub AreOpen : Tree Node → Bool → List PlainBranchFact → List Later → List Branch → Type 0
 AreOpen t false facts ls opens = opens ≡ []
 AreOpen t true facts ls [] = ⊥
 AreOpen t true facts ls (ps ∷ opens) = IsBranch t facts ps × AreLater t facts ls opens

@@ -6,9 +6,9 @@ ghost use Rattle.pc_ground.specs.Refutes.{Branch, IsSplit};
 ghost use Rattle.tree_check.specs.Facts.{HasFacts};
 ghost use Rattle.tree_check.specs.OpenBranches.{AreSides};
 
-use super::fact::Fact;
 use super::facts::Facts;
 use pc_ground::{Flat, RowKind};
+use refutation::BranchFact;
 
 /// Where the children of the Or at `position` stand, the left one first; None where no Or is asserted there. Under
 /// the sign `~` an And of the tree is an Or. One look-up; takes no memory.
@@ -26,7 +26,7 @@ pub(crate) fn children(
     if position >= tree.len() {
         return None;
     }
-    if !facts.has(Fact::At(negated, position)) {
+    if !facts.has(BranchFact::At(negated, position)) {
         return None;
     }
     match tree.row(position).negate_if(negated).kind {

@@ -9,11 +9,10 @@ ghost use Rattle.tree_check.specs.Facts.{HasEdge, HasFacts};
 ghost use Rattle.refutation.specs.Steps.{plain_leaf};
 ghost use Rattle.tree_check.specs.Leaves.{IsCycle, IsPath, IsAbsent};
 
-use super::fact::Fact;
 use super::facts::Facts;
 use super::root::is_false;
 use pc_ground::{Flat, NodeKey};
-use refutation::Leaf;
+use refutation::{BranchFact, Leaf};
 
 /// Whether edges lead from a node over the listed ones to another. A look-up for each edge.
 fn are_joined(facts: &Facts, from: NodeKey, via: &[NodeKey], to: NodeKey) -> bool
@@ -21,12 +20,12 @@ fn are_joined(facts: &Facts, from: NodeKey, via: &[NodeKey], to: NodeKey) -> boo
 {
     let mut at = from;
     for next in via {
-        if !facts.has(Fact::Edge(at, *next)) {
+        if !facts.has(BranchFact::Edge(at, *next)) {
             return false;
         }
         at = *next;
     }
-    facts.has(Fact::Edge(at, to))
+    facts.has(BranchFact::Edge(at, to))
 }
 
 /// Whether each node has an edge to the next one, and the last to the first.
@@ -45,7 +44,7 @@ fn is_path(facts: &Facts, nodes: &[NodeKey]) -> bool
 {
     match nodes {
         [first, via @ .., last] => {
-            facts.has(Fact::NoEdge(*first, *last)) && are_joined(facts, *first, via, *last)
+            facts.has(BranchFact::NoEdge(*first, *last)) && are_joined(facts, *first, via, *last)
         }
         _ => false,
     }
@@ -55,7 +54,7 @@ fn is_path(facts: &Facts, nodes: &[NodeKey]) -> bool
 fn is_absent(facts: &Facts, node: NodeKey) -> bool
     ensures { IsTrue result ↔ IsAbsent facts.now (key_node node) }
 {
-    facts.has(Fact::NoNode(node)) && facts.has(Fact::Present(node))
+    facts.has(BranchFact::NoNode(node)) && facts.has(BranchFact::Present(node))
 }
 
 /// Whether the leaf closes the branch of these facts. A look-up for each node or edge; takes no memory.

@@ -8,26 +8,26 @@ ghost use Rattle.tree_check.specs.Facts.{facts_of_literal, facts_of_kind, facts_
 ghost use Rattle.tree_check.specs.Sides.{positions_at, with_denied, with_all, IsInside};
 ghost use Rattle.tree_check.specs.OpenBranches.{IsBranch};
 
-use super::fact::Fact;
 use super::facts::Facts;
 use super::root::show_size;
 use super::side::Side;
 use pc_common::Memory;
 use pc_ground::{Flat, Literal, NodeKey, Row, RowKind};
+use refutation::BranchFact;
 
 /// Adds what a literal says.
 fn add_literal(facts: &mut Facts, literal: Literal<NodeKey>) -> Result<(), Memory>
     ensures { OnOk result (HasAdded facts.old (facts_of_literal (literal_node literal)) facts.new) }
 {
     match literal {
-        Literal::Node(a) => facts.add(Fact::Present(a)),
+        Literal::Node(a) => facts.add(BranchFact::Present(a)),
         Literal::Edge(a, b) => {
-            facts.add(Fact::Edge(a, b))?;
-            facts.add(Fact::Present(a))?;
-            facts.add(Fact::Present(b))
+            facts.add(BranchFact::Edge(a, b))?;
+            facts.add(BranchFact::Present(a))?;
+            facts.add(BranchFact::Present(b))
         }
-        Literal::NoNode(a) => facts.add(Fact::NoNode(a)),
-        Literal::NoEdge(a, b) => facts.add(Fact::NoEdge(a, b)),
+        Literal::NoNode(a) => facts.add(BranchFact::NoNode(a)),
+        Literal::NoEdge(a, b) => facts.add(BranchFact::NoEdge(a, b)),
     }
 }
 
@@ -44,7 +44,7 @@ fn add_row(
 {
     match row.kind {
         RowKind::Lit(literal) => add_literal(facts, literal),
-        _ => facts.add(Fact::At(negated, position)),
+        _ => facts.add(BranchFact::At(negated, position)),
     }
 }
 
@@ -78,7 +78,7 @@ fn enter_part(tree: &Flat, negated: bool, root: usize, facts: &mut Facts) -> Res
     match tree.row(root).negate_if(negated).kind {
         RowKind::Lit(literal) => add_literal(facts, literal),
         _ => {
-            if facts.has(Fact::At(negated, root)) {
+            if facts.has(BranchFact::At(negated, root)) {
                 return Ok(());
             }
             add_part(tree, negated, root, facts)

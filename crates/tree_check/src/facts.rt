@@ -1,9 +1,10 @@
 ghost use Rattle.std.specs.Prelude.{◌≡◌, ◌↔◌, [], ◌∷◌, IsTrue, OnOk, Contains, length, take};
-ghost use Rattle.tree_check.specs.Facts.{plain_fact, HasAdded};
+ghost use Rattle.refutation.specs.BranchFacts.{plain_branch_fact};
+ghost use Rattle.tree_check.specs.Facts.{HasAdded};
 
-use super::fact::Fact;
 use indexmap::IndexMap;
 use pc_common::Memory;
+use refutation::BranchFact;
 use std::alloc::Global;
 use std::marker::Model;
 
@@ -11,7 +12,7 @@ use std::marker::Model;
 /// literal was asserted, so only what it says is kept.
 pub(crate) struct Facts {
     // A map without values: above an `IndexSet` in a public type every library carries the contracts of maps and sets.
-    set: IndexMap<Fact, ()>,
+    set: IndexMap<BranchFact, ()>,
 }
 
 // By hand: docs/DECISIONS.md, "Drops are written by hand".
@@ -24,11 +25,11 @@ impl Drop for Facts {
 impl Model for Facts {
     ghost use Rattle.std.specs.Prelude.{List, map};
     ghost use Rattle.indexmap.specs.IndexMap.{keys};
-    ghost use Rattle.tree_check.specs.Facts.{PlainFact, plain_fact};
+    ghost use Rattle.refutation.specs.BranchFacts.{PlainBranchFact, plain_branch_fact};
 
-    ghost Value = { List PlainFact };
+    ghost Value = { List PlainBranchFact };
 
-    ghost view = { λ s. map plain_fact (keys s.set) };
+    ghost view = { λ s. map plain_branch_fact (keys s.set) };
 }
 
 impl Facts {
@@ -49,15 +50,15 @@ impl Facts {
     }
 
     /// Whether this is one of the facts. One look-up; takes no memory.
-    pub(crate) fn has(&self, fact: Fact) -> bool
-        ensures { IsTrue result ↔ Contains self.now (plain_fact fact) }
+    pub(crate) fn has(&self, fact: BranchFact) -> bool
+        ensures { IsTrue result ↔ Contains self.now (plain_branch_fact fact) }
     {
         self.set.contains_key(&fact)
     }
 
     /// Adds a fact after the others, if it is none of them.
-    pub(crate) fn add(&mut self, fact: Fact) -> Result<(), Memory>
-        ensures { OnOk result (HasAdded self.old (plain_fact fact ∷ []) self.new) }
+    pub(crate) fn add(&mut self, fact: BranchFact) -> Result<(), Memory>
+        ensures { OnOk result (HasAdded self.old (plain_branch_fact fact ∷ []) self.new) }
     {
         self.set.insert(fact, ())?;
         Ok(())

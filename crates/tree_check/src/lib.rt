@@ -39,7 +39,6 @@ mod branches;
 mod children;
 mod closing;
 mod entering;
-mod fact;
 mod facts;
 mod flags;
 mod judging;

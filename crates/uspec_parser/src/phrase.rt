@@ -1,12 +1,12 @@
 ghost use Rattle.std.specs.Prelude.{◌≡◌, IfOk};
 ghost use Rattle.uspec_parser.specs.Levels.{level_of};
-ghost use Rattle.ll_grammar.specs.Steps.{IsPush};
+ghost use Rattle.ll_grammar.specs.Predictions.{IsPush};
 ghost use Rattle.uspec_parser.specs.Phrases.{rules as rules_spec, follow as follow_spec, is_predictable, has_texts as texts_spec};
 
 use self::Phrase::*;
 use super::level::{Level, MAX_OPENERS};
 use super::terminal::Terminal::{self, *};
-use ll_grammar::{Grammar, Step, Symbol, push};
+use ll_grammar::{Grammar, Prediction, Symbol, push};
 use pc_common::Memory;
 
 /// The phrases of the model language: the parts of its grammar.
@@ -61,7 +61,7 @@ impl Grammar<Terminal> for Phrase {
         self,
         class: Terminal,
         stack: &mut Vec<Symbol<Terminal, Phrase>>,
-    ) -> Result<Step, Memory> {
+    ) -> Result<Prediction, Memory> {
         match self {
             Items => push_items(class, stack),
             Parameters => push_parameters(class, stack),
@@ -91,32 +91,32 @@ fn formula_within(opened: u8) -> Phrase
     Operand(Level::new(opened), opened)
 }
 
-fn push_items(class: Terminal, stack: &mut Vec<Waiting>) -> Result<Step, Memory>
+fn push_items(class: Terminal, stack: &mut Vec<Waiting>) -> Result<Prediction, Memory>
     ensures { IfOk result (IsPush rules_spec Phrase.Items class stack.old.items stack.new.items) }
 {
     match class {
         StageName => push!(stack; Number Quoted Dot [Items]),
         Axiom => push!(stack; [Label] Colon [formula_within(0)] Dot [Items]),
         DefineMacro => push!(stack; Quoted [Parameters] Colon [formula_within(0)] Dot [Items]),
-        _ => Ok(Step::Absent),
+        _ => Ok(Prediction::Absent),
     }
 }
 
-fn push_parameters(class: Terminal, stack: &mut Vec<Waiting>) -> Result<Step, Memory>
+fn push_parameters(class: Terminal, stack: &mut Vec<Waiting>) -> Result<Prediction, Memory>
     ensures { IfOk result (IsPush rules_spec Phrase.Parameters class stack.old.items stack.new.items) }
 {
     match class {
         Quoted => push!(stack; [Parameters]),
-        _ => Ok(Step::Absent),
+        _ => Ok(Prediction::Absent),
     }
 }
 
-fn push_label(class: Terminal, stack: &mut Vec<Waiting>) -> Result<Step, Memory>
+fn push_label(class: Terminal, stack: &mut Vec<Waiting>) -> Result<Prediction, Memory>
     ensures { IfOk result (IsPush rules_spec Phrase.Label class stack.old.items stack.new.items) }
 {
     match class {
         Quoted | Text => push!(stack;),
-        _ => Ok(Step::Absent),
+        _ => Ok(Prediction::Absent),
     }
 }
 
@@ -125,11 +125,11 @@ fn push_operand(
     opened: u8,
     class: Terminal,
     stack: &mut Vec<Waiting>,
-) -> Result<Step, Memory>
+) -> Result<Prediction, Memory>
     ensures { IfOk result (IsPush rules_spec (Phrase.Operand level opened) class stack.old.items stack.new.items) }
 {
     match class {
-        Open | Not | Forall | Exists if opened >= MAX_OPENERS => Ok(Step::Deep),
+        Open | Not | Forall | Exists if opened >= MAX_OPENERS => Ok(Prediction::Deep),
         OneEdge => push!(stack; [Edge] [More(level)]),
         EdgeList => push!(stack; OpenBracket [Edges] [More(level)]),
         OneNode => push!(stack; [Node] [More(level)]),
@@ -139,133 +139,133 @@ fn push_operand(
         Open => push!(stack; [formula_within(opened + 1)] Close [More(level)]),
         Not => push!(stack; [Operand(level, opened + 1)]),
         Forall | Exists => push!(stack; [SortWord] Quoted Comma [formula_within(opened + 1)]),
-        _ => Ok(Step::Absent),
+        _ => Ok(Prediction::Absent),
     }
 }
 
-fn push_more(level: Level, class: Terminal, stack: &mut Vec<Waiting>) -> Result<Step, Memory>
+fn push_more(level: Level, class: Terminal, stack: &mut Vec<Waiting>) -> Result<Prediction, Memory>
     ensures { IfOk result (IsPush rules_spec (Phrase.More level) class stack.old.items stack.new.items) }
 {
     match class {
-        And if level.at_and >= MAX_OPENERS => Ok(Step::Deep),
-        Or if level.at_or >= MAX_OPENERS => Ok(Step::Deep),
-        Implies if level.at_implies >= MAX_OPENERS => Ok(Step::Deep),
+        And if level.at_and >= MAX_OPENERS => Ok(Prediction::Deep),
+        Or if level.at_or >= MAX_OPENERS => Ok(Prediction::Deep),
+        Implies if level.at_implies >= MAX_OPENERS => Ok(Prediction::Deep),
         And => push!(stack; [Operand(level.deepen_and(), level.at_and + 1)]),
         Or => push!(stack; [Operand(level.deepen_or(), level.at_or + 1)]),
         Implies => push!(stack; [Operand(level.deepen_implies(), level.at_implies + 1)]),
-        _ => Ok(Step::Absent),
+        _ => Ok(Prediction::Absent),
     }
 }
 
-fn push_arguments(class: Terminal, stack: &mut Vec<Waiting>) -> Result<Step, Memory>
+fn push_arguments(class: Terminal, stack: &mut Vec<Waiting>) -> Result<Prediction, Memory>
     ensures { IfOk result (IsPush rules_spec Phrase.Arguments class stack.old.items stack.new.items) }
 {
     match class {
         Name | Number => push!(stack; [Arguments]),
-        _ => Ok(Step::Absent),
+        _ => Ok(Prediction::Absent),
     }
 }
 
-fn push_argument(class: Terminal, stack: &mut Vec<Waiting>) -> Result<Step, Memory>
+fn push_argument(class: Terminal, stack: &mut Vec<Waiting>) -> Result<Prediction, Memory>
     ensures { IfOk result (IsPush rules_spec Phrase.Argument class stack.old.items stack.new.items) }
 {
     match class {
         Name | Number => push!(stack;),
-        _ => Ok(Step::Absent),
+        _ => Ok(Prediction::Absent),
     }
 }
 
-fn push_node(class: Terminal, stack: &mut Vec<Waiting>) -> Result<Step, Memory>
+fn push_node(class: Terminal, stack: &mut Vec<Waiting>) -> Result<Prediction, Memory>
     ensures { IfOk result (IsPush rules_spec Phrase.Node class stack.old.items stack.new.items) }
 {
     match class {
         Open => push!(stack; Name Comma [Location] Close),
-        _ => Ok(Step::Absent),
+        _ => Ok(Prediction::Absent),
     }
 }
 
-fn push_location(class: Terminal, stack: &mut Vec<Waiting>) -> Result<Step, Memory>
+fn push_location(class: Terminal, stack: &mut Vec<Waiting>) -> Result<Prediction, Memory>
     ensures { IfOk result (IsPush rules_spec Phrase.Location class stack.old.items stack.new.items) }
 {
     match class {
         Name => push!(stack;),
         Open => push!(stack; [Argument] Comma Name Close),
-        _ => Ok(Step::Absent),
+        _ => Ok(Prediction::Absent),
     }
 }
 
-fn push_edge(class: Terminal, stack: &mut Vec<Waiting>) -> Result<Step, Memory>
+fn push_edge(class: Terminal, stack: &mut Vec<Waiting>) -> Result<Prediction, Memory>
     ensures { IfOk result (IsPush rules_spec Phrase.Edge class stack.old.items stack.new.items) }
 {
     match class {
         Open => push!(stack; [Node] Comma [Node] [Labels] Close),
-        _ => Ok(Step::Absent),
+        _ => Ok(Prediction::Absent),
     }
 }
 
-fn push_labels(class: Terminal, stack: &mut Vec<Waiting>) -> Result<Step, Memory>
+fn push_labels(class: Terminal, stack: &mut Vec<Waiting>) -> Result<Prediction, Memory>
     ensures { IfOk result (IsPush rules_spec Phrase.Labels class stack.old.items stack.new.items) }
 {
     match class {
         Comma => push!(stack; [Label] [SecondLabel]),
-        _ => Ok(Step::Absent),
+        _ => Ok(Prediction::Absent),
     }
 }
 
-fn push_second_label(class: Terminal, stack: &mut Vec<Waiting>) -> Result<Step, Memory>
+fn push_second_label(class: Terminal, stack: &mut Vec<Waiting>) -> Result<Prediction, Memory>
     ensures { IfOk result (IsPush rules_spec Phrase.SecondLabel class stack.old.items stack.new.items) }
 {
     match class {
         Comma => push!(stack; [Label]),
-        _ => Ok(Step::Absent),
+        _ => Ok(Prediction::Absent),
     }
 }
 
-fn push_sort_word(class: Terminal, stack: &mut Vec<Waiting>) -> Result<Step, Memory>
+fn push_sort_word(class: Terminal, stack: &mut Vec<Waiting>) -> Result<Prediction, Memory>
     ensures { IfOk result (IsPush rules_spec Phrase.SortWord class stack.old.items stack.new.items) }
 {
     match class {
         Microop | Core => push!(stack;),
-        _ => Ok(Step::Absent),
+        _ => Ok(Prediction::Absent),
     }
 }
 
-fn push_nodes(class: Terminal, stack: &mut Vec<Waiting>) -> Result<Step, Memory>
+fn push_nodes(class: Terminal, stack: &mut Vec<Waiting>) -> Result<Prediction, Memory>
     ensures { IfOk result (IsPush rules_spec Phrase.Nodes class stack.old.items stack.new.items) }
 {
     match class {
         CloseBracket => push!(stack;),
         Open => push!(stack; Name Comma [Location] Close [MoreNodes]),
-        _ => Ok(Step::Absent),
+        _ => Ok(Prediction::Absent),
     }
 }
 
-fn push_more_nodes(class: Terminal, stack: &mut Vec<Waiting>) -> Result<Step, Memory>
+fn push_more_nodes(class: Terminal, stack: &mut Vec<Waiting>) -> Result<Prediction, Memory>
     ensures { IfOk result (IsPush rules_spec Phrase.MoreNodes class stack.old.items stack.new.items) }
 {
     match class {
         CloseBracket => push!(stack;),
         Semicolon => push!(stack; [Nodes]),
-        _ => Ok(Step::Absent),
+        _ => Ok(Prediction::Absent),
     }
 }
 
-fn push_edges(class: Terminal, stack: &mut Vec<Waiting>) -> Result<Step, Memory>
+fn push_edges(class: Terminal, stack: &mut Vec<Waiting>) -> Result<Prediction, Memory>
     ensures { IfOk result (IsPush rules_spec Phrase.Edges class stack.old.items stack.new.items) }
 {
     match class {
         CloseBracket => push!(stack;),
         Open => push!(stack; [Node] Comma [Node] [Labels] Close [MoreEdges]),
-        _ => Ok(Step::Absent),
+        _ => Ok(Prediction::Absent),
     }
 }
 
-fn push_more_edges(class: Terminal, stack: &mut Vec<Waiting>) -> Result<Step, Memory>
+fn push_more_edges(class: Terminal, stack: &mut Vec<Waiting>) -> Result<Prediction, Memory>
     ensures { IfOk result (IsPush rules_spec Phrase.MoreEdges class stack.old.items stack.new.items) }
 {
     match class {
         CloseBracket => push!(stack;),
         Semicolon => push!(stack; [Edges]),
-        _ => Ok(Step::Absent),
+        _ => Ok(Prediction::Absent),
     }
 }

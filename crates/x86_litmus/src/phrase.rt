@@ -1,11 +1,11 @@
 ghost use Rattle.std.specs.Prelude.{◌≡◌, IfOk};
 ghost use Rattle.x86_litmus.specs.Terminals.{is_name as is_name_spec};
-ghost use Rattle.ll_grammar.specs.Steps.{IsPush};
+ghost use Rattle.ll_grammar.specs.Predictions.{IsPush};
 ghost use Rattle.x86_litmus.specs.Phrases.{rules, follow, rules_predictable, rules_texts};
 
 use self::Phrase::*;
 use super::terminal::Terminal::{self, *};
-use ll_grammar::{Grammar, Step, Symbol, push};
+use ll_grammar::{Grammar, Prediction, Symbol, push};
 use pc_common::Memory;
 
 /// The parts of a listing. Each goes on to the end of what it begins: the block to its brace, a line to the condition.
@@ -64,7 +64,7 @@ impl Grammar<Terminal> for Phrase {
         self,
         class: Terminal,
         stack: &mut Vec<Symbol<Terminal, Phrase>>,
-    ) -> Result<Step, Memory> {
+    ) -> Result<Prediction, Memory> {
         match self {
             Listing => push_listing(class, stack),
             Values => push_values(class, stack),
@@ -83,56 +83,56 @@ impl Grammar<Terminal> for Phrase {
     }
 }
 
-fn push_listing(class: Terminal, stack: &mut Vec<Waiting>) -> Result<Step, Memory>
+fn push_listing(class: Terminal, stack: &mut Vec<Waiting>) -> Result<Prediction, Memory>
     ensures { IfOk result (IsPush rules Phrase.Listing class stack.old.items stack.new.items) }
 {
     match class {
         OpenBrace => push!(stack; [Values] [Columns] [Rows]),
-        _ => Ok(Step::Absent),
+        _ => Ok(Prediction::Absent),
     }
 }
 
-fn push_values(class: Terminal, stack: &mut Vec<Waiting>) -> Result<Step, Memory>
+fn push_values(class: Terminal, stack: &mut Vec<Waiting>) -> Result<Prediction, Memory>
     ensures { IfOk result (IsPush rules Phrase.Values class stack.old.items stack.new.items) }
 {
     match class {
         CloseBrace => push!(stack;),
         OpenBracket => push!(stack; [AnyName] CloseBracket Equals Number [MoreValues]),
         name if is_name(name) => push!(stack; Equals Number [MoreValues]),
-        _ => Ok(Step::Absent),
+        _ => Ok(Prediction::Absent),
     }
 }
 
-fn push_more_values(class: Terminal, stack: &mut Vec<Waiting>) -> Result<Step, Memory>
+fn push_more_values(class: Terminal, stack: &mut Vec<Waiting>) -> Result<Prediction, Memory>
     ensures { IfOk result (IsPush rules Phrase.MoreValues class stack.old.items stack.new.items) }
 {
     match class {
         CloseBrace => push!(stack;),
         Semicolon => push!(stack; [Values]),
-        _ => Ok(Step::Absent),
+        _ => Ok(Prediction::Absent),
     }
 }
 
-fn push_columns(class: Terminal, stack: &mut Vec<Waiting>) -> Result<Step, Memory>
+fn push_columns(class: Terminal, stack: &mut Vec<Waiting>) -> Result<Prediction, Memory>
     ensures { IfOk result (IsPush rules Phrase.Columns class stack.old.items stack.new.items) }
 {
     match class {
         name if is_name(name) => push!(stack; [MoreColumns]),
-        _ => Ok(Step::Absent),
+        _ => Ok(Prediction::Absent),
     }
 }
 
-fn push_more_columns(class: Terminal, stack: &mut Vec<Waiting>) -> Result<Step, Memory>
+fn push_more_columns(class: Terminal, stack: &mut Vec<Waiting>) -> Result<Prediction, Memory>
     ensures { IfOk result (IsPush rules Phrase.MoreColumns class stack.old.items stack.new.items) }
 {
     match class {
         Bar => push!(stack; [Columns]),
         Semicolon => push!(stack;),
-        _ => Ok(Step::Absent),
+        _ => Ok(Prediction::Absent),
     }
 }
 
-fn push_rows(class: Terminal, stack: &mut Vec<Waiting>) -> Result<Step, Memory>
+fn push_rows(class: Terminal, stack: &mut Vec<Waiting>) -> Result<Prediction, Memory>
     ensures { IfOk result (IsPush rules Phrase.Rows class stack.old.items stack.new.items) }
 {
     match class {
@@ -142,11 +142,11 @@ fn push_rows(class: Terminal, stack: &mut Vec<Waiting>) -> Result<Step, Memory>
         Mfence => push!(stack; [MoreCells]),
         Bar => push!(stack; [Cells]),
         Semicolon => push!(stack; [Rows]),
-        _ => Ok(Step::Absent),
+        _ => Ok(Prediction::Absent),
     }
 }
 
-fn push_cells(class: Terminal, stack: &mut Vec<Waiting>) -> Result<Step, Memory>
+fn push_cells(class: Terminal, stack: &mut Vec<Waiting>) -> Result<Prediction, Memory>
     ensures { IfOk result (IsPush rules Phrase.Cells class stack.old.items stack.new.items) }
 {
     match class {
@@ -154,31 +154,31 @@ fn push_cells(class: Terminal, stack: &mut Vec<Waiting>) -> Result<Step, Memory>
         Mfence => push!(stack; [MoreCells]),
         Bar => push!(stack; [Cells]),
         Semicolon => push!(stack; [Rows]),
-        _ => Ok(Step::Absent),
+        _ => Ok(Prediction::Absent),
     }
 }
 
-fn push_more_cells(class: Terminal, stack: &mut Vec<Waiting>) -> Result<Step, Memory>
+fn push_more_cells(class: Terminal, stack: &mut Vec<Waiting>) -> Result<Prediction, Memory>
     ensures { IfOk result (IsPush rules Phrase.MoreCells class stack.old.items stack.new.items) }
 {
     match class {
         Bar => push!(stack; [Cells]),
         Semicolon => push!(stack; [Rows]),
-        _ => Ok(Step::Absent),
+        _ => Ok(Prediction::Absent),
     }
 }
 
-fn push_move(class: Terminal, stack: &mut Vec<Waiting>) -> Result<Step, Memory>
+fn push_move(class: Terminal, stack: &mut Vec<Waiting>) -> Result<Prediction, Memory>
     ensures { IfOk result (IsPush rules Phrase.Move class stack.old.items stack.new.items) }
 {
     match class {
         OpenBracket => push!(stack; [AnyName] CloseBracket Comma Dollar Number),
         name if is_name(name) => push!(stack; Comma OpenBracket [AnyName] CloseBracket),
-        _ => Ok(Step::Absent),
+        _ => Ok(Prediction::Absent),
     }
 }
 
-fn push_asked(class: Terminal, stack: &mut Vec<Waiting>) -> Result<Step, Memory>
+fn push_asked(class: Terminal, stack: &mut Vec<Waiting>) -> Result<Prediction, Memory>
     ensures { IfOk result (IsPush rules Phrase.Asked class stack.old.items stack.new.items) }
 {
     match class {
@@ -186,35 +186,35 @@ fn push_asked(class: Terminal, stack: &mut Vec<Waiting>) -> Result<Step, Memory>
         Number => push!(stack; Colon [AnyName] Equals Number [MoreEquations]),
         OpenBracket => push!(stack; [AnyName] CloseBracket Equals Number [MoreEquations]),
         name if is_name(name) => push!(stack; Equals Number [MoreEquations]),
-        _ => Ok(Step::Absent),
+        _ => Ok(Prediction::Absent),
     }
 }
 
-fn push_equations(class: Terminal, stack: &mut Vec<Waiting>) -> Result<Step, Memory>
+fn push_equations(class: Terminal, stack: &mut Vec<Waiting>) -> Result<Prediction, Memory>
     ensures { IfOk result (IsPush rules Phrase.Equations class stack.old.items stack.new.items) }
 {
     match class {
         Number => push!(stack; Colon [AnyName] Equals Number [MoreEquations]),
         OpenBracket => push!(stack; [AnyName] CloseBracket Equals Number [MoreEquations]),
         name if is_name(name) => push!(stack; Equals Number [MoreEquations]),
-        _ => Ok(Step::Absent),
+        _ => Ok(Prediction::Absent),
     }
 }
 
-fn push_more_equations(class: Terminal, stack: &mut Vec<Waiting>) -> Result<Step, Memory>
+fn push_more_equations(class: Terminal, stack: &mut Vec<Waiting>) -> Result<Prediction, Memory>
     ensures { IfOk result (IsPush rules Phrase.MoreEquations class stack.old.items stack.new.items) }
 {
     match class {
         And => push!(stack; [Equations]),
-        _ => Ok(Step::Absent),
+        _ => Ok(Prediction::Absent),
     }
 }
 
-fn push_any_name(class: Terminal, stack: &mut Vec<Waiting>) -> Result<Step, Memory>
+fn push_any_name(class: Terminal, stack: &mut Vec<Waiting>) -> Result<Prediction, Memory>
     ensures { IfOk result (IsPush rules Phrase.AnyName class stack.old.items stack.new.items) }
 {
     match class {
         name if is_name(name) => push!(stack;),
-        _ => Ok(Step::Absent),
+        _ => Ok(Prediction::Absent),
     }
 }

@@ -12,8 +12,8 @@ ghost use Rattle.ll_grammar.specs.declared.grammar.Symbol.TheVariants.{Terminal 
 ghost use Rattle.ll_grammar.specs.LawsOfTables.{predictable_by, texts_by, is_predictable_part, is_ranked_part};
 
 use ll_grammar::{
-    Fault, Grammar, Step, Symbol, TokenClass, first_fault, one_answer, push_body, some_answer,
-    viable_prefixes,
+    Fault, Grammar, Prediction, Symbol, TokenClass, first_fault, one_answer, push_body,
+    some_answer, viable_prefixes,
 };
 use pc_common::Memory;
 use std::alloc::Global;
@@ -91,12 +91,12 @@ impl Grammar<Bracket> for Phrase {
         self,
         class: Bracket,
         stack: &mut Vec<Symbol<Bracket, Phrase>>,
-    ) -> Result<Step, Memory> {
+    ) -> Result<Prediction, Memory> {
         match self {
             Phrase::Items(open) => match class {
                 Bracket::Open => {
                     if open >= 2 {
-                        return Ok(Step::Deep);
+                        return Ok(Prediction::Deep);
                     }
                     push_body(
                         stack,
@@ -108,7 +108,7 @@ impl Grammar<Bracket> for Phrase {
                     )
                 }
                 Bracket::Word => push_body(stack, &[Symbol::Nonterminal(Phrase::More(open))]),
-                _ => Ok(Step::Absent),
+                _ => Ok(Prediction::Absent),
             },
             Phrase::More(open) => match class {
                 Bracket::Semicolon => push_body(
@@ -118,12 +118,12 @@ impl Grammar<Bracket> for Phrase {
                         Symbol::Nonterminal(Phrase::More(open)),
                     ],
                 ),
-                _ => Ok(Step::Absent),
+                _ => Ok(Prediction::Absent),
             },
             Phrase::Item(open) => match class {
                 Bracket::Open => {
                     if open >= 2 {
-                        return Ok(Step::Deep);
+                        return Ok(Prediction::Deep);
                     }
                     push_body(
                         stack,
@@ -134,7 +134,7 @@ impl Grammar<Bracket> for Phrase {
                     )
                 }
                 Bracket::Word => push_body(stack, &[]),
-                _ => Ok(Step::Absent),
+                _ => Ok(Prediction::Absent),
             },
         }
     }

@@ -32,10 +32,6 @@ struct Change {
 pub(crate) struct Agenda {
     watch: Watch,
     standings: Vec<Standing>,
-    /// The moment at which each position was last put on the trail.
-    stamps: Vec<u64>,
-    /// How often the search split or went back. What the trail has of one moment is undone together.
-    moment: u64,
     /// The pending Ors.
     pending: Bits,
     open: Bits,
@@ -62,8 +58,6 @@ impl Agenda {
         let mut agenda = Agenda {
             watch: Watch::empty(alloc),
             standings: Vec::new(alloc),
-            stamps: Vec::new(alloc),
-            moment: 0,
             pending: Bits::new(alloc),
             open: Bits::new(alloc),
             ready: Bits::new(alloc),
@@ -83,7 +77,6 @@ impl Agenda {
     /// Makes room for so many positions.
     fn make_room(&mut self, count: usize) {
         self.is_refused |= self.standings.resize(count, Standing::none()).is_err();
-        self.is_refused |= self.stamps.resize(count, 0).is_err();
         self.is_refused |= self.pending.make_room(count);
         self.is_refused |= self.open.make_room(count);
         self.is_refused |= self.ready.make_room(count);
@@ -129,26 +122,21 @@ impl Agenda {
         }
     }
 
-    /// Puts the standing of the position on the trail, if a split waits. Once at each moment is enough, since one
-    /// moment is undone together.
-    fn record(&mut self, position: usize) {
-        if self.marks.is_empty() || position >= self.stamps.len() {
-            return;
-        }
-        if self.stamps[position] == self.moment {
-            return;
-        }
-        self.stamps[position] = self.moment;
-        let standing = self.standing(position);
-        self.is_refused |= self.trail.push(Change { position, standing }).is_err();
-    }
-
-    /// Changes the standing of the position. The change can be undone.
+    /// Changes the standing of the position. If a split waits, what stood there goes on the trail: undone newest first,
+    /// the oldest of a position stands again.
     pub(crate) fn change(&mut self, position: usize, standing: Standing) {
-        if !self.standing(position).is_same(standing) {
-            self.record(position);
-            self.set(position, standing);
+        let before = self.standing(position);
+        if before.is_same(standing) {
+            return;
         }
+        if !self.marks.is_empty() {
+            let change = Change {
+                position,
+                standing: before,
+            };
+            self.is_refused |= self.trail.push(change).is_err();
+        }
+        self.set(position, standing);
     }
 
     /// Makes the lists of what a literal changes, at the first split: before it no standing is known that a literal
@@ -190,7 +178,6 @@ impl Agenda {
         self.failures.split(place, graph, step);
         self.changes.split();
         self.is_refused |= self.marks.push(self.trail.len()).is_err();
-        self.moment = self.moment.wrapping_add(1);
         Ok(())
     }
 
@@ -205,7 +192,6 @@ impl Agenda {
             }
         }
         self.changes.go_back();
-        self.moment = self.moment.wrapping_add(1);
         self.seen = count;
     }
 
@@ -249,10 +235,9 @@ impl Agenda {
 
     /// Makes stale what depends on pairs with the node that may have changed.
     fn touch_node(&mut self, rows: &[Row<u32>], node: u32) {
-        let (has_grown, is_starting) = (
-            self.changes.has_grown(node),
-            self.changes.is_starting(node),
-        );
+        let k = node as usize;
+        let has_grown = self.changes.grown.has(k);
+        let is_starting = self.changes.starting.has(k);
         if has_grown {
             self.touch_list(rows, starts_of(node), Others::Reached, true);
             self.touch_list(rows, ends_of(node), Others::Closing, false);
@@ -263,10 +248,10 @@ impl Agenda {
         if has_grown | is_starting {
             self.touch_list(rows, joint_of(node), Others::All, false);
         }
-        if self.changes.is_named(node) {
+        if self.changes.named.has(k) {
             self.touch_list(rows, own_of(node), Others::All, true);
         }
-        if self.changes.is_denied(node) {
+        if self.changes.denied.has(k) {
             self.touch_list(rows, starts_of(node), Others::All, false);
             self.touch_list(rows, ends_of(node), Others::All, false);
         }

@@ -5,16 +5,16 @@ ghost use Rattle.order_graph.specs.Ways.{IsBelow};
 ghost use Rattle.solver.specs.Below.{IsRowBelow};
 
 use super::closing::pair_clashes;
-use super::walk::Walk;
+use super::walk::{SideWalk, Walk};
 use crate::tree::side::Side;
 use order_graph::OrderGraph;
 use pc_ground::{Literal, Row};
 
-/// Whether a literal of the part would clash.
-fn part_is_closed(rows: &[Row<u32>], graph: &OrderGraph, part: Walk) -> bool
+/// Whether a literal of the side would clash.
+pub(crate) fn side_is_closed(rows: &[Row<u32>], graph: &OrderGraph, side: Side) -> bool
     requires { All (IsRowBelow graph.now.nodes) rows.now }
 {
-    let mut walk = part;
+    let mut walk = SideWalk::new(rows, side);
     for _ in 0..rows.len() {
         let Some(literal) = walk.next_literal(rows) else {
             return false;
@@ -24,18 +24,6 @@ fn part_is_closed(rows: &[Row<u32>], graph: &OrderGraph, part: Walk) -> bool
         }
     }
     false
-}
-
-/// Whether a literal of the side would clash.
-pub(crate) fn side_is_closed(rows: &[Row<u32>], graph: &OrderGraph, side: Side) -> bool
-    requires { All (IsRowBelow graph.now.nodes) rows.now }
-{
-    if let Some(left) = side.denied {
-        if part_is_closed(rows, graph, Walk::new(rows, !side.negated, left)) {
-            return true;
-        }
-    }
-    part_is_closed(rows, graph, Walk::new(rows, side.negated, side.root))
 }
 
 /// Whether the literal clashes together with one of the part, of which none would by itself.
@@ -137,7 +125,16 @@ pub(crate) fn count_open(
         let is_closed = if in_full {
             is_as_good_as_closed(rows, graph, negated, root)
         } else {
-            part_is_closed(rows, graph, Walk::new(rows, negated, root))
+            let denied = None;
+            side_is_closed(
+                rows,
+                graph,
+                Side {
+                    negated,
+                    root,
+                    denied,
+                },
+            )
         };
         if !is_closed {
             count = count.saturating_add(1);

@@ -62,16 +62,16 @@ pub(crate) struct Changes {
     /// How much there was at each split that waits.
     moments: Vec<Moment>,
     /// The nodes that reach more.
-    grown: Bits,
+    pub(crate) grown: Bits,
     /// The ends of the new edges, and all that they reach.
     reached: Bits,
     /// These, the starts of the denied edges that end in one of them, and all that those starts reach.
     closing: Bits,
     /// What the starts of denied edges newly reach, with the starts of the new ones.
-    starting: Bits,
+    pub(crate) starting: Bits,
     /// The nodes that a new literal names, and those that it denies.
-    named: Bits,
-    denied: Bits,
+    pub(crate) named: Bits,
+    pub(crate) denied: Bits,
     /// The nodes of which pairs may have changed.
     touched: Bits,
     /// Whether memory was refused to a list.
@@ -98,11 +98,6 @@ fn size_of(words: &[u64]) -> u64 {
             .wrapping_add(word & 0xffff_ffff);
     }
     size
-}
-
-/// The first node from `from` on that is in the set.
-fn first_node(nodes: &Bits, from: u32) -> Option<u32> {
-    u32::try_from(nodes.first_from(from as usize)?).ok()
 }
 
 impl Changes {
@@ -299,27 +294,7 @@ impl Changes {
 
     /// The first node from `from` on of which pairs may have changed.
     pub(crate) fn next_touched(&self, from: u32) -> Option<u32> {
-        first_node(&self.touched, from)
-    }
-
-    /// Whether the node reaches more.
-    pub(crate) fn has_grown(&self, node: u32) -> bool {
-        self.grown.has(node as usize)
-    }
-
-    /// Whether pairs that begin in the node may clash.
-    pub(crate) fn is_starting(&self, node: u32) -> bool {
-        self.starting.has(node as usize)
-    }
-
-    /// Whether a new literal names the node.
-    pub(crate) fn is_named(&self, node: u32) -> bool {
-        self.named.has(node as usize)
-    }
-
-    /// Whether a new literal denies the node.
-    pub(crate) fn is_denied(&self, node: u32) -> bool {
-        self.denied.has(node as usize)
+        u32::try_from(self.touched.first_from(from as usize)?).ok()
     }
 
     /// Whether the node is among these others.

@@ -1,11 +1,8 @@
-ghost use Rattle.std.specs.Prelude.{◌<◌, All};
+ghost use Rattle.std.specs.Prelude.{◌<◌};
 ghost use Rattle.order_graph.specs.Ways.{IsBelow};
-ghost use Rattle.solver.specs.Below.{IsRowBelow};
 
-use crate::tree::ors::literal_at;
-use crate::tree::side::Side;
 use order_graph::OrderGraph;
-use pc_ground::{Literal, Row};
+use pc_ground::Literal;
 
 /// Whether `a` is `b`, or reaches it by a chain.
 fn comes_to(graph: &OrderGraph, a: u32, b: u32) -> bool
@@ -54,19 +51,4 @@ pub(crate) fn pair_clashes(graph: &OrderGraph, first: Literal<u32>, second: Lite
         (Literal::Edge(b, c), Literal::NoNode(a)) => a == b || a == c,
         _ => false,
     }
-}
-
-/// Whether the literals of the side clash, where it is a literal, and what it denies is one: so nothing need be asserted.
-pub(crate) fn would_close(rows: &[Row<u32>], side: Side, graph: &OrderGraph) -> Option<bool>
-    requires { All (IsRowBelow graph.now.nodes) rows.now }
-{
-    let own = literal_at(rows, side.negated, side.root)?;
-    if graph.would_clash(own) {
-        return Some(true);
-    }
-    let Some(left) = side.denied else {
-        return Some(false);
-    };
-    let denied = literal_at(rows, !side.negated, left)?;
-    Some(graph.would_clash(denied) || pair_clashes(graph, denied, own))
 }

@@ -1,8 +1,10 @@
+use super::changes::literal_of;
 use super::conflict_sets::ConflictSets;
 use super::levels::{Levels, Said};
 use super::records::{Record, Records};
 use crate::tree::place::Place;
 use order_graph::{Clash, OrderGraph};
+use pc_ground::Literal;
 use refutation::Cut;
 use std::alloc::Global;
 use std::mem;
@@ -77,6 +79,15 @@ pub(crate) struct Failures {
     cuts: Vec<Cut>,
     /// Whether memory was refused to the forks, the levels, the scripts or the cuts.
     is_refused: bool,
+}
+
+/// Whether the literal says of the node that it is there, or that it is not.
+fn names(literal: Literal<u32>, node: u32) -> bool {
+    match literal {
+        Literal::Node(a) | Literal::NoNode(a) => a == node,
+        Literal::Edge(a, b) => a == node || b == node,
+        Literal::NoEdge(_, _) => false,
+    }
 }
 
 impl Failures {
@@ -189,7 +200,7 @@ impl Failures {
         self.end = end;
         self.note_literals(graph);
         self.conflicts.clear();
-        self.add_clash(clash);
+        self.add_clash(clash, graph);
         let level = self.forks.len();
         self.add(level);
         self.record_conflict();
@@ -221,12 +232,27 @@ impl Failures {
         self.add(level);
     }
 
+    /// Puts the level into it at which a literal first said of the node that it is there, or that it is not.
+    fn add_node(&mut self, node: u32, graph: &OrderGraph) {
+        let mut from = 0;
+        for level in 0..self.forks.len() {
+            let end = self.forks[level].literals;
+            for k in from..end {
+                if k < graph.len() && names(literal_of(graph, k), node) {
+                    self.add(level);
+                    return;
+                }
+            }
+            from = end;
+        }
+    }
+
     /// Puts the levels of the literals that clash into the conflict set.
-    fn add_clash(&mut self, clash: &Clash) {
+    fn add_clash(&mut self, clash: &Clash, graph: &OrderGraph) {
         match clash {
             Clash::Cycle(nodes) => self.add_edges(nodes.as_slice(), false),
             Clash::Path(nodes) => self.add_edges(nodes.as_slice(), true),
-            Clash::Absent(node) => self.add_said(Said::Node(*node)),
+            Clash::Absent(node) => self.add_node(*node, graph),
         }
     }
 

@@ -4,25 +4,24 @@ use pc_ground::Literal;
 use std::alloc::Global;
 use std::collections::HashMap;
 
-/// What a clash asks of the literals: an edge, a denied edge, or whether a node is there.
+/// What a clash asks of the literals: an edge, or a denied edge.
 #[derive(Clone, Copy, PartialEq, Eq, Hash)]
 pub(crate) enum Said {
     Edge(u32, u32),
     NoEdge(u32, u32),
-    Node(u32),
 }
 
-/// What the literal says, each at least once: an edge says that its nodes are there, too.
-fn said_by(literal: Literal<u32>) -> [Said; 3] {
+/// The edge or the denied edge that the literal is.
+fn said_by(literal: Literal<u32>) -> Option<Said> {
     match literal {
-        Literal::Edge(a, b) => [Said::Edge(a, b), Said::Node(a), Said::Node(b)],
-        Literal::NoEdge(a, b) => [Said::NoEdge(a, b); 3],
-        Literal::Node(a) | Literal::NoNode(a) => [Said::Node(a); 3],
+        Literal::Edge(a, b) => Some(Said::Edge(a, b)),
+        Literal::NoEdge(a, b) => Some(Said::NoEdge(a, b)),
+        Literal::Node(_) | Literal::NoNode(_) => None,
     }
 }
 
-/// At which level of the search each thing was said first: level 0 is what the whole tree asserts, and each split begins
-/// the next one.
+/// At which level of the search each edge was asserted or denied first: level 0 is what the whole tree asserts, and each
+/// split begins the next one.
 #[derive(Drop)]
 pub(crate) struct Levels {
     levels: HashMap<Said, usize>,
@@ -54,7 +53,7 @@ impl Levels {
     pub(crate) fn note(&mut self, graph: &OrderGraph, end: usize, level: usize) {
         for k in self.known..end {
             if k < graph.len() {
-                for said in said_by(literal_of(graph, k)) {
+                if let Some(said) = said_by(literal_of(graph, k)) {
                     self.put(said, level);
                 }
             }
@@ -73,7 +72,7 @@ impl Levels {
     pub(crate) fn cut(&mut self, graph: &OrderGraph, count: usize, level: usize) {
         for k in count..self.known {
             if k < graph.len() {
-                for said in said_by(literal_of(graph, k)) {
+                if let Some(said) = said_by(literal_of(graph, k)) {
                     if self.level_of(said) >= level {
                         self.levels.remove(&said);
                     }

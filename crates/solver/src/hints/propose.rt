@@ -6,9 +6,8 @@ ghost use Rattle.solver.specs.Opens.{IsFurther, IsSame, IsMarked};
 
 use super::agenda::Agenda;
 use super::alternatives::side_is_closed;
-use super::closing::would_close;
 use super::standing::Standing;
-use super::walk::Walk;
+use super::walk::SideWalk;
 use crate::tree::numbered_tree::NumberedTree;
 use crate::tree::ors::{is_or, sides};
 use crate::tree::place::Place;
@@ -19,76 +18,40 @@ use pc_ground::{Row, Version};
 use std::sync::ledger::Ledger;
 use undo_trail::Steps;
 
-/// Whether the literals that the part at `root` asserts under this sign clash, each of which is asked before
-/// it is asserted.
-fn part_clashes<L: Ledger>(
+/// Whether the literals that the side asserts clash. Each is asked before the one before it is asserted, and so the last
+/// one never is.
+fn side_clashes<L: Ledger>(
     rows: &[Row<u32>],
-    negated: bool,
-    root: usize,
+    side: Side,
     graph: &mut OrderGraph,
     steps: &mut Steps<L>,
 ) -> Result<bool, Memory>
-    requires below { All (IsRowBelow graph.old.nodes) rows.now }
+    requires { All (IsRowBelow graph.old.nodes) rows.now }
     ensures { IfOk result (λ _. IsFurther graph.old graph.new) }
 {
-    let mut walk = Walk::new(rows, negated, root);
-    for _turn in 0..rows.len() {
+    let mut walk = SideWalk::new(rows, side);
+    let mut before = walk;
+    for turn in 0..rows.len() {
         let Some(literal) = walk.next_literal(rows) else {
             return Ok(false);
         };
-        if graph.would_clash(literal) {
-            return Ok(true);
+        if turn > 0 {
+            if let Some(asked) = before.next_literal(rows) {
+                if let Added::Clash(_) = graph.assert_literal(asked, steps)? {
+                    return Ok(true);
+                }
+            }
         }
-        if let Added::Clash(_) = graph.assert_literal(literal, steps)? {
+        if graph.would_clash(literal) {
             return Ok(true);
         }
     }
     Ok(false)
 }
 
-/// Whether the literals that the side asserts clash.
-fn side_clashes<L: Ledger>(
-    tree: &NumberedTree,
-    side: Side,
-    graph: &mut OrderGraph,
-    steps: &mut Steps<L>,
-) -> Result<bool, Memory>
-    requires side { IsSideIn (spelled tree.now.rows) side }
-    requires nodes { graph.old.nodes ≡ length tree.now.nodes }
-    ensures { IfOk result (λ _. IsFurther graph.old graph.new) }
-{
-    if let Some(left) = side.denied {
-        if part_clashes(tree.rows(), !side.negated, left, graph, steps)? {
-            return Ok(true);
-        }
-    }
-    part_clashes(tree.rows(), side.negated, side.root, graph, steps)
-}
-
-/// Whether the side is closed at once: whether its literals clash with those asserted. A side of one literal
-/// is not asserted. The graph is as before.
-fn is_closed<L: Ledger>(
-    tree: &NumberedTree,
-    side: Side,
-    mark: Mark,
-    graph: &mut OrderGraph,
-    steps: &mut Steps<L>,
-) -> Result<bool, Memory>
-    requires side { IsSideIn (spelled tree.now.rows) side }
-    requires nodes { graph.old.nodes ≡ length tree.now.nodes }
-    requires marked { IsMarked graph.old mark }
-    ensures graph { IfOk result (λ _. IsSame graph.old graph.new) }
-{
-    if let Some(closes) = would_close(tree.rows(), side, graph) {
-        return Ok(closes);
-    }
-    let clashes = side_clashes(tree, side, graph, steps)?;
-    graph.undo(mark, steps);
-    Ok(clashes)
-}
-
-/// Whether the side is closed at once: once a side has failed, whether a literal of it would clash. One that was closed is
-/// not asked again: on its branch a closed side stays closed.
+/// Whether the side is closed at once: whether its literals clash with those asserted, and once a side has failed whether
+/// one of them does by itself. One that was closed is not asked again: on its branch a closed side stays closed. The graph
+/// is as before.
 fn ask_side<L: Ledger>(
     is_known: bool,
     has_failed: bool,
@@ -109,7 +72,9 @@ fn ask_side<L: Ledger>(
     if has_failed {
         return Ok(side_is_closed(tree.rows(), graph, side));
     }
-    is_closed(tree, side, mark, graph, steps)
+    let clashes = side_clashes(tree.rows(), side, graph, steps)?;
+    graph.undo(mark, steps);
+    Ok(clashes)
 }
 
 /// The standing with its closed sides as they are now. The left side is asked first, and in version 1 the right one

@@ -4,6 +4,7 @@ ghost use Rattle.solver.specs.Below.{IsRowBelow};
 
 use crate::tree::ors::literal_at;
 use crate::tree::rows::row_at;
+use crate::tree::side::Side;
 use pc_ground::{Literal, Row, RowKind};
 
 /// How many positions the tree at `p` has, or 0 past the end.
@@ -83,5 +84,39 @@ impl Walk {
             return Some(at);
         }
         None
+    }
+}
+
+/// A walk over the literals that a side asserts: first that what it denies is false, and then its own part.
+#[derive(Clone, Copy)]
+pub(crate) struct SideWalk {
+    denied: Option<Walk>,
+    own: Walk,
+}
+
+impl SideWalk {
+    pub(crate) fn new(rows: &[Row<u32>], side: Side) -> SideWalk {
+        let denied = match side.denied {
+            Some(left) => Some(Walk::new(rows, !side.negated, left)),
+            None => None,
+        };
+        let own = Walk::new(rows, side.negated, side.root);
+        SideWalk { denied, own }
+    }
+
+    /// The next literal.
+    pub(crate) fn next_literal(&mut self, rows: &[Row<u32>]) -> Option<Literal<u32>>
+        ensures { IfSome result (λ l. (n : ℕ) → All (IsRowBelow n) rows.now → IsBelow n l) }
+    {
+        if let Some(walk) = self.denied {
+            let mut walk = walk;
+            let literal = walk.next_literal(rows);
+            if literal.is_some() {
+                self.denied = Some(walk);
+                return literal;
+            }
+            self.denied = None;
+        }
+        self.own.next_literal(rows)
     }
 }

@@ -20,6 +20,7 @@ use std::sync::ledger::Ledger;
 use undo_trail::Steps;
 
 /// Splits a candidate and goes on with its left side, while the right side waits. `first` is the first one.
+#[tactic(auto, using(crate::proofs::HasDescended::one_open))]
 pub(crate) fn advance<L: Ledger>(
     alloc: Global,
     tree: &NumberedTree,

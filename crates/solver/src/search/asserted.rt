@@ -1,5 +1,5 @@
 ghost use Rattle.std.specs.Prelude.{◌≡◌, ◌<◌, ◌^◌, ◌++◌, ◌∷◌, [], ◌↔◌, Contains, IsTrue, OnOk, OnErr, length, slice_index, take};
-ghost use Rattle.solver.specs.Indexed.{index_of, IsIndexed, IsPut, IsPlacePut};
+ghost use Rattle.solver.specs.Indexed.{slot_of, IsIndexed, IsPut};
 
 use crate::tree::place::Place;
 use pc_common::Memory;
@@ -11,19 +11,14 @@ use std::marker::Model;
 /// entry itself tells whether it is the right one (Briggs and Torczon 1993).
 pub(crate) struct Asserted {
     items: Vec<Place>,
-    /// Where each position stands that has no sign, and where each that has one.
-    plain: Vec<usize>,
-    negated: Vec<usize>,
+    /// Where each position stands: at twice its number, and one behind that under a sign.
+    index: Vec<usize>,
 }
 
 // By hand: docs/DECISIONS.md, "Drops are written by hand".
 impl Drop for Asserted {
     fn drop(self) {
-        let Asserted {
-            items: _,
-            plain: _,
-            negated: _,
-        } = self;
+        let Asserted { items: _, index: _ } = self;
     }
 }
 
@@ -36,154 +31,72 @@ impl Model for Asserted {
 
     ghost view = { λ s. s.items.items };
 
-    ghost invariant = { λ s. IsIndexed s.items.items s.plain.items s.negated.items };
+    ghost invariant = { λ s. IsIndexed s.items.items s.index.items };
 }
 
 /// Whether the two are one.
 fn is_same(a: Place, b: Place) -> bool
     ensures { IsTrue result ↔ (a ≡ b) }
 {
-    if a.position != b.position {
-        return false;
-    }
-    if a.negated != b.negated {
-        return false;
-    }
-    true
+    a.position == b.position && a.negated == b.negated
 }
 
-/// What the index says of a position: 0 past its end.
-fn index_at(index: &[usize], position: usize) -> usize
-    ensures { result ≡ slice_index index.now position }
-{
-    if position < index.len() {
-        index[position]
-    } else {
-        0
-    }
-}
-
-/// What the index says of a place.
-fn index_of(plain: &[usize], negated: &[usize], place: Place) -> usize
-    ensures { result ≡ index_of plain.now negated.now place }
+/// Where the index speaks of the place.
+fn slot_of(place: Place) -> usize
+    requires { place.position < 2 ^ 63 }
+    ensures { result ≡ slot_of place }
 {
     if place.negated {
-        index_at(negated, place.position)
+        2 * place.position + 1
     } else {
-        index_at(plain, place.position)
+        2 * place.position
     }
 }
 
-/// Puts `k` into the index at this position. The index grows up to it.
-fn put_at(index: &mut Vec<usize>, position: usize, k: usize) -> Result<(), Memory>
-    requires { position < 2 ^ 63 }
-    ensures put { OnOk result (IsPut index.old.items position k index.new.items) }
+/// What the index says of the place: 0 past its end.
+fn index_at(index: &[usize], place: Place) -> usize
+    ensures { result ≡ slice_index index.now (slot_of place) }
+{
+    if place.position >= index.len() {
+        return 0;
+    }
+    let slot = slot_of(place);
+    if slot < index.len() { index[slot] } else { 0 }
+}
+
+/// Puts `k` into the index at this slot. The index grows up to it.
+fn put_at(index: &mut Vec<usize>, slot: usize, k: usize) -> Result<(), Memory>
+    ensures put { OnOk result (IsPut index.old.items slot k index.new.items) }
     ensures err { OnErr result (index.new.items ≡ index.old.items) }
 {
-    if position >= index.len() {
-        index.resize(position + 1, 0)?;
+    if slot >= index.len() {
+        index.resize(slot.saturating_add(1), 0)?;
     }
-    index[position] = k;
+    index[slot] = k;
     Ok(())
-}
-
-/// Puts `k` into the index at this place.
-fn put(
-    plain: &mut Vec<usize>,
-    negated: &mut Vec<usize>,
-    place: Place,
-    k: usize,
-) -> Result<(), Memory>
-    requires { place.position < 2 ^ 63 }
-    ensures put { OnOk result (IsPlacePut plain.old.items negated.old.items place k plain.new.items negated.new.items) }
-    ensures err { OnErr result ((plain.new.items ≡ plain.old.items) × (negated.new.items ≡ negated.old.items)) }
-{
-    if place.negated {
-        put_at(negated, place.position, k)
-    } else {
-        put_at(plain, place.position, k)
-    }
 }
 
 /// Whether the place is on the list.
-fn is_on(items: &Vec<Place>, plain: &Vec<usize>, negated: &Vec<usize>, place: Place) -> bool
-    requires { IsIndexed items.now.items plain.now.items negated.now.items }
-    ensures { IsTrue result ↔ Contains items.now.items place }
+fn is_on(items: &[Place], index: &[usize], place: Place) -> bool
+    requires { IsIndexed items.now index.now }
+    ensures { IsTrue result ↔ Contains items.now place }
 {
-    let k = index_of(plain, negated, place);
-    if k < items.len() {
-        is_same(items[k], place)
-    } else {
-        false
-    }
+    let k = index_at(index, place);
+    k < items.len() && is_same(items[k], place)
 }
 
-/// Puts one last that is on the list.
-fn push_known(
-    items: &mut Vec<Place>,
-    plain: &Vec<usize>,
-    negated: &Vec<usize>,
-    place: Place,
-) -> Result<(), Memory>
-    requires indexed { IsIndexed items.old.items plain.now.items negated.now.items }
-    requires known { Contains items.old.items place }
-    ensures indexed { IsIndexed items.new.items plain.now.items negated.now.items }
-    ensures pushed { OnOk result (items.new.items ≡ items.old.items ++ place ∷ []) }
-{
-    items.push(place)?;
-    Ok(())
-}
-
-/// Puts into the index that the place, which is not on the list, is to be the next one.
-fn note_next(
-    items: &Vec<Place>,
-    plain: &mut Vec<usize>,
-    negated: &mut Vec<usize>,
-    place: Place,
-) -> Result<(), Memory>
+/// Has the index say of the place where it stands on the list with it last.
+fn note(items: &[Place], index: &mut Vec<usize>, place: Place) -> Result<(), Memory>
     requires small { place.position < 2 ^ 63 }
-    requires indexed { IsIndexed items.now.items plain.old.items negated.old.items }
-    requires absent { Contains items.now.items place → ⊥ }
-    ensures indexed { IsIndexed items.now.items plain.new.items negated.new.items }
-    ensures noted { OnOk result (index_of plain.new.items negated.new.items place ≡ length items.now.items) }
+    requires indexed { IsIndexed items.now index.old.items }
+    ensures indexed { IsIndexed items.now index.new.items }
+    ensures noted { OnOk result (IsIndexed (items.now ++ place ∷ []) index.new.items) }
 {
-    put(plain, negated, place, items.len())?;
-    Ok(())
-}
-
-/// Puts one last of which the index says so.
-fn push_noted(
-    items: &mut Vec<Place>,
-    plain: &Vec<usize>,
-    negated: &Vec<usize>,
-    place: Place,
-) -> Result<(), Memory>
-    requires indexed { IsIndexed items.old.items plain.now.items negated.now.items }
-    requires noted { index_of plain.now.items negated.now.items place ≡ length items.old.items }
-    ensures indexed { IsIndexed items.new.items plain.now.items negated.now.items }
-    ensures pushed { OnOk result (items.new.items ≡ items.old.items ++ place ∷ []) }
-{
-    items.push(place)?;
-    Ok(())
-}
-
-/// Puts the place last.
-fn push_indexed(
-    items: &mut Vec<Place>,
-    plain: &mut Vec<usize>,
-    negated: &mut Vec<usize>,
-    place: Place,
-) -> Result<(), Memory>
-    requires small { place.position < 2 ^ 63 }
-    requires indexed { IsIndexed items.old.items plain.old.items negated.old.items }
-    ensures indexed { IsIndexed items.new.items plain.new.items negated.new.items }
-    ensures pushed { OnOk result (items.new.items ≡ items.old.items ++ place ∷ []) }
-{
-    if is_on(items, plain, negated, place) {
-        return push_known(items, plain, negated, place);
+    if is_on(items, index, place) {
+        return Ok(());
     }
-    note_next(items, plain, negated, place)?;
-    push_noted(items, plain, negated, place)
+    put_at(index, slot_of(place), items.len())?;
+    Ok(())
 }
 
 impl Asserted {
@@ -192,8 +105,7 @@ impl Asserted {
     {
         Asserted {
             items: Vec::new(alloc),
-            plain: Vec::new(alloc),
-            negated: Vec::new(alloc),
+            index: Vec::new(alloc),
         }
     }
 
@@ -214,12 +126,7 @@ impl Asserted {
     pub(crate) fn has(&self, place: Place) -> bool
         ensures { IsTrue result ↔ Contains self.now place }
     {
-        let k = index_of(&self.plain, &self.negated, place);
-        if k < self.items.len() {
-            is_same(self.items[k], place)
-        } else {
-            false
-        }
+        is_on(&self.items, &self.index, place)
     }
 
     /// Puts the place last.
@@ -227,7 +134,9 @@ impl Asserted {
         requires { place.position < 2 ^ 63 }
         ensures { OnOk result (self.new ≡ self.old ++ place ∷ []) }
     {
-        push_indexed(&mut self.items, &mut self.plain, &mut self.negated, place)
+        note(&self.items, &mut self.index, place)?;
+        self.items.push(place)?;
+        Ok(())
     }
 
     /// Keeps the first `count`.

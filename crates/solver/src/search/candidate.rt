@@ -21,35 +21,22 @@ fn is_untaken(asserted: &Asserted, place: Place, left: usize, right: usize) -> b
     ensures { MatchBool result (IsUntaken asserted.now place left right) (IsTaken asserted.now place left right) }
 {
     let negated = place.negated;
-    if !asserted.has(place) {
-        return false;
-    }
-    if asserted.has(Place {
-        negated,
-        position: left,
-    }) {
-        return false;
-    }
-    if asserted.has(Place {
-        negated,
-        position: right,
-    }) {
-        return false;
-    }
-    true
+    asserted.has(place)
+        && !asserted.has(Place {
+            negated,
+            position: left,
+        })
+        && !asserted.has(Place {
+            negated,
+            position: right,
+        })
 }
 
 /// Whether the two are one.
 fn is_one(a: bool, b: bool) -> bool
     ensures { MatchBool result (a ≡ b) (a ≡ b → ⊥) }
 {
-    if a {
-        return b;
-    }
-    if b {
-        return false;
-    }
-    true
+    a == b
 }
 
 /// Whether the place is an Or on the branch that has no side on it.

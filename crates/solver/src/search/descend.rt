@@ -18,6 +18,7 @@ use undo_trail::Steps;
 
 /// Enters the side on the first branch. Where its literals clash, a leaf closes the branch and
 /// the next one that waits is entered, until a branch stays open (true) or none waits (false).
+#[tactic(auto, using(crate::proofs::HasDescended::one_open))]
 pub(crate) fn descend<L: Ledger>(
     alloc: Global,
     tree: &NumberedTree,

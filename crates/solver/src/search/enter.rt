@@ -57,6 +57,7 @@ fn enter_row<L: Ledger>(
 
 /// Asserts what the part at `root` asserts under this sign, in preorder, up to the first clash. The walk is
 /// a loop, which goes past the whole of an Or.
+#[tactic(auto, using(crate::proofs::HasAsserted::length_spelled))]
 fn enter_part<L: Ledger>(
     tree: &NumberedTree,
     negated: bool,

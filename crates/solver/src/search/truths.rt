@@ -20,6 +20,7 @@ pub(crate) fn flag_at(flags: &[bool], p: usize) -> bool
 }
 
 /// The flags of the two children of the And or Or at `p`.
+#[tactic(auto, using(crate::proofs::AreTruths::children_inside, crate::proofs::AreTruths::right_is))]
 fn child_flags(rows: &[Row<u32>], flags: &[bool], p: usize) -> (bool, bool)
     requires tree { IsSpelled rows.now }
     requires count { length flags.now ≡ length rows.now }

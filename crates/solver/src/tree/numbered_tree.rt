@@ -44,6 +44,7 @@ impl Model for NumberedTree {
 }
 
 /// The key of a number.
+#[tactic(auto, using(crate::proofs::ClashLeaf::key_is))]
 fn key_at(keys: &[NodeKey], k: u32) -> NodeKey
     requires { k < length keys.now }
     ensures { key_node result ≡ node_at (map key_node keys.now) k }

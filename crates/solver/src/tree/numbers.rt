@@ -12,6 +12,7 @@ use pc_ground::{Flat, Literal, NodeKey, Numbering, Row, RowKind};
 use std::alloc::Global;
 
 /// The number of a key that has one.
+#[tactic(auto, using(crate::proofs::IsKnown::number_named))]
 fn number_of(numbering: &Numbering, key: NodeKey) -> u32
     requires { IsNumbered numbering.now (key_node key) }
     ensures is { node_at numbering.now result ≡ key_node key }
@@ -74,6 +75,7 @@ pub(crate) fn number_rows(
 }
 
 /// The keys by their numbers.
+#[tactic(auto, using(crate::proofs::IsKnown::map_one_more))]
 pub(crate) fn keys_by_number(alloc: Global, numbering: &Numbering) -> Result<Vec<NodeKey>, Memory>
     ensures { IfOk result (λ keys. map key_node keys.items ≡ numbering.now) }
 {

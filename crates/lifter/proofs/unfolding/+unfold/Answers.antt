@@ -1,4 +1,4 @@
-use Rattle.std.proofs.{Common.{◌≡◌, ◌<◌, ◌+◌, ℕ, sym, subst, ◌∙◌, ap, arith}, lemmas.Result.{on_ok_weaker}}
+use Rattle.std.proofs.{Common.{◌≡◌, ◌<◌, ◌+◌, ℕ, refl, sym, subst, ◌∙◌, ap, arith}, lemmas.Result.{on_ok_weaker}}
 use Rattle.pc_ground.specs.{Tree.{Tree, leaf}, Keys.{literal_node}}
 use Rattle.pc_common.specs.World.{Node}
 use Rattle.lifted_facts.specs.{PlainFacts.{PlainFact, plain_fact}, Lifted.{HasFact}}
@@ -48,6 +48,7 @@ unfold_either-mark-requires t c =
     let g = plain_fact c.args.first.now in let h = plain_fact c.args.second.now in (
       rows,
       (
+        refl,
         f,
         c.requires.has,
         both_stay case rows f g h c.requires.are c.requires.kind c.args.at (sym c.kind_of_fact.ensures ∙ c.in-Open.is)
@@ -63,7 +64,7 @@ unfold_either-returns-in-Open-kind_of_fact t c =
     let two = sym c.kind_of_fact-in-Open.ensures ∙ c.in-Open-kind_of_fact.is in
     both_ok c.mark.result
     (λ moves has. both_told case rows f g h c.requires.are c.requires.kind s c.mark.new.state c.args.at one two c.requires.stands
-    (moves rows (f, c.requires.has, both_stay case rows f g h c.requires.are c.requires.kind c.args.at one two c.requires.stands)) has)
+    (moves rows (refl, f, c.requires.has, both_stay case rows f g h c.requires.are c.requires.kind c.args.at one two c.requires.stands)) has)
     c.mark.ensures.moves c.mark.ensures.has
 
 -- only the second side is False

@@ -2,7 +2,8 @@ use Rattle.std.{proofs.{Common.{true, Some, inl, inr, refl, sym, subst}, lemmas.
 use Rattle.pc_ground.specs.{Keys.{key_node, literal_node}, Tree.{leaf}, declared.literal.Literal.{Literal, TheVariants.{Edge as an_edge}}}
 use Rattle.pc_ground.specs.declared.node_key.NodeKey.{NodeKey}
 use Rattle.lifted_facts.specs.PlainFacts.{one_node, one_edge}
-use Rattle.lifter.{specs.{KnownFacts.{IsPart, edge, present}, States.{branch_of}, Unfoldings.{HasUnfolded}}, proofs.StateMoves.{moves_then, moved_fact}}
+use Rattle.refutation.specs.BranchFacts.{edge, present}
+use Rattle.lifter.{specs.{KnownFacts.{IsPart}, States.{branch_of}, Unfoldings.{HasUnfolded}}, proofs.StateMoves.{moves_then, moved_fact}}
 use Rattle.lifter.proofs.UnfoldedFacts.{both_ok, literal_unfolded, literal_marked, fact_as}
 use Rattle.lifter.proofs.unfolding.mark_literal.Goals as goal
 

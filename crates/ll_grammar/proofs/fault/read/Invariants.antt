@@ -1,14 +1,14 @@
 use Rattle.std.proofs.Common.{reverse, length}
-use Rattle.ll_grammar.specs.{Predictable.{IsReady}, Steps.{IsRead}, declared.grammar.Step.{Step}}
+use Rattle.ll_grammar.specs.{Predictable.{IsReady}, Predictions.{IsRead}, declared.grammar.Prediction.{Prediction}}
 use Rattle.ll_grammar.proofs.fault.read.Given as goal
 
--- the step of the symbols that are left is the step of all
+-- the prediction of the symbols that are left is the prediction of all
 abbrev pub invariant-loop-symbol : goal.invariant-loop-symbol
 invariant-loop-symbol g l = record {
   ready : IsReady g.N.Grammar.rules g.N.Grammar.follow (reverse l.stack.items);
-  same : (step : Step) (after : _)
-      → IsRead g.N.Grammar.rules g.N.Grammar.follow (reverse l.stack.items) l.class step after
-      → IsRead g.N.Grammar.rules g.N.Grammar.follow (reverse l.initial.stack.items) l.class step after;
+  same : (prediction : Prediction) (after : _)
+      → IsRead g.N.Grammar.rules g.N.Grammar.follow (reverse l.stack.items) l.class prediction after
+      → IsRead g.N.Grammar.rules g.N.Grammar.follow (reverse l.initial.stack.items) l.class prediction after;
 }
 
 abbrev pub decreases-loop-symbol : goal.decreases-loop-symbol

@@ -1,28 +1,14 @@
-use Rattle.std.proofs.Common.{refl, sym, subst, List, []}
-use Rattle.pc_common.specs.{World.{Node}, Steps.{Step}}
+use Rattle.std.proofs.Common.{refl, []}
 use Rattle.pc_ground.{specs.Refutes.{IsPartial}, proofs.Refuted.{refutation_sound}}
-use Rattle.solver.{specs.{Renamed.{tree_over}, Spelled.{spelled}, Statuses.{IsStatus}, declared.search.find.SearchStatus.{SearchStatus}}, proofs.IsTurn.{searching}}
+use Rattle.solver.{specs.{Renamed.{tree_over}, Spelled.{spelled}}, proofs.IsTurn.{searching}}
 use Rattle.solver.proofs.search.settle.Goals as goal
 
 pub returns-in-Refuted-clause-turn : goal.returns-in-Refuted-clause-turn
 returns-in-Refuted-clause-turn c =
     let t = tree_over c.args.tree.nodes (spelled c.args.tree.rows) in
-    let F : SearchStatus → Type 0 = IsStatus c.args.version c.args.tree c.args.branch in
-    let P : List (Step Node) → Type 0 = λ ss. IsPartial c.args.version t ss [] in
-    let closed = subst P (sym c.into_refutation.ensures) (subst F c.in-Refuted.is c.requires) in
+    let closed : IsPartial c.args.version t c.into_refutation.result [] = rw c.into_refutation.ensures (rw c.in-Refuted.is at c.requires) in
     (closed, refutation_sound c.args.version t c.into_refutation.result closed)
-
-pub returns-in-Satisfied-clause-turn : goal.returns-in-Satisfied-clause-turn
-returns-in-Satisfied-clause-turn c =
-    let F : SearchStatus → Type 0 = IsStatus c.args.version c.args.tree c.args.branch in
-    subst F c.in-Satisfied.is c.requires
-
-pub invariant_of-result : goal.invariant_of-result
-invariant_of-result c =
-    let F : SearchStatus → Type 0 = IsStatus c.args.version c.args.tree c.args.branch in
-    subst F c.in-Undecided.is c.requires
 
 pub returns-in-Undecided-clause-turn : goal.returns-in-Undecided-clause-turn
 returns-in-Undecided-clause-turn c =
-    let F : SearchStatus → Type 0 = IsStatus c.args.version c.args.tree c.args.branch in
-    (refl, refl, refl, searching c.args.version c.args.tree c.args.branch c.in-Undecided.first (subst F c.in-Undecided.is c.requires))
+    (refl, refl, refl, searching c.args.version c.args.tree c.args.branch c.in-Undecided.first _ (rw c.in-Undecided.is at c.requires) refl)

@@ -2,61 +2,38 @@ use Rattle.std.proofs.Common.{◌≤◌, ◌<◌, ◌+◌, ◌∙◌, ◌++◌, 
 use Rattle.pc_common.specs.Steps.{split}
 use Rattle.solver.specs.{Spelled.{spelled}, Places.{place_signed, side_positions}, Opens.{positions, opens}, Weights.{weight}, Descents.{IsLonger, HasMore}}
 use Rattle.solver.specs.{Statuses.{status_weight}, declared.{search.find.SearchStatus.{SearchStatus}, search.later.Later.{Later}}}
-use Rattle.solver.proofs.HasDescended.{one_open, more_longer, advanced}
+use Rattle.solver.proofs.HasDescended.{more_longer, advanced, lighter_split}
 use Rattle.order_graph.proofs.Results.{if_ok}
 use Rattle.solver.proofs.search.advance.advance.Goals as goal
 
-pub push_split-requires : goal.push_split-requires
-push_split-requires g c =
-    let b = c.args.branch.now in
-    let some = one_open c.args.version c.args.tree.now b [] c.requires.state in
-    rw c.choose.ensures.rest.steps some
-
-pub sides-requires-clause-is_or : goal.sides-requires-clause-is_or
-sides-requires-clause-is_or g c =
-    let candidate = c.in_ok-place.ensures.found in
-    (candidate.left, candidate.right, candidate.is_or)
-
-pub find-requires : goal.find-requires
-find-requires g c =
-    let t = spelled c.args.tree.now.rows in
+pub find-requires-clause-state : goal.find-requires-clause-state
+find-requires-clause-state g c =
     let b = c.args.branch.now in
     let chosen = c.choose.new.branch in
     let later : Later = record { count = c.len-count.result; mark = c.mark-mark.result; side = c.sides.result.1 } in
     let split_at = split c.in_ok-place.place.negated c.in_ok-place.place.position in
-    let next =
-    advanced c.args.version c.args.tree.now.nodes t b.graph c.mark-mark.new.self chosen.graph b.asserted chosen.asserted b.later.items
-    c.push.new.self.items b.refutation c.push_split.new.self later (place_signed c.in_ok-place.place) c.sides.result c.requires.state
+    advanced c.args.version c.args.tree.now.nodes (spelled c.args.tree.now.rows) b.graph c.mark-mark.new.self chosen.graph b.asserted chosen.asserted
+    b.later.items c.push.new.self.items b.refutation c.push_split.new.self later (place_signed c.in_ok-place.place) c.sides.result c.requires.state
     c.in_ok-place.ensures.found
     c.mark-mark.ensures.graph c.in_ok-place.ensures.graph c.choose.ensures.asserted c.sides.ensures.sides
     (c.len-count.ensures ∙ ap length c.choose.ensures.asserted) c.mark-mark.ensures.place refl
     (c.in_ok-push.ensures.items ∙ ap (λ ls. ls ++ later ∷ []) c.choose.ensures.rest.later)
-    (c.in_ok-push_split.ensures ∙ ap (λ ss. ss ++ split_at ∷ []) c.choose.ensures.rest.steps) in record {
-      side = c.sides.ensures.left_in;
-      no_false = c.requires.no_false;
-      state = next.0;
-    }
+    (c.in_ok-push_split.ensures ∙ ap (λ ss. ss ++ split_at ∷ []) c.choose.ensures.rest.steps)
 
 pub returns-clause-lighter : goal.returns-clause-lighter
 returns-clause-lighter g c =
     let t = spelled c.args.tree.now.rows in
     let b = c.args.branch.now in
-    let chosen = c.choose.new.branch in
+    let here = c.choose.new.branch.asserted in
     let later : Later = record { count = c.len-count.result; mark = c.mark-mark.result; side = c.sides.result.1 } in
-    let split_at = split c.in_ok-place.place.negated c.in_ok-place.place.position in
-    let next =
-    advanced c.args.version c.args.tree.now.nodes t b.graph c.mark-mark.new.self chosen.graph b.asserted chosen.asserted b.later.items
-    c.push.new.self.items b.refutation c.push_split.new.self later (place_signed c.in_ok-place.place) c.sides.result c.requires.state
-    c.in_ok-place.ensures.found
-    c.mark-mark.ensures.graph c.in_ok-place.ensures.graph c.choose.ensures.asserted c.sides.ensures.sides
-    (c.len-count.ensures ∙ ap length c.choose.ensures.asserted) c.mark-mark.ensures.place refl
-    (c.in_ok-push.ensures.items ∙ ap (λ ls. ls ++ later ∷ []) c.choose.ensures.rest.later)
-    (c.in_ok-push_split.ensures ∙ ap (λ ss. ss ++ split_at ∷ []) c.choose.ensures.rest.steps) in
+    let less =
+    lighter_split c.args.version t b.asserted here b.later.items c.push.new.self.items later (place_signed c.in_ok-place.place) c.sides.result
+    c.in_ok-place.ensures.found c.choose.ensures.asserted c.sides.ensures.sides (c.len-count.ensures ∙ ap length c.choose.ensures.asserted) refl
+    (c.in_ok-push.ensures.items ∙ ap (λ ls. ls ++ later ∷ []) c.choose.ensures.rest.later) in
     let W : SearchStatus → ℕ = status_weight c.args.tree.now c.find.new.branch in
-    if_ok
-    (λ found. W found ≤ 1 + weight t (opens t (positions chosen.asserted ++ side_positions t c.sides.result.0) chosen.asserted c.push.new.self.items))
+    if_ok (λ found. W found ≤ 1 + weight t (opens t (positions here ++ side_positions t c.sides.result.0) here c.push.new.self.items))
     (λ found. W found < 1 + weight t (opens t (positions b.asserted) b.asserted b.later.items)) c.find.result c.find.ensures.lighter
-    (λ found h. omega (arith, h, next.1))
+    (λ found h. omega (arith, h, less))
 
 pub returns-clause-longer : goal.returns-clause-longer
 returns-clause-longer g c =

@@ -1,6 +1,6 @@
-use Rattle.std.proofs.Common.{◌≡◌, map, arith, subst, ℕ, length}
+use Rattle.std.proofs.Common.{◌≡◌, map, arith, length}
 use Rattle.pc_ground.specs.Keys.{key_node}
-use Rattle.solver.{specs.Shown.{ArePresent}, proofs.Shown.{present_more}}
+use Rattle.solver.proofs.Shown.{present_more}
 use Rattle.solver.proofs.search.answer.present_nodes.Goals as goal
 
 pub loop-k-preserved : goal.loop-k-preserved
@@ -10,6 +10,5 @@ loop-k-preserved c =
 
 pub returns : goal.returns
 returns c =
-    let P : ℕ → Type 0 = λ n. ArePresent c.args.tree.now.nodes c.args.graph.now.literals n (map key_node c.loop-k.nodes) in
     let same : c.loop-k.k ≡ length c.args.tree.now.nodes = omega arith in
-    subst P same c.loop-k.invariant
+    rw same at c.loop-k.invariant

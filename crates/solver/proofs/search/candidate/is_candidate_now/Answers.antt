@@ -1,12 +1,9 @@
-use Rattle.std.{proofs.{Common.{◌≡◌, ℕ, List, Some, subst}, lemmas.Bool.{MatchBool-at_true}}, specs.Prelude.{IsTrue, ◌↔◌}}
-use Rattle.pc_ground.specs.{declared.{literal.Literal.{Literal}, row.Row.{Row}}, Tree.{Tree}, Refutes.{subtree_at}}
-use Rattle.solver.{specs.{Spelled.{spelled}, Met.{IsMet}}, proofs.IsChosen.{pending_candidate}}
+use Rattle.std.proofs.lemmas.Bool.{MatchBool-at_true}
+use Rattle.solver.{specs.Spelled.{spelled}, proofs.IsChosen.{pending_candidate}}
 use Rattle.solver.proofs.search.candidate.is_candidate_now.Goals as goal
 
 pub returns-clause-candidate : goal.returns-clause-candidate
 returns-clause-candidate c = λ yes.
-    let T : List (Row ℕ) → List (Literal ℕ) → Type 0 = λ rows ls.
-    (s : Tree ℕ) → subtree_at (spelled rows) c.args.place.position ≡ Some s → IsTrue c.in_ok-truth.truth ↔ IsMet ls s in
-    let told = subst (T c.args.tree.now.rows) c.requires.literals (subst (λ rows. T rows c.args.graph.now.literals) c.rows.ensures.rows c.in_ok-truth.ensures) in
+    let told = rw (c.rows.ensures.rows, c.requires.literals) at c.in_ok-truth.ensures in
     MatchBool-at_true _ _ yes (pending_candidate (spelled c.args.tree.now.rows) c.args.asserted.now c.args.place c.in_ok-truth.truth c.is_one.result
     (MatchBool-at_true _ _ c.if-not-is_pending.false c.is_pending.ensures.pending) told c.is_one.ensures)

@@ -1,37 +1,24 @@
-use Rattle.std.{proofs.Common.{◌≡◌, ◌≤◌, ◌++◌, ◌∷◌, List, [], length, ap, sym, ◌∙◌, subst, arith}, specs.Prelude.{Option}}
-use Rattle.pc_common.specs.{World.{Node}, Steps.{Step}}
+use Rattle.std.proofs.Common.{◌≡◌, ◌++◌, ◌∷◌, [], length, ap, sym, ◌∙◌, arith}
 use Rattle.pc_ground.specs.Refutes.{literals_of}
-use Rattle.order_graph.specs.{Clashes.{leaf_of}, declared.clash.Clash.{Clash}}
-use Rattle.solver.specs.{Renamed.{node_at, renamed_leaf}, Spelled.{spelled}, Places.{side_positions, IsSideIn}, Leaves.{clash_step}}
-use Rattle.solver.specs.{Opens.{positions, opens, KeepsState, state_of, HasAsserted}, Branches.{branches_with}, Weights.{weight}, declared.tree.side.Side.{Side}}
-use Rattle.solver.{specs.declared.search.later.Later.{Later}, proofs.{ClashLeaf.{clash_leaf, clash_closes}, KeepsState.{closed_kept, closed_all, entered_kept}}}
-use Rattle.solver.proofs.HasDescended.{clash_in, one_open, longer_push, lighter_closed, next_inside}
+use Rattle.order_graph.specs.Clashes.{leaf_of}
+use Rattle.solver.specs.{Renamed.{node_at, renamed_leaf}, Spelled.{spelled}, Places.{side_positions}, Leaves.{clash_step}}
+use Rattle.solver.specs.{Opens.{positions, opens}, Weights.{weight}}
+use Rattle.solver.proofs.{ClashLeaf.{has_nodes, clash_closes}, KeepsState.{closed_kept, closed_all, entered_kept}}
+use Rattle.solver.proofs.HasDescended.{clash_in, longer_push, lighter_closed, next_inside}
 use Rattle.solver.proofs.search.descend.descend.Goals as goal
 
 pub close-requires-clause-below : goal.close-requires-clause-below
 close-requires-clause-below g c =
-    let t = spelled c.args.tree.now.rows in
-    let here = c.loop-branch.branch.asserted in
-    let E : Option Clash → Type 0 = HasAsserted t (side_positions t c.loop-branch.side) here c.enter_next.new.branch.graph c.enter_next.new.branch.asserted in
-    let clash = subst E c.in-Some.is c.in_ok-clash.ensures.entered in
+    let rows = c.args.tree.now.rows in
     let numbered = c.len-positions.ensures.numbered in
-    clash_in (length c.args.tree.now.nodes) c.args.tree.now.rows (positions here ++ side_positions t c.loop-branch.side)
-    c.in-Some.clash numbered.tree numbered.below clash
+    clash_in (length c.args.tree.now.nodes) rows (positions c.loop-branch.branch.asserted ++ side_positions (spelled rows) c.loop-branch.side)
+    c.in-Some.clash numbered.tree numbered.below (rw c.in-Some.is at c.in_ok-clash.ensures.entered)
 
 pub close-requires-clause-leaf : goal.close-requires-clause-leaf
 close-requires-clause-leaf g c =
     let t = spelled c.args.tree.now.rows in
-    let here = c.loop-branch.branch.asserted in
-    let E : Option Clash → Type 0 = HasAsserted t (side_positions t c.loop-branch.side) here c.enter_next.new.branch.graph c.enter_next.new.branch.asserted in
-    let clash = subst E c.in-Some.is c.in_ok-clash.ensures.entered in
-    clash_leaf c.args.tree.now.nodes (literals_of t (positions here ++ side_positions t c.loop-branch.side)) c.in-Some.clash clash
-
-pub close-requires-clause-open : goal.close-requires-clause-open
-close-requires-clause-open g c =
-    let t = spelled c.args.tree.now.rows in
-    let b = c.loop-branch.branch in
-    let some = one_open c.args.version c.args.tree.now b (side_positions t c.loop-branch.side) c.loop-branch.invariant.state in
-    rw c.enter_next.ensures.rest.steps some
+    has_nodes (node_at c.args.tree.now.nodes) (literals_of t (positions c.loop-branch.branch.asserted ++ side_positions t c.loop-branch.side))
+    (leaf_of c.in-Some.clash) (rw c.in-Some.is at c.in_ok-clash.ensures.entered)
 
 pub returns-in_default-go_back-clause-descended : goal.returns-in_default-go_back-clause-descended
 returns-in_default-go_back-clause-descended g c =
@@ -39,13 +26,12 @@ returns-in_default-go_back-clause-descended g c =
     let t = spelled c.args.tree.now.rows in
     let b = c.loop-branch.branch in
     let here = b.asserted in
-    let E : Option Clash → Type 0 = HasAsserted t (side_positions t c.loop-branch.side) here c.enter_next.new.branch.graph c.enter_next.new.branch.asserted in
-    let clash = subst E c.in-Some.is c.in_ok-clash.ensures.entered in
+    let more = side_positions t c.loop-branch.side in
     let rest = c.enter_next.ensures.rest in
     let back = c.in_default-go_back.ensures in
     closed_all c.args.version nodes t b.graph here b.later.items b.refutation c.go_back.new.branch.refutation
-    (renamed_leaf (node_at nodes) (leaf_of c.in-Some.clash)) (side_positions t c.loop-branch.side)
-    c.loop-branch.invariant.state (clash_closes nodes t (positions here ++ side_positions t c.loop-branch.side) c.in-Some.clash clash)
+    (renamed_leaf (node_at nodes) (leaf_of c.in-Some.clash)) more c.loop-branch.invariant.state
+    (clash_closes nodes t (positions here ++ more) c.in-Some.clash (rw c.in-Some.is at c.in_ok-clash.ensures.entered))
     (back.1 ∙ c.in_ok-close.ensures ∙ ap (λ ss. ss ++ clash_step nodes c.in-Some.clash ∷ []) rest.steps) (sym rest.later ∙ back.0)
 
 pub loop-branch-preserved : goal.loop-branch-preserved
@@ -60,9 +46,7 @@ loop-branch-preserved g c =
     let back = c.go_back.new.branch in
     let resumed = c.in-Some-go_back.ensures in
     let next = resumed.next in
-    let E : Option Clash → Type 0 = HasAsserted t more here entered.graph entered.asserted in
-    let clash = subst E c.in-Some.is c.in_ok-clash.ensures.entered in
-    let closes = clash_closes nodes t (positions here ++ more) c.in-Some.clash clash in
+    let closes = clash_closes nodes t (positions here ++ more) c.in-Some.clash (rw c.in-Some.is at c.in_ok-clash.ensures.entered) in
     let popped : b.later.items ≡ back.later.items ++ next ∷ [] = sym c.enter_next.ensures.rest.later ∙ resumed.popped in
     let stepped : back.refutation ≡ b.refutation ++ step ∷ [] =
     resumed.steps ∙ c.in_ok-close.ensures ∙ ap (λ ss. ss ++ step ∷ []) c.enter_next.ensures.rest.steps in
@@ -72,15 +56,10 @@ loop-branch-preserved g c =
     b.later.items back.later.items b.refutation back.refutation (renamed_leaf (node_at nodes) (leaf_of c.in-Some.clash)) next more
     c.loop-branch.invariant.state closes stepped popped c.in_ok-clash.ensures.further c.in_ok-clash.ensures.kept
     resumed.cut resumed.positions in
-    let lighter = lighter_closed t _ _ (positions here ++ more) _ gone.1 c.loop-branch.invariant.lighter in
-    let S : Side → Type 0 = λ side. IsSideIn t side in
-    let K : Side → Type 0 = λ side. KeepsState c.args.version (state_of nodes t back.graph back.asserted back.later.items back.refutation)
-    (side_positions t side) in
-    let most = weight t (branches_with c.args.tree.now c.args.branch.now (side_positions t c.args.side)) in
-    let W : Side → Type 0 = λ side. weight t (branches_with c.args.tree.now back (side_positions t side)) ≤ most in record {
-      inside = subst S resumed.side_is is_later.side;
-      state = subst K resumed.side_is gone.0;
-      lighter = subst W resumed.side_is lighter;
+    let lighter = lighter_closed t _ _ (positions here ++ more) _ gone.1 c.loop-branch.invariant.lighter in record {
+      inside = rw resumed.side_is at is_later.side;
+      state = rw resumed.side_is at gone.0;
+      lighter = rw resumed.side_is at lighter;
       longer = longer_push c.args.branch.now.refutation b.refutation back.refutation step c.loop-branch.invariant.longer stepped;
     }
 
@@ -92,10 +71,8 @@ returns-clause-descended g c =
     let entered = c.enter_next.new.branch in
     let more = side_positions t c.loop-branch.side in
     let rest = c.enter_next.ensures.rest in
-    let E : Option Clash → Type 0 = HasAsserted t more b.asserted entered.graph entered.asserted in
-    let came = subst E c.in_default.is c.in_ok-clash.ensures.entered in
-    let K : List Later → List (Step Node) → Type 0 = λ ls ss. KeepsState c.args.version (state_of nodes t b.graph b.asserted ls ss) more in
-    let state = subst (λ ss. K entered.later.items ss) (sym rest.steps) (subst (λ ls. K ls b.refutation) (sym rest.later) c.loop-branch.invariant.state) in
+    let came = rw c.in_default.is at c.in_ok-clash.ensures.entered in
+    let state = rw (← rest.later, ← rest.steps) at c.loop-branch.invariant.state in
     let kept =
     entered_kept c.args.version nodes t b.graph entered.graph b.asserted entered.asserted entered.later.items entered.refutation more
     state came.0 came.1 c.in_ok-clash.ensures.further in

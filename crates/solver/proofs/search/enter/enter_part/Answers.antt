@@ -1,55 +1,34 @@
-use Rattle.std.{proofs.{Common.{◌+◌, ℕ, ◌++◌, refl, sym, ap, ◌∙◌, subst, arith}, Math.Seq.{take-length}}, specs.Prelude.{Option, All}}
-use Rattle.pc_ground.specs.{Tree.{turned}, Rows.{turned_row, turned_rows}, Refutes.{all_signed, signed, subtree_at}, Walks.{Walk}}
-use Rattle.pc_ground.proofs.Turned.{size_turned}
-use Rattle.order_graph.specs.declared.clash.Clash.{Clash}
-use Rattle.solver.specs.{Below.{IsRowBelow}, Spelled.{spelled}, Places.{asserted_in, asserted_at}, Opens.{positions, HasAssertedRow}}
+use Rattle.std.proofs.{Common.{◌++◌, refl, sym, ap, ◌∙◌, arith}, Math.Seq.{take-length}}
+use Rattle.pc_ground.specs.{Tree.{turned}, Rows.{turned_rows}, Refutes.{all_signed, signed, subtree_at}}
+use Rattle.solver.specs.{Spelled.{spelled}, Places.{asserted_in, asserted_at}, Opens.{positions}}
 use Rattle.solver.proofs.IsSpelled.{turned_flat, turned_at}
-use Rattle.solver.proofs.HasAsserted.{length_spelled, walk_start, walk_step, positions_push, literals_push, further_same, further_more, kept_push, part_clash, whole_push, stride_pos, turned_below, row_below}
+use Rattle.solver.proofs.HasAsserted.{walk_start, walk_step, positions_push, literals_push, further_same, further_more, kept_push, part_clash, whole_push, stride_pos, turned_below, row_below}
 use Rattle.solver.proofs.search.enter.enter_part.Goals as goal
-
-pub row-requires-in-loop-at : goal.row-requires-in-loop-at
-row-requires-in-loop-at g c = omega (arith, c.loop-at-test.true, c.loop-at.invariant.end, length_spelled c.args.tree.now.rows c.row.ensures.numbered.tree)
 
 pub overflow_add-end : goal.overflow_add-end
 overflow_add-end g c =
-    let rows = c.args.tree.now.rows in
-    let n = c.args.negated in
-    let at = turned_at n rows c.args.root c.row.result (turned_row n c.row.result) c.row.ensures.row refl in
-    let size = size_turned n (spelled rows) in
-    let start = walk_start (turned_rows n rows) (turned n (spelled rows)) c.args.root (turned_row n c.row.result)
-    (turned_flat n rows c.row.ensures.numbered.tree)
-    (omega (arith, c.requires.root, size)) at in
-    omega (arith, start.0, size, length_spelled rows c.row.ensures.numbered.tree, c.row.ensures.bound)
+    let start = walk_start c.args.tree.now.rows c.args.negated c.args.root c.row.result c.row.ensures.numbered.tree c.requires.root c.row.ensures.row in
+    omega (arith, start.0, c.row.ensures.bound)
 
 pub loop-at-init : goal.loop-at-init
 loop-at-init g c =
     let rows = c.args.tree.now.rows in
     let n = c.args.negated in
-    let t = spelled rows in
-    let at = turned_at n rows c.args.root c.row.result (turned_row n c.row.result) c.row.ensures.row refl in
-    let size = size_turned n t in
-    let start = walk_start (turned_rows n rows) (turned n t) c.args.root (turned_row n c.row.result) (turned_flat n rows c.row.ensures.numbered.tree)
-    (omega (arith, c.requires.root, size)) at in record {
-      end = omega (arith, start.0, size, length_spelled rows c.row.ensures.numbered.tree);
-      walk = (asserted_in (subtree_at (turned n t) c.args.root) c.args.root, start.1, refl);
+    let start = walk_start rows n c.args.root c.row.result c.row.ensures.numbered.tree c.requires.root c.row.ensures.row in record {
+      end = start.0;
+      walk = (asserted_in (subtree_at (turned n (spelled rows)) c.args.root) c.args.root, start.1, refl);
       literals = c.requires.literals;
       further = further_same c.args.graph.now;
       kept = take-length c.args.asserted.now;
     }
 
-pub enter_row-requires : goal.enter_row-requires
-enter_row-requires g c =
+pub enter_row-requires-clause-below : goal.enter_row-requires-clause-below
+enter_row-requires-clause-below g c =
     let here = c.loop-at.invariant in
-    let B : ℕ → Type 0 = λ n. All (IsRowBelow n) c.args.tree.now.rows in
-    let below = subst B (sym (here.further.same_nodes ∙ c.requires.nodes)) c.row.ensures.numbered.below in record {
-      below = turned_below c.loop-at.graph.nodes c.args.negated c.row-in-loop-at.result c.negate_if-row.result
-          (row_below c.loop-at.graph.nodes c.args.tree.now.rows c.loop-at.at c.row-in-loop-at.result below c.row-in-loop-at.ensures.row)
-          c.negate_if-row.ensures;
-      small = omega (arith, c.loop-at-test.true, here.end, c.row-in-loop-at.ensures.bound);
-    }
-
-pub returns-in-Some-clause-further : goal.returns-in-Some-clause-further
-returns-in-Some-clause-further g c = further_more _ _ _ c.loop-at.invariant.further c.in_ok-clash.ensures.further
+    let below = rw (← (here.further.same_nodes ∙ c.requires.nodes)) at c.row.ensures.numbered.below in
+    turned_below c.loop-at.graph.nodes c.args.negated c.row-in-loop-at.result c.negate_if-row.result
+    (row_below c.loop-at.graph.nodes c.args.tree.now.rows c.loop-at.at c.row-in-loop-at.result below c.row-in-loop-at.ensures.row)
+    c.negate_if-row.ensures
 
 pub returns-in-Some-clause-entered : goal.returns-in-Some-clause-entered
 returns-in-Some-clause-entered g c =
@@ -60,8 +39,7 @@ returns-in-Some-clause-entered g c =
     let at = turned_at n rows c.loop-at.at c.row-in-loop-at.result row c.row-in-loop-at.ensures.row c.negate_if-row.ensures in
     let step = walk_step (turned_rows n rows) _ c.loop-at.at here.walk.0 row here.walk.1 c.loop-at-test.true at in
     let old = positions c.loop-at.asserted in
-    let P : Option Clash → Type 0 = HasAssertedRow row _ c.loop-at.graph c.loop-at.asserted c.enter_row.new.graph c.enter_row.new.asserted in
-    let entered = subst P c.in-Some.is c.in_ok-clash.ensures.entered in
+    let entered = rw c.in-Some.is at c.in_ok-clash.ensures.entered in
     let whole = positions c.args.asserted.now ++ asserted_at (spelled rows) n c.args.root in
     part_clash rows (signed n c.loop-at.at) row old (all_signed n step.0) whole c.loop-at.graph.literals c.in-Some.clash
     c.row.ensures.numbered.tree at here.literals
@@ -86,13 +64,11 @@ loop-at-preserved g c =
     let step = walk_step (turned_rows n rows) _ c.loop-at.at here.walk.0 row here.walk.1 c.loop-at-test.true at in
     let old = c.loop-at.asserted in
     let new = c.enter_row.new.asserted in
-    let E : Option Clash → Type 0 = HasAssertedRow row _ c.loop-at.graph old c.enter_row.new.graph new in
-    let entered = subst E c.in_default.is c.in_ok-clash.ensures.entered in
-    let P : ℕ → Type 0 = λ k. Walk (turned_rows n rows) (c.args.root + c.row.result.skip) (c.loop-at.at + k) step.0 in record {
+    let entered = rw c.in_default.is at c.in_ok-clash.ensures.entered in record {
       end = here.end;
       walk = (
         step.0,
-        subst P (sym c.stride-at.ensures) step.2,
+        rw c.stride-at.ensures step.2,
         whole_push new old (record { negated = n; position = c.loop-at.at }) here.walk.0 step.0 _ entered.0 step.1 here.walk.2,
       );
       literals = literals_push rows (signed n c.loop-at.at) row (positions old) (positions new) c.loop-at.graph.literals

@@ -1,14 +1,11 @@
 use Rattle.std.{proofs.{Common.{◌≡◌, ℕ}, lemmas.Result.{IfOk-weaker}}, specs.Prelude.{slice_range, IsTrue, ◌↔◌, Some}}
 use Rattle.pc_ground.specs.{Tree.{Tree}, Refutes.{subtree_at}}
-use Rattle.solver.{specs.{Spelled.{spelled}, Met.{IsMet}}, proofs.IsTreePart.{part_spelled, part_below, part_met}}
+use Rattle.solver.{specs.{Spelled.{spelled}, Met.{IsMet}}, proofs.{IsSpelled.{is_spelled}, IsTreePart.{part_met}}}
 use Rattle.solver.proofs.search.truths.truth_at.Goals as goal
 
 pub whole_truth-requires-clause-tree : goal.whole_truth-requires-clause-tree
 whole_truth-requires-clause-tree c =
-    part_spelled (spelled c.args.rows.now) c.args.p (slice_range c.args.rows.now c.args.p c.end_of-end.result) c.end_of-end.ensures.part
-
-pub whole_truth-requires-clause-below : goal.whole_truth-requires-clause-below
-whole_truth-requires-clause-below c = part_below c.args.graph.now.nodes c.args.rows.now c.args.p c.end_of-end.result c.requires.below
+    is_spelled (slice_range c.args.rows.now c.args.p c.end_of-end.result) c.end_of-end.ensures.part.0 c.end_of-end.ensures.part.2
 
 pub returns : goal.returns
 returns c =

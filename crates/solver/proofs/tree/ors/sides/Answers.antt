@@ -1,13 +1,10 @@
-use Rattle.std.{proofs.Common.{◌+◌, ℕ, refl, sym, ap, subst, arith}, specs.Prelude.{Option}}
-use Rattle.solver.specs.{Spelled.{spelled}, Places.{place_signed, IsDeniedIn}, declared.tree.side.Side.{Side}}
+use Rattle.std.{proofs.Common.{◌+◌, ℕ, refl, ap, arith}, specs.Prelude.{Option}}
+use Rattle.solver.specs.{Spelled.{spelled}, Places.{place_signed}, declared.tree.side.Side.{Side}}
 use Rattle.solver.proofs.{AreTruths.{or_sides, or_left_inside, or_right_inside, denied_in}, HasAsserted.{length_spelled}}
 use Rattle.solver.proofs.tree.ors.sides.Goals as goal
 
 pub row-requires : goal.row-requires
 row-requires c = or_left_inside (spelled c.args.tree.now.rows) (place_signed c.args.place) c.requires.is_or
-
-pub overflow_add-left : goal.overflow_add-left
-overflow_add-left c = omega (arith, c.requires.small)
 
 pub overflow_add-root : goal.overflow_add-root
 overflow_add-root c =
@@ -31,8 +28,7 @@ returns-clause-left_in c = (or_left_inside (spelled c.args.tree.now.rows) (place
 pub returns-clause-right_in : goal.returns-clause-right_in
 returns-clause-right_in c =
     let t = spelled c.args.tree.now.rows in
-    let left = or_left_inside t (place_signed c.args.place) c.requires.is_or in
-    let D : Option ℕ → Type 0 = IsDeniedIn t in (
+    let left = or_left_inside t (place_signed c.args.place) c.requires.is_or in (
       or_right_inside c.args.tree.now.rows (place_signed c.args.place) c.row.result c.row.ensures.numbered.tree c.requires.is_or c.row.ensures.row,
-      subst D (sym c.denied_left-denied.ensures) (denied_in c.args.version t (c.args.place.position + 1) left),
+      rw c.denied_left-denied.ensures (denied_in c.args.version t (c.args.place.position + 1) left),
     )

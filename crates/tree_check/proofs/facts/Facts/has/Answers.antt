@@ -1,5 +1,6 @@
 use Rattle.std.{proofs.{Common.{sym}, lemmas.Map.Made.{is_some-lookup}}, specs.Map.{keys_of}}
-use Rattle.tree_check.proofs.FactSet.{fact_eq, found}
+use Rattle.refutation.proofs.SameBranchFacts.{fact_eq}
+use Rattle.tree_check.proofs.FactSet.{found}
 use Rattle.tree_check.proofs.facts.Facts.has.Goals as goal
 
 pub returns : goal.returns

@@ -1,7 +1,6 @@
-use Rattle.std.{proofs.Common.{◌≡◌, ap, sym, ◌∙◌, subst, length, map, arith, List}, specs.Prelude.{All}}
-use Rattle.pc_common.specs.World.{Node}
-use Rattle.pc_ground.specs.{Keys.{key_node}, Tree.{Tree}, Folded.{IsFolded}, Numbers.{AreDistinct}}
-use Rattle.solver.{specs.{Below.{IsRowBelow}, Renamed.{tree_over, node_at}, Spelled.{spelled}}, proofs.IsKnown.{rows_known}}
+use Rattle.std.proofs.Common.{◌≡◌, ap, ◌∙◌, length, map, arith}
+use Rattle.pc_ground.specs.Keys.{key_node}
+use Rattle.solver.{specs.{Renamed.{tree_over, node_at}, Spelled.{spelled}}, proofs.IsKnown.{rows_known}}
 use Rattle.solver.proofs.IsTurn.{names_tree, folded_numbers}
 use Rattle.solver.proofs.tree.numbered_tree.NumberedTree.new.Goals as goal
 
@@ -17,15 +16,12 @@ invariant_of-result c =
     let rows = c.in_ok-rows.rows.items in
     let nodes = c.args.numbering.now in
     let named : map key_node c.in_ok-keys.keys.items ≡ nodes = c.in_ok-keys.ensures in
-    let names = names_tree nodes rows flat.0 (c.in_ok-rows.ensures.is ∙ flat.1) in
-    let D : List Node → Type 0 = AreDistinct in
-    let B : List Node → Type 0 = λ ns. All (IsRowBelow (length ns)) rows in
-    let F : Tree Node → Type 0 = IsFolded in record {
+    let names = names_tree nodes rows flat.0 (c.in_ok-rows.ensures.is ∙ flat.1) in record {
       tree = names.0;
-      folded = folded_numbers (node_at nodes) (spelled rows) (subst F (sym names.1) (c.requires.folded flat.0 flat.1));
+      folded = folded_numbers (node_at nodes) (spelled rows) (rw names.1 (c.requires.folded flat.0 flat.1));
       few = omega (arith, ap length named, c.len-count.ensures.bound);
-      distinct = subst D (sym named) c.len-count.ensures.distinct;
-      below = subst B (sym named) c.in_ok-rows.ensures.below;
+      distinct = rw named c.len-count.ensures.distinct;
+      below = rw named c.in_ok-rows.ensures.below;
     }
 
 pub returns-clause-tree : goal.returns-clause-tree

@@ -1,10 +1,8 @@
-use Rattle.std.proofs.Common.{◌<◌, length, ap, sym, subst, arith}
-use Rattle.pc_ground.specs.Tree.{size_of}
-use Rattle.solver.{specs.{Numbered.{Numbered}, Spelled.{spelled}}, proofs.HasAsserted.{length_spelled}}
+use Rattle.std.proofs.Common.{length, ap, arith}
+use Rattle.solver.proofs.HasAsserted.{length_spelled}
 use Rattle.solver.proofs.tree.numbered_tree.NumberedTree.row.Goals as goal
 
 pub row_at-requires : goal.row_at-requires
 row_at-requires c =
-    let P : Numbered → Type 0 = λ t. c.args.p < size_of (spelled t.rows) in
-    let inside = subst P (sym c.self.view_is) c.requires in
+    let inside = rw (← c.self.view_is) at c.requires in
     omega (arith, inside, length_spelled c.self.inside.rows.items c.self.invariant.tree, ap length c.deref.ensures.value)

@@ -1,8 +1,8 @@
 use pc_ground::NodeKey;
 
-/// What is known on a branch: which positions without a literal are asserted, and what literals say.
+/// What is known on a branch of a ground tree: which positions without a literal are asserted, and what literals say.
 #[derive(Clone, Copy, PartialEq, Eq, Hash)]
-pub(crate) enum Fact {
+pub enum BranchFact {
     /// The position is asserted, under the sign `~` where the flag is set, and has no literal.
     At(bool, usize),
     /// The first node happens before the second.

@@ -1,5 +1,5 @@
 use Rattle.solver.specs.Opens.{IsFurther}
-use Rattle.solver.proofs.hints.propose.part_clashes.Given as goal
+use Rattle.solver.proofs.hints.propose.side_clashes.Given as goal
 
 abbrev pub invariant-loop-turn : goal.invariant-loop-turn
 invariant-loop-turn g l = IsFurther l.fn.graph l.graph
