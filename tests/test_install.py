@@ -571,7 +571,7 @@ exec "$PYTHON" -c 'import sys, time; open(sys.argv[1], "w").close(); time.sleep(
         """One that has no room for an installation, and one that fills up behind it."""
         disk = f"{self.work}/disk"
         os.mkdir(disk)
-        if run(["mount", "-t", "tmpfs", "-o", "size=2m", "tmpfs", disk]).status != 0:
+        if run(["mount", "-t", "tmpfs", "-o", "size=1m", "tmpfs", disk]).status != 0:
             self.skips("a full disk", "no file system may be mounted here")
             return
         self.addCleanup(run, ["umount", disk])
