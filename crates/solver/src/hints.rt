@@ -10,7 +10,7 @@
 //! | `Agenda::note` | a side was entered, and nothing clashed: what changed is noted (`changes.rt`, `watch.rt`, `standing.rt`) |
 //! | `Agenda::first_open` | is there a choice, and which is the first? (`truth.rt`) |
 //! | `Agenda::guide` | does a failure that is replayed say what comes next? (`failures.rt`) |
-//! | `propose` | what comes next? (`propose.rt`, `closing.rt`, `alternatives.rt`, `records.rt`) |
+//! | `propose` | what comes next? (`propose.rt`, `clashing_pairs.rt`, `alternatives.rt`, `records.rt`) |
 //! | `Agenda::split` | it is split, and its right side waits |
 //! | `Agenda::learn` | a leaf closes a side by a clash (`failures.rt`, `conflict_sets.rt`, `levels.rt`) |
 //! | `Agenda::go_back` | the next side that waits is entered |
@@ -20,7 +20,7 @@ mod agenda;
 mod alternatives;
 mod bits;
 mod changes;
-mod closing;
+mod clashing_pairs;
 mod conflict_sets;
 mod failures;
 mod levels;

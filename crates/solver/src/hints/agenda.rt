@@ -259,8 +259,8 @@ impl Agenda {
 
     /// Makes the pending Or that this is within stale: its closed sides, and with `in_truth` its truth.
     fn touch(&mut self, rows: &[Row<u32>], watched: Watched, in_truth: bool) {
-        let position = watched.position;
-        if let Some(p) = self.pending.last_up_to(position, watched.outer) {
+        let position = watched.position();
+        if let Some(p) = self.pending.last_up_to(position, watched.outer()) {
             if position < p.saturating_add(skip_at(rows, p)) {
                 let standing = self.standing(p).stale(in_truth);
                 self.change(p, standing);

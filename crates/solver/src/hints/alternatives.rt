@@ -4,7 +4,7 @@ ghost use Rattle.std.specs.Prelude.{All};
 ghost use Rattle.order_graph.specs.Ways.{IsBelow};
 ghost use Rattle.solver.specs.Below.{IsRowBelow};
 
-use super::closing::pair_clashes;
+use super::clashing_pairs::pair_clashes;
 use super::walk::{SideWalk, Walk};
 use crate::tree::side::Side;
 use order_graph::OrderGraph;

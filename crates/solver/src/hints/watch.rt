@@ -12,9 +12,22 @@ pub(crate) struct Watched {
     /// pair.
     list: u32,
     pub(crate) other: u32,
-    /// The position of its literal, and that of the outermost Or around it.
-    pub(crate) position: usize,
-    pub(crate) outer: usize,
+    /// The position of its literal, and that of the outermost Or around it. Half a word serves: rows up to there would take
+    /// 96 GiB.
+    position: u32,
+    outer: u32,
+}
+
+impl Watched {
+    /// The position of its literal.
+    pub(crate) fn position(self) -> usize {
+        self.position as usize
+    }
+
+    /// The position of the outermost Or around its literal.
+    pub(crate) fn outer(self) -> usize {
+        self.outer as usize
+    }
 }
 
 /// What the Ors depend on, by node, as a solver's watch lists have literals. Each node has four lists: the pairs that begin
@@ -99,8 +112,8 @@ impl Watching {
         let watched = Watched {
             list,
             other,
-            position,
-            outer: self.outer,
+            position: position as u32,
+            outer: self.outer as u32,
         };
         self.is_refused |= self.items.push(watched).is_err();
     }
