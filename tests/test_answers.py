@@ -6,6 +6,7 @@ import io
 import os
 import resource
 import shutil
+from itertools import product
 from typing import Sequence
 
 from tests.cases import TOP, Cases, Done, command_forms, copy_checkout, pipecheck, program, read, run, unread, within, write
@@ -292,6 +293,30 @@ pipecheck: these words are no command; how check is called stands above
         ):
             name, out = f"{test} on a pipeline that keeps program order", f"observable\ntest {expectation}\n{graph}end\n"
             self.shows(name, 0, out, "check", PO, f"examples/{test}.test")
+
+    def test_refutations_that_are_long_in_any_order(self) -> None:
+        """A read uses its line in one of two ways. Told which by its type, in all combinations, and of one read alone not told, the
+        outcome is observable. So a branch is not closed before the way of each read is split, and each combination has a leaf."""
+        lines_model, fence = "examples/models/tso-lines.uspec", "Microop {0} {1} {1} 0 (Fence Full)."
+        either, told = r"(ExpandMacro UsedAlive r \/ ExpandMacro UsedOnce r)", r"(AccessType {0} r => ExpandMacro Used{0} r)"
+        alike = self.file("told.uspec", read(lines_model).replace(either, told.format("Alive") + r" /\ " + told.format("Once")))
+        buffers = (op(0, "Write", 0, 1), fence.format(1, 0), op(2, "Read %s", 1, 0),
+                   op(3, "Write", 1, 1, 1), fence.format(4, 1), op(5, "Read %s", 0, 0, 1))
+        readers = (op(0, "Write", 0, 1), op(1, "Write", 1, 1, 1), op(2, "Read %s", 0, 1, 2), op(3, "Read %s", 1, 0, 2),
+                   op(4, "Read %s", 1, 1, 3), op(5, "Read %s", 0, 0, 3))
+        chain = (op(0, "Write", 0, 1), op(1, "Write", 1, 1), op(2, "Read %s", 1, 1, 1), op(3, "Write", 2, 2, 1),
+                 op(4, "Read %s", 2, 2, 2), op(5, "Read %s", 0, 0, 2))
+        for name, micro_ops in (
+            ("a ring of two store buffers", buffers), ("a ring of two readers", readers), ("a chain of three cores", chain)
+        ):
+            test = lines('Litmus "l".', *micro_ops)
+            count = test.count("%s")
+            with self.case(f"{name} on tso-lines: a leaf for each combination of the ways of {count} reads"):
+                found = run([program(), "check", lines_model, self.file("plain.test", test % (*[""] * count,))])
+                self.assertEqual((found.status, found.out.count("\nsplit ")), (1, 2**count + count - 1))
+                for place, ways in product(range(count), product(("Alive", "Once"), repeat=count - 1)):
+                    told_test = self.file("told.test", test % (*ways[:place], "", *ways[place:]))
+                    self.assertEqual(run([program(), "check", alike, told_test]).status, 0, (place, ways))
 
     def test_certificates(self) -> None:
         self.shows("its refutation is verified", 1, UNOBSERVABLE, "verify", IN_ORDER, MP, MP_CERTIFICATE)
