@@ -12,7 +12,7 @@ pub(crate) struct Watched {
     /// pair.
     list: u32,
     pub(crate) other: u32,
-    /// The position of its literal, and that of the outermost Or around it. Half a word serves: rows up to there would take
+    /// The position of its literal, and that of the outermost Or around it: half a word each, since rows past that would take
     /// 96 GiB.
     position: u32,
     outer: u32,
@@ -109,11 +109,15 @@ struct Watching {
 
 impl Watching {
     fn put(&mut self, list: u32, other: u32, position: usize) {
+        let (Ok(position), Ok(outer)) = (u32::try_from(position), u32::try_from(self.outer)) else {
+            self.is_refused = true;
+            return;
+        };
         let watched = Watched {
             list,
             other,
-            position: position as u32,
-            outer: self.outer as u32,
+            position,
+            outer,
         };
         self.is_refused |= self.items.push(watched).is_err();
     }
