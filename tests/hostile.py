@@ -40,13 +40,12 @@ from tests import cases, random_texts
 from tools import TOP
 from tools.agree.litmus import read_test
 from tools.second.cases import Case, read_case
-from tools.second.judging import Refused as CertificateRefused
-from tools.second.judging import judge, second_line
-from tools.second.lifted import LiftedJudge, judge_lifted
+from tools.second.judging import second_line
+from tools.second.lifted import LiftedJudge
 from tools.second.models import Model
 from tools.second.scopes import read_model
 from tools.second.searching import is_observable
-from tools.second.main import Refused, core, file_bytes, judged, run
+from tools.second.main import Refused, core, file_bytes, judged, judgement, run
 from tools.standing import tested
 from tools.telling.files import rows_of
 
@@ -54,7 +53,6 @@ TESTED = tested(TOP)
 PROGRAM = TESTED.path
 SECONDS_OF_A_CALL = 20
 SECONDS_OF_A_READING = 5
-UNOBSERVABLE = b"verified unobservable\n"
 # the words that docs/faults.md has for the faults of each file
 WORDS = {kind: dict(rows_of(f"{TOP}/docs/faults.md", f"| word of a {kind} |")) for kind in ("model", "test")}
 Answer = tuple[int, bytes]
@@ -107,25 +105,12 @@ def of_second(args: Words) -> Answer:
     return run([os.fsdecode(it) for it in args], out), out.getvalue().encode()
 
 
-def judgement(read: Read, text: bytes, takes_version_2: bool = True) -> Answer:
-    """What `verify` has to answer to this text; by the rules of version 1 alone what `lift` answers to it, but for a
-    refutation."""
-    try:
-        is_graph = judge(read.model, read.case, text, takes_version_2)
-    except CertificateRefused as refused:
-        return 6, f"{refused}\n".encode()
-    return (0, b"verified observable\n") if is_graph else (1, UNOBSERVABLE)
-
-
-def lifted_judgement(read: Read, text: bytes) -> Answer:
-    """What `verify-lifted` has to answer to this text."""
-    try:
-        judge_lifted(read.model, read.case, text)
-    except CertificateRefused as refused:
-        return 6, f"{refused}\n".encode()
-    if read.is_observable:
+def due(word: str, read: Read, text: bytes) -> Answer:
+    """What `verify`, `verify-lifted` or `lift` has to answer to this text."""
+    said, status = within(judgement, word, read.model, read.case, text)
+    if word == "verify-lifted" and status == 1 and read.is_observable:
         raise Wrong("the second implementation takes a lifted refutation of an observable outcome")
-    return 1, UNOBSERVABLE
+    return status, said.encode()
 
 
 @dataclass
@@ -167,8 +152,6 @@ class Runs:
             raise Wrong(f"{args}: status {answer[0]}, {answer[1][:80]!r}, and not {wanted}")
         return answer
 
-    # what is run
-
     def whole(self) -> None:
         """A model and a test without a fault."""
         self.pair(random_texts.ModelMaker(self.random).text(), random_texts.test_text(self.random))
@@ -199,7 +182,7 @@ class Runs:
             if (lines[2:3] == [b"version 2"]) is not (word == "check2" and not read.is_observable):
                 raise Wrong(f"{word}: another version, {text[:80]!r}")
             accepted = (status, b"verified " + verdict + b"\n")
-            if within(judgement, read, text) != accepted:
+            if due("verify", read, text) != accepted:
                 raise Wrong(f"{word}: the second implementation refuses the certificate")
             self.certificate(files, read, text, accepted)
             self.outside([word, *files], (status, text))
@@ -212,21 +195,17 @@ class Runs:
         judge_of = LiftedJudge(read.model, read.case)
         text = within(random_texts.lifted_text, self.random, judge_of)
         for _ in range(3):
-            self.demand(["verify-lifted", *files, self.write("certificate", text)], within(lifted_judgement, read, text))
+            self.demand(["verify-lifted", *files, self.write("certificate", text)], due("verify-lifted", read, text))
             text = random_texts.changed_lifted(self.random, text)
 
     def lift(self, files: Words, read: Read, text: bytes) -> None:
         """What `lift` makes of a certificate, which is there as a file. Both judges take the text that it makes."""
         lift: Words = ["lift", *files, self.path("certificate")]
-        due = within(judgement, read, text, False)
-        if due != (1, UNOBSERVABLE):
-            self.demand(lift, due)
-            return
-        status, made = self.call(lift)
-        if status != 0 or within(lifted_judgement, read, made) != due:
-            raise Wrong(f"lift: status {status}, {made[:80]!r}, which the second implementation does not take")
-        self.demand(["verify-lifted", *files, self.write("made", made)], due)
-        self.outside(lift, (status, made))
+        answer = self.demand(lift, due("lift", read, text))
+        if answer[1].startswith(b"unobservable\n"):
+            judged_so = due("verify-lifted", read, answer[1])
+            self.demand(["verify-lifted", *files, self.write("made", answer[1])], judged_so)
+            self.outside(lift, answer)
 
     def refused(self, files: Words, line: bytes) -> None:
         """All commands on two files refuse them by this line, which has a word of docs/faults.md."""
@@ -260,7 +239,7 @@ class Runs:
         for _ in range(self.random.choice((1, 2, 4))):
             spoilt = random_texts.changed_certificate(self.random, text)
             self.write("certificate", spoilt)
-            self.demand(verify, within(judgement, read, spoilt))
+            self.demand(verify, due("verify", read, spoilt))
             self.lift(files, read, spoilt)
 
     def outside(self, args: Words, answer: Answer) -> None:
@@ -274,8 +253,8 @@ class Runs:
         """A full device, a closed output, a pipe that nobody reads: status 5."""
         kind = self.random.choice(("full", "closed", "unread"))
         # a worker makes so many of these calls that none of them may leave a file open
-        with open("/dev/full", "wb") as full, cases.without_output("closed" if kind == "full" else kind) as how:
-            status, _ = self.call(args, **({"stdout": full} if kind == "full" else how))
+        with cases.without_output(kind) as how:
+            status, _ = self.call(args, **how)
         if status != 5:
             raise Wrong(f"{args}: status {status} where the output is {kind}")
 
