@@ -40,14 +40,14 @@ from tests import cases, random_texts
 from tools import TOP
 from tools.agree.litmus import read_test
 from tools.second.cases import Case, read_case
-from tools.second.judging import second_line
 from tools.second.lifted import LiftedJudge
 from tools.second.models import Model
 from tools.second.scopes import read_model
 from tools.second.searching import is_observable
-from tools.second.main import Refused, core, file_bytes, judged, judgement, run
+from tools.second.main import Refused, file_bytes, judged, judgement, run
 from tools.standing import tested
 from tools.telling.files import rows_of
+from tools.texts.memory_models import memory_model_of
 
 TESTED = tested(TOP)
 PROGRAM = TESTED.path
@@ -173,21 +173,10 @@ class Runs:
             self.refused(files, f"{refused}\n".encode())
             return
         for word in ("check", "check2"):
-            status, text = self.call([word, *files])
-            verdict = b"observable" if read.is_observable else b"unobservable"
-            second = second_line(read.is_observable, read.case).encode()
-            lines = text.split(b"\n")
-            if status != (0 if read.is_observable else 1) or lines[:2] != [verdict, second]:
-                raise Wrong(f"{word}: status {status}, {text[:80]!r}; the second implementation says {verdict!r}")
-            if (lines[2:3] == [b"version 2"]) is not (word == "check2" and not read.is_observable):
-                raise Wrong(f"{word}: another version, {text[:80]!r}")
-            accepted = (status, b"verified " + verdict + b"\n")
-            if due("verify", read, text) != accepted:
-                raise Wrong(f"{word}: the second implementation refuses the certificate")
-            self.certificate(files, read, text, accepted)
+            status, text = self.demand([word, *files], within(of_second, [word, *files]))
+            self.certificate(files, read, text, (status, b"verified " + text.partition(b"\n")[0] + b"\n"))
             self.outside([word, *files], (status, text))
-        answer, status = within(core, read.model, read.case)
-        self.demand(["core", *files], (status, answer.encode()))
+        self.demand(["core", *files], within(of_second, ["core", *files]))
         self.lifted(files, read)
 
     def lifted(self, files: Words, read: Read) -> None:
@@ -322,7 +311,7 @@ class Runs:
         """A test on a shipped model, against the machine that the model names."""
         path = self.random.choice(SHIPPED)
         model_text = cases.read(path).encode()
-        name = re.search(rb"(?im)^%[ \t]*memory model:[ \t]*([\w-]+)", model_text)[1].decode().lower()  # type: ignore[index]
+        name = memory_model_of(model_text).name
         text = random_texts.machine_test(self.random)
         self.write("model", model_text)
         test_path = self.write("test", text)
