@@ -39,12 +39,10 @@ from typing import Any, Callable, Iterable
 from tests import cases, random_texts
 from tools import TOP
 from tools.agree.litmus import read_test
-from tools.second.cases import Case, read_case
+from tools.second.cases import read_case
 from tools.second.lifted import LiftedJudge
-from tools.second.models import Model
+from tools.second.main import run
 from tools.second.scopes import read_model
-from tools.second.searching import is_observable
-from tools.second.main import Refused, file_bytes, judged, judgement, run
 from tools.standing import tested
 from tools.telling.files import rows_of
 from tools.texts.memory_models import memory_model_of
@@ -83,34 +81,10 @@ def within(work: Callable[..., Any], *args: Any, seconds: float = SECONDS_OF_A_R
         signal.setitimer(signal.ITIMER_REAL, 0)
 
 
-@dataclass
-class Read:
-    """What a model and a test say, and the verdict of the second implementation."""
-
-    model: Model
-    case: Case
-    is_observable: bool
-
-
-def read_pair(model_path: str, test_path: str) -> Read:
-    """Reads a model and a test, and searches."""
-    model_text, test_text = file_bytes("model", model_path), file_bytes("test", test_path)
-    model, case = judged("model", read_model, model_text), judged("test", read_case, test_text)
-    return Read(model, case, is_observable(model, case))
-
-
 def of_second(args: Words) -> Answer:
     """What the second implementation answers to these words."""
     out = io.StringIO()
     return run([os.fsdecode(it) for it in args], out), out.getvalue().encode()
-
-
-def due(word: str, read: Read, text: bytes) -> Answer:
-    """What `verify`, `verify-lifted` or `lift` has to answer to this text."""
-    said, status = within(judgement, word, read.model, read.case, text)
-    if word == "verify-lifted" and status == 1 and read.is_observable:
-        raise Wrong("the second implementation takes a lifted refutation of an observable outcome")
-    return status, said.encode()
 
 
 @dataclass
@@ -164,36 +138,42 @@ class Runs:
         test_text = random_texts.changed_file(self.random, test_text) if which != 0 else test_text
         self.pair(model_text, test_text)
 
+    def alike(self, args: Words, seconds: float = SECONDS_OF_A_READING) -> Answer:
+        """Runs the program; its answer has to be that of the second implementation."""
+        return self.demand(args, within(of_second, args, seconds=seconds))
+
     def pair(self, model_text: bytes, test_text: bytes) -> None:
         """Both kinds of check on a pair, against the second implementation; then what can be done with the certificate."""
         files: Words = [self.write("model", model_text), self.write("test", test_text)]
-        try:
-            read = within(read_pair, *files)
-        except Refused as refused:
-            self.refused(files, f"{refused}\n".encode())
+        status, text = within(of_second, ["check", *files])
+        if status == 3:
+            self.refused(files, text)
             return
         for word in ("check", "check2"):
-            status, text = self.demand([word, *files], within(of_second, [word, *files]))
-            self.certificate(files, read, text, (status, b"verified " + text.partition(b"\n")[0] + b"\n"))
-            self.outside([word, *files], (status, text))
-        self.demand(["core", *files], within(of_second, ["core", *files]))
-        self.lifted(files, read)
-
-    def lifted(self, files: Words, read: Read) -> None:
-        """Texts that begin as a lifted refutation does, and changes of them, against the second implementation."""
-        judge_of = LiftedJudge(read.model, read.case)
-        text = within(random_texts.lifted_text, self.random, judge_of)
+            answer = self.alike([word, *files])
+            self.certificate(files, *answer)
+            self.outside([word, *files], answer)
+        self.alike(["core", *files])
+        # texts that begin as a lifted refutation does, and changes of them
+        text = within(random_texts.lifted_text, self.random, LiftedJudge(read_model(model_text), read_case(test_text)))
         for _ in range(3):
-            self.demand(["verify-lifted", *files, self.write("certificate", text)], due("verify-lifted", read, text))
+            self.lifted(files, status, text)
             text = random_texts.changed_lifted(self.random, text)
 
-    def lift(self, files: Words, read: Read, text: bytes) -> None:
+    def lifted(self, files: Words, status: int, text: bytes) -> bool:
+        """Whether both judges take a lifted refutation. They take none where the status of `check` is that of an observable one."""
+        is_taken = self.alike(["verify-lifted", *files, self.write("lifted", text)])[0] == 1
+        if is_taken and status == 0:
+            raise Wrong("a lifted refutation of an observable outcome is taken")
+        return is_taken
+
+    def lift(self, files: Words, status: int) -> None:
         """What `lift` makes of a certificate, which is there as a file. Both judges take the text that it makes."""
         lift: Words = ["lift", *files, self.path("certificate")]
-        answer = self.demand(lift, due("lift", read, text))
+        answer = self.alike(lift)
         if answer[1].startswith(b"unobservable\n"):
-            judged_so = due("verify-lifted", read, answer[1])
-            self.demand(["verify-lifted", *files, self.write("made", answer[1])], judged_so)
+            if not self.lifted(files, status, answer[1]):
+                raise Wrong(f"lift: {answer[1][:80]!r}, which is not taken")
             self.outside(lift, answer)
 
     def refused(self, files: Words, line: bytes) -> None:
@@ -216,20 +196,20 @@ class Runs:
             raise Wrong(f"docs/faults.md has no word {word!r} of a {kind!r}")
         return word
 
-    def certificate(self, files: Words, read: Read, text: bytes, accepted: Answer) -> None:
-        """The certificate, rewritings that keep it right, and changes of it."""
+    def certificate(self, files: Words, status: int, text: bytes) -> None:
+        """The certificate that `check` writes with this status, rewritings that keep it right, and changes of it."""
         verify: Words = ["verify", *files, self.write("certificate", text)]
+        accepted = status, b"verified " + text.partition(b"\n")[0] + b"\n"
         self.demand(verify, accepted)
         if len(text) > 20_000:
             return
-        self.lift(files, read, text)
+        self.lift(files, status)
         self.write("certificate", random_texts.rewritten_certificate(self.random, text))
         self.demand(verify, accepted)
         for _ in range(self.random.choice((1, 2, 4))):
-            spoilt = random_texts.changed_certificate(self.random, text)
-            self.write("certificate", spoilt)
-            self.demand(verify, due("verify", read, spoilt))
-            self.lift(files, read, spoilt)
+            self.write("certificate", random_texts.changed_certificate(self.random, text))
+            self.alike(verify)
+            self.lift(files, status)
 
     def outside(self, args: Words, answer: Answer) -> None:
         """Now and then the same with an output that fails, or with little memory."""
@@ -289,7 +269,7 @@ class Runs:
             pattern_text = random_texts.changed_file(self.random, pattern_text)
         model_text = random_texts.ModelMaker(self.random).text()
         files: Words = [self.write("model", model_text), self.write("test", pattern_text)]
-        answer = self.demand(["sweep", *files], within(of_second, ["sweep", *files]))
+        answer = self.alike(["sweep", *files])
         if self.random.random() < 0.1:
             self.little_memory(["sweep", *files], answer)
 
@@ -301,10 +281,9 @@ class Runs:
             which = self.random.choice((0, 1, 2, 2, 2))
             texts[which] = random_texts.changed_file(self.random, texts[which])
         files: Words = [*map(self.write, ("model", "test", "query"), texts)]
-        answer = within(of_second, ["ask", *files], seconds=2 * SECONDS_OF_A_READING)
+        answer = self.alike(["ask", *files], 2 * SECONDS_OF_A_READING)
         if answer[0] == 3:
             self.word_of(answer[1])
-        self.demand(["ask", *files], answer)
         self.outside(["ask", *files], answer)
 
     def machine(self) -> None:
