@@ -153,9 +153,7 @@ class Answers(Cases):
         """Writes a file of this case. Returns its path."""
         return write(f"{self.work}/{name}", text)
 
-    def judged(
-        self, name: str, status: int, out: str, model: str, test: str, text: str | bytes, word: str = "verify"
-    ) -> None:
+    def judged(self, name: str, status: int, out: str, model: str, test: str, text: str | bytes, word: str = "verify") -> None:
         """The program says this of a certificate of this text."""
         self.shows(name, status, out, word, model, test, self.file("certificate", text))
 
