@@ -4,7 +4,7 @@ A *lock* has sections, each of a core that takes a lock by a locked exchange, ad
 lost one the last addition is lost. A *run* is one of an interleaving machine: some cores with some accesses each, of so many
 addresses, half of them by chance writes of one of so many values, in an order drawn by a seed. Where values are few many
 writes have one, so that it is not said which of them a read sees. A stale read gets a value that its address had at another
-time; an open one is asked for each value that it may get, by `sweep`.
+time.
 """
 import random
 from collections.abc import Callable, Iterable, Sequence
@@ -35,11 +35,11 @@ class Access:
 
     kind: str
     address: int
-    value: int | str
+    value: int
 
 
-def run(seed: int, cores: int, each: int, addresses: int, values: int, stale: int, is_open: bool = False) -> str:
-    """A run of an interleaving machine. So many reads are stale, or open."""
+def run(seed: int, cores: int, each: int, addresses: int, values: int, stale: int) -> str:
+    """A run of an interleaving machine. So many reads are stale."""
     chance = random.Random(seed)
     memory = {address: 0 for address in range(addresses)}
     had = {address: [0] for address in range(addresses)}
@@ -57,7 +57,7 @@ def run(seed: int, cores: int, each: int, addresses: int, values: int, stale: in
     reads = [it for row in accesses for it in row if it.kind == "Read"]
     for _ in range(stale):
         read = chance.choice(reads)
-        read.value = "Any" if is_open else chance.choice(had[read.address])
+        read.value = chance.choice(had[read.address])
     return test_of((core, [access(it.kind, it.address, it.value)]) for core, row in enumerate(accesses) for it in row)
 
 

@@ -168,12 +168,6 @@ def long_names(macros: int, size: int) -> str:
     return filled(size, PART_STAGES + "".join(parts))
 
 
-def doubling(depth: int) -> str:
-    """A model of so many macros, each but the first twice the one before, and of an axiom that expands the last."""
-    return macro("M0", "IsAnyRead i") + "".join(macro(f"M{k}", uses(f"M{k - 1}", 2)) for k in range(1, depth)) \
-        + f'Axiom "a": forall microop "i", ExpandMacro M{depth - 1}.\n'
-
-
 @cache
 def model_bench() -> str:
     """What parses and reads models alone. Without words its status is 2."""
@@ -219,8 +213,9 @@ def models() -> None:
     show("1,000 macros in 1 MiB, peak memory over its bytes", (whole.peak - empty_memory("read")) / MIB, 200)
     show_growth("1,000 long names in 1 MiB", *(on_bench("read", long_names(1000 // part, MIB // part)) for part in (1, 2)))
     # a short chain has no fault, so the long one is refused for its size alone
-    on_bench("read", doubling(10))
-    chain, empty = on_bench("read", doubling(60), 1), on_bench("read", "")
+    short, long = (doubled('forall microop "i", IsAnyRead i', macros - 1) for macros in (10, 60))
+    on_bench("read", short)
+    chain, empty = on_bench("read", long, 1), on_bench("read", "")
     show("60 macros that double, time over that of an empty model", chain.clock / empty.clock, 3)
 
 

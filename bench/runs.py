@@ -4,7 +4,7 @@ memory of `check` and `check2`, beside the splits of the second implementation, 
 cadical and z3.
 
     bench/runs.py [--counting SECONDS] [QUESTION ..]   the questions of these names, or all of them
-    bench/runs.py --many [COUNT]                       the seconds of `check` on 108 runs of 64 micro-ops, or on so many
+    bench/runs.py --many                               the seconds of `check` on 108 runs of 64 micro-ops
 
 bench/makers.py says what a lock and a run are. In a lock here each core has one section.
 
@@ -18,8 +18,6 @@ something could not be counted, 2 where there is no such question, and else 0. I
 """
 import marshal
 import os
-from collections.abc import Callable
-from dataclasses import dataclass
 from pathlib import Path
 
 import solvers
@@ -36,36 +34,26 @@ MANY = 108
 SPLIT = "/second/conflicts.py", "split"
 
 
-@dataclass(frozen=True)
-class Question:
-    """A question: a shipped model, or that of the ring, and a test."""
-
-    model: str
-    make: Callable[[], str]
-    # whether its text is a pattern, of which each row is asked
-    is_swept: bool = False
-
-
-QUESTIONS = {
-    "lock-4-lost": Question("tso-buffer", lambda: lock(range(4), True)),
-    "lock-5-lost": Question("tso-buffer", lambda: lock(range(5), True)),
-    "lock-6-lost": Question("tso-buffer", lambda: lock(range(6), True)),
-    "lock-8": Question("tso-buffer", lambda: lock(range(8), False)),
-    "lock-8-lost": Question("tso-buffer", lambda: lock(range(8), True)),
-    "lock-12-lost": Question("tso-buffer", lambda: lock(range(12), True)),
-    "run-1": Question("tso-ooo", lambda: run(1, 6, 4, 2, 2, 1)),
-    "run-3": Question("tso-ooo", lambda: run(3, 8, 8, 2, 2, 1)),
-    "run-9": Question("tso-ooo", lambda: run(9, 8, 8, 2, 3, 1)),
-    "run-5": Question("tso-drain", lambda: run(5, 8, 8, 2, 2, 0)),
-    "run-7": Question("weak-ooo", lambda: run(7, 8, 8, 2, 2, 1)),
-    "run-8": Question("sc-inorder", lambda: run(8, 8, 8, 4, 2, 1)),
-    "lines-11": Question("tso-lines", lambda: run(11, 4, 8, 4, 1000, 1)),
-    "lines-12": Question("tso-lines", lambda: run(12, 8, 4, 2, 2, 1)),
-    "lines-13": Question("tso-lines", lambda: run(13, 6, 6, 2, 3, 0)),
-    "open-2": Question("tso-ooo", lambda: run(2, 6, 4, 2, 3, 2, is_open=True), is_swept=True),
-    "ring-8": Question("ring", lambda: ring(8)),
-    "ring-16": Question("ring", lambda: ring(16)),
-    "ring-32": Question("ring", lambda: ring(32)),
+# each with a shipped model, or that of the ring, and its test
+QUESTIONS: dict[str, tuple[str, str]] = {
+    "lock-4-lost": ("tso-buffer", lock(range(4), True)),
+    "lock-5-lost": ("tso-buffer", lock(range(5), True)),
+    "lock-6-lost": ("tso-buffer", lock(range(6), True)),
+    "lock-8": ("tso-buffer", lock(range(8), False)),
+    "lock-8-lost": ("tso-buffer", lock(range(8), True)),
+    "lock-12-lost": ("tso-buffer", lock(range(12), True)),
+    "run-1": ("tso-ooo", run(1, 6, 4, 2, 2, 1)),
+    "run-3": ("tso-ooo", run(3, 8, 8, 2, 2, 1)),
+    "run-9": ("tso-ooo", run(9, 8, 8, 2, 3, 1)),
+    "run-5": ("tso-drain", run(5, 8, 8, 2, 2, 0)),
+    "run-7": ("weak-ooo", run(7, 8, 8, 2, 2, 1)),
+    "run-8": ("sc-inorder", run(8, 8, 8, 4, 2, 1)),
+    "lines-11": ("tso-lines", run(11, 4, 8, 4, 1000, 1)),
+    "lines-12": ("tso-lines", run(12, 8, 4, 2, 2, 1)),
+    "lines-13": ("tso-lines", run(13, 6, 6, 2, 3, 0)),
+    "ring-8": ("ring", ring(8)),
+    "ring-16": ("ring", ring(16)),
+    "ring-32": ("ring", ring(32)),
 }
 
 
@@ -112,23 +100,12 @@ def tell_solver(name: str, found: solvers.Answered | None, verdicts: set[bool | 
         print(f"    {name:7} {found.call.seconds:6.3f} s, {found.size / 1e6:.1f} MB of question", flush=True)
 
 
-def tell_sweep(paths: list[str]) -> None:
-    took = timed(LIMIT, os.devnull, program(), "sweep", *paths, calls=CALLS)
-    count = counted("sweep", *paths)
-    rows = [line for line in count.text.split("\n") if line.startswith("row ")]
-    print(f"    sweep   {len(rows)} rows, {sum(row.endswith(' observable') for row in rows)} observable; {count.turns} turns; "
-          f"{count.instructions / 1e6:.1f} million instructions; {took.seconds:.3f} s; {took.peak / MIB:.1f} MiB", flush=True)
-
-
 def ask(name: str, limit: float) -> bool:
     """The lines of a question. Whether all verdicts are one."""
-    question = QUESTIONS[name]
+    model, test = QUESTIONS[name]
     verdicts: set[bool | None] = set()
-    print(f"{name} on {question.model}")
-    paths = (saved(RING) if question.model == "ring" else shipped("models", question.model)) + saved(question.make())
-    if question.is_swept:
-        tell_sweep(paths)
-        return True
+    print(f"{name} on {model}")
+    paths = (saved(RING) if model == "ring" else shipped("models", model)) + saved(test)
     for command in ("check", "check2"):
         tell_check(command, paths, limit, verdicts)
     for solver, found in solvers.asked(paths, "cadical", "z3", writing=WRITING_LIMIT, limit=LIMIT):
@@ -148,18 +125,18 @@ def asked_of_many(seed: int) -> tuple[float, str]:
     return took.seconds, f"run {seed}, {addresses} addresses, {values} values, {stale} stale reads, on {name}: {verdict}"
 
 
-def ask_many(count: int) -> None:
+def ask_many() -> None:
     """The slowest of many runs."""
-    calls = sorted(at_once(asked_of_many, range(count), max(1, (os.cpu_count() or 1) // 2)), reverse=True)
+    calls = sorted(at_once(asked_of_many, range(MANY), max(1, (os.cpu_count() or 1) // 2)), reverse=True)
     for seconds, what in calls[:10]:
         print(f"{seconds:7.3f} s   {what}")
     past = sum(seconds > MANY_BAR for seconds, _ in calls)
-    print(f"{count} runs of 64 micro-ops: {sum(seconds for seconds, _ in calls):.1f} s, {past} past the bar of {MANY_BAR:.0f} s")
+    print(f"{MANY} runs of 64 micro-ops: {sum(seconds for seconds, _ in calls):.1f} s, {past} past the bar of {MANY_BAR:.0f} s")
 
 
 def main(words: list[str]) -> int:
-    if words[:1] == ["--many"] and all(word.isdecimal() for word in words[1:2]) and len(words) <= 2:
-        ask_many(int(words[1]) if words[1:] else MANY)
+    if words == ["--many"]:
+        ask_many()
         return 0
     limit = COUNTING_LIMIT
     if words[:1] == ["--counting"] and words[1:2] and words[1].isdecimal():

@@ -74,8 +74,8 @@ def compare_bytes(old: str, new: str, is_long: bool) -> bool:
     return differ == 0
 
 
-def compare_counts(old: str, new: str) -> None:
-    """Prints the instructions of the new program over those of the old one."""
+def compare_counts(old: str, new: str) -> bool:
+    """Prints the instructions of the new program over those of the old one, which are no fault."""
     with ThreadPoolExecutor(os.cpu_count()) as pool:
         before, after = (
             list(pool.map(lambda pair, program=program: under_callgrind("/dev/null", program, "check", *pair)[0], FIRST_PAIRS))
@@ -84,6 +84,7 @@ def compare_counts(old: str, new: str) -> None:
     share, pair = max((b / a, pair) for a, b, pair in zip(before, after, FIRST_PAIRS))
     names = " ".join(os.path.basename(path) for path in pair)
     print(f"{len(FIRST_PAIRS)} pairs: {sum(after) / sum(before):.3f} in total, bar 1.05; at most {share:.3f}, of {names}")
+    return True
 
 
 def random_pair(folder: str, seed: int) -> list[str]:
@@ -134,27 +135,18 @@ def compare_random(count: int, seconds: int, old: str, new: str) -> bool:
     return bad == 0
 
 
-def random_words(words: list[str]) -> tuple[int, int, str, str] | None:
-    """COUNT, N, OLD and NEW of the words after `--random`; None where they are others."""
-    if words[1:2] != ["--seconds"]:
-        words = [*words[:1], "--seconds", "10", *words[1:]]
-    if len(words) == 5 and words[0].isdecimal() and words[2].isdecimal():
-        return int(words[0]), int(words[2]), words[3], words[4]
-    return None
-
-
 def main(given: list[str]) -> int:
-    words = [word for word in given if word not in ("--long", "--count")]
-    asked = random_words(words[1:]) if words[:1] == ["--random"] else None
-    if asked is not None:
-        return 0 if compare_random(*asked) else 1
-    if len(words) != 2:
-        print(__doc__)
-        return 2
-    if "--count" in given:
-        compare_counts(*words)
-        return 0
-    return 0 if compare_bytes(words[0], words[1], "--long" in given) else 1
+    match [word for word in given if word not in ("--long", "--count")]:
+        case ["--random", count, "--seconds", seconds, old, new] if count.isdecimal() and seconds.isdecimal():
+            is_same = compare_random(int(count), int(seconds), old, new)
+        case ["--random", count, old, new] if count.isdecimal() and old != "--seconds":
+            is_same = compare_random(int(count), 10, old, new)
+        case [old, new]:
+            is_same = compare_counts(old, new) if "--count" in given else compare_bytes(old, new, "--long" in given)
+        case _:
+            print(__doc__)
+            return 2
+    return 0 if is_same else 1
 
 
 if __name__ == "__main__":

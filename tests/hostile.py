@@ -39,22 +39,18 @@ from typing import Any, Callable, Iterable
 from tests import cases, random_texts
 from tools import TOP
 from tools.agree.litmus import read_test
-from tools.second.cases import Case, read_case
-from tools.second.judging import Refused as CertificateRefused
-from tools.second.judging import judge, second_line
-from tools.second.lifted import LiftedJudge, judge_lifted
-from tools.second.models import Model
+from tools.second.cases import read_case
+from tools.second.lifted import LiftedJudge
+from tools.second.main import run
 from tools.second.scopes import read_model
-from tools.second.searching import is_observable
-from tools.second.main import Refused, core, file_bytes, judged, run
 from tools.standing import tested
 from tools.telling.files import rows_of
+from tools.texts.memory_models import memory_model_of
 
 TESTED = tested(TOP)
 PROGRAM = TESTED.path
 SECONDS_OF_A_CALL = 20
 SECONDS_OF_A_READING = 5
-UNOBSERVABLE = b"verified unobservable\n"
 # the words that docs/faults.md has for the faults of each file
 WORDS = {kind: dict(rows_of(f"{TOP}/docs/faults.md", f"| word of a {kind} |")) for kind in ("model", "test")}
 Answer = tuple[int, bytes]
@@ -85,47 +81,10 @@ def within(work: Callable[..., Any], *args: Any, seconds: float = SECONDS_OF_A_R
         signal.setitimer(signal.ITIMER_REAL, 0)
 
 
-@dataclass
-class Read:
-    """What a model and a test say, and the verdict of the second implementation."""
-
-    model: Model
-    case: Case
-    is_observable: bool
-
-
-def read_pair(model_path: str, test_path: str) -> Read:
-    """Reads a model and a test, and searches."""
-    model_text, test_text = file_bytes("model", model_path), file_bytes("test", test_path)
-    model, case = judged("model", read_model, model_text), judged("test", read_case, test_text)
-    return Read(model, case, is_observable(model, case))
-
-
 def of_second(args: Words) -> Answer:
     """What the second implementation answers to these words."""
     out = io.StringIO()
     return run([os.fsdecode(it) for it in args], out), out.getvalue().encode()
-
-
-def judgement(read: Read, text: bytes, takes_version_2: bool = True) -> Answer:
-    """What `verify` has to answer to this text; by the rules of version 1 alone what `lift` answers to it, but for a
-    refutation."""
-    try:
-        is_graph = judge(read.model, read.case, text, takes_version_2)
-    except CertificateRefused as refused:
-        return 6, f"{refused}\n".encode()
-    return (0, b"verified observable\n") if is_graph else (1, UNOBSERVABLE)
-
-
-def lifted_judgement(read: Read, text: bytes) -> Answer:
-    """What `verify-lifted` has to answer to this text."""
-    try:
-        judge_lifted(read.model, read.case, text)
-    except CertificateRefused as refused:
-        return 6, f"{refused}\n".encode()
-    if read.is_observable:
-        raise Wrong("the second implementation takes a lifted refutation of an observable outcome")
-    return 1, UNOBSERVABLE
 
 
 @dataclass
@@ -167,8 +126,6 @@ class Runs:
             raise Wrong(f"{args}: status {answer[0]}, {answer[1][:80]!r}, and not {wanted}")
         return answer
 
-    # what is run
-
     def whole(self) -> None:
         """A model and a test without a fault."""
         self.pair(random_texts.ModelMaker(self.random).text(), random_texts.test_text(self.random))
@@ -181,52 +138,43 @@ class Runs:
         test_text = random_texts.changed_file(self.random, test_text) if which != 0 else test_text
         self.pair(model_text, test_text)
 
+    def alike(self, args: Words, seconds: float = SECONDS_OF_A_READING) -> Answer:
+        """Runs the program; its answer has to be that of the second implementation."""
+        return self.demand(args, within(of_second, args, seconds=seconds))
+
     def pair(self, model_text: bytes, test_text: bytes) -> None:
         """Both kinds of check on a pair, against the second implementation; then what can be done with the certificate."""
         files: Words = [self.write("model", model_text), self.write("test", test_text)]
-        try:
-            read = within(read_pair, *files)
-        except Refused as refused:
-            self.refused(files, f"{refused}\n".encode())
+        status, text = within(of_second, ["check", *files])
+        if status == 3:
+            self.refused(files, text)
             return
         for word in ("check", "check2"):
-            status, text = self.call([word, *files])
-            verdict = b"observable" if read.is_observable else b"unobservable"
-            second = second_line(read.is_observable, read.case).encode()
-            lines = text.split(b"\n")
-            if status != (0 if read.is_observable else 1) or lines[:2] != [verdict, second]:
-                raise Wrong(f"{word}: status {status}, {text[:80]!r}; the second implementation says {verdict!r}")
-            if (lines[2:3] == [b"version 2"]) is not (word == "check2" and not read.is_observable):
-                raise Wrong(f"{word}: another version, {text[:80]!r}")
-            accepted = (status, b"verified " + verdict + b"\n")
-            if within(judgement, read, text) != accepted:
-                raise Wrong(f"{word}: the second implementation refuses the certificate")
-            self.certificate(files, read, text, accepted)
-            self.outside([word, *files], (status, text))
-        answer, status = within(core, read.model, read.case)
-        self.demand(["core", *files], (status, answer.encode()))
-        self.lifted(files, read)
-
-    def lifted(self, files: Words, read: Read) -> None:
-        """Texts that begin as a lifted refutation does, and changes of them, against the second implementation."""
-        judge_of = LiftedJudge(read.model, read.case)
-        text = within(random_texts.lifted_text, self.random, judge_of)
+            answer = self.alike([word, *files])
+            self.certificate(files, *answer)
+            self.outside([word, *files], answer)
+        self.alike(["core", *files])
+        # texts that begin as a lifted refutation does, and changes of them
+        text = within(random_texts.lifted_text, self.random, LiftedJudge(read_model(model_text), read_case(test_text)))
         for _ in range(3):
-            self.demand(["verify-lifted", *files, self.write("certificate", text)], within(lifted_judgement, read, text))
+            self.lifted(files, status, text)
             text = random_texts.changed_lifted(self.random, text)
 
-    def lift(self, files: Words, read: Read, text: bytes) -> None:
+    def lifted(self, files: Words, status: int, text: bytes) -> bool:
+        """Whether both judges take a lifted refutation. They take none where the status of `check` is that of an observable one."""
+        is_taken = self.alike(["verify-lifted", *files, self.write("lifted", text)])[0] == 1
+        if is_taken and status == 0:
+            raise Wrong("a lifted refutation of an observable outcome is taken")
+        return is_taken
+
+    def lift(self, files: Words, status: int) -> None:
         """What `lift` makes of a certificate, which is there as a file. Both judges take the text that it makes."""
         lift: Words = ["lift", *files, self.path("certificate")]
-        due = within(judgement, read, text, False)
-        if due != (1, UNOBSERVABLE):
-            self.demand(lift, due)
-            return
-        status, made = self.call(lift)
-        if status != 0 or within(lifted_judgement, read, made) != due:
-            raise Wrong(f"lift: status {status}, {made[:80]!r}, which the second implementation does not take")
-        self.demand(["verify-lifted", *files, self.write("made", made)], due)
-        self.outside(lift, (status, made))
+        answer = self.alike(lift)
+        if answer[1].startswith(b"unobservable\n"):
+            if not self.lifted(files, status, answer[1]):
+                raise Wrong(f"lift: {answer[1][:80]!r}, which is not taken")
+            self.outside(lift, answer)
 
     def refused(self, files: Words, line: bytes) -> None:
         """All commands on two files refuse them by this line, which has a word of docs/faults.md."""
@@ -248,20 +196,20 @@ class Runs:
             raise Wrong(f"docs/faults.md has no word {word!r} of a {kind!r}")
         return word
 
-    def certificate(self, files: Words, read: Read, text: bytes, accepted: Answer) -> None:
-        """The certificate, rewritings that keep it right, and changes of it."""
+    def certificate(self, files: Words, status: int, text: bytes) -> None:
+        """The certificate that `check` writes with this status, rewritings that keep it right, and changes of it."""
         verify: Words = ["verify", *files, self.write("certificate", text)]
+        accepted = status, b"verified " + text.partition(b"\n")[0] + b"\n"
         self.demand(verify, accepted)
         if len(text) > 20_000:
             return
-        self.lift(files, read, text)
+        self.lift(files, status)
         self.write("certificate", random_texts.rewritten_certificate(self.random, text))
         self.demand(verify, accepted)
         for _ in range(self.random.choice((1, 2, 4))):
-            spoilt = random_texts.changed_certificate(self.random, text)
-            self.write("certificate", spoilt)
-            self.demand(verify, within(judgement, read, spoilt))
-            self.lift(files, read, spoilt)
+            self.write("certificate", random_texts.changed_certificate(self.random, text))
+            self.alike(verify)
+            self.lift(files, status)
 
     def outside(self, args: Words, answer: Answer) -> None:
         """Now and then the same with an output that fails, or with little memory."""
@@ -274,8 +222,8 @@ class Runs:
         """A full device, a closed output, a pipe that nobody reads: status 5."""
         kind = self.random.choice(("full", "closed", "unread"))
         # a worker makes so many of these calls that none of them may leave a file open
-        with open("/dev/full", "wb") as full, cases.without_output("closed" if kind == "full" else kind) as how:
-            status, _ = self.call(args, **({"stdout": full} if kind == "full" else how))
+        with cases.without_output(kind) as how:
+            status, _ = self.call(args, **how)
         if status != 5:
             raise Wrong(f"{args}: status {status} where the output is {kind}")
 
@@ -321,7 +269,7 @@ class Runs:
             pattern_text = random_texts.changed_file(self.random, pattern_text)
         model_text = random_texts.ModelMaker(self.random).text()
         files: Words = [self.write("model", model_text), self.write("test", pattern_text)]
-        answer = self.demand(["sweep", *files], within(of_second, ["sweep", *files]))
+        answer = self.alike(["sweep", *files])
         if self.random.random() < 0.1:
             self.little_memory(["sweep", *files], answer)
 
@@ -333,17 +281,16 @@ class Runs:
             which = self.random.choice((0, 1, 2, 2, 2))
             texts[which] = random_texts.changed_file(self.random, texts[which])
         files: Words = [*map(self.write, ("model", "test", "query"), texts)]
-        answer = within(of_second, ["ask", *files], seconds=2 * SECONDS_OF_A_READING)
+        answer = self.alike(["ask", *files], 2 * SECONDS_OF_A_READING)
         if answer[0] == 3:
             self.word_of(answer[1])
-        self.demand(["ask", *files], answer)
         self.outside(["ask", *files], answer)
 
     def machine(self) -> None:
         """A test on a shipped model, against the machine that the model names."""
         path = self.random.choice(SHIPPED)
         model_text = cases.read(path).encode()
-        name = re.search(rb"(?im)^%[ \t]*memory model:[ \t]*([\w-]+)", model_text)[1].decode().lower()  # type: ignore[index]
+        name = memory_model_of(model_text).name
         text = random_texts.machine_test(self.random)
         self.write("model", model_text)
         test_path = self.write("test", text)

@@ -7,6 +7,8 @@ said by the second implementation, which reads the changed text too. Rewritings 
 """
 import re
 import sys
+from collections import Counter
+from itertools import count
 from random import Random
 from typing import Iterator
 
@@ -148,17 +150,16 @@ class ModelMaker:
 def test_text(random: Random) -> bytes:
     """A test of either format, of at most twelve micro-ops."""
     has_entries = random.random() < 0.3
-    ops: list[tuple[int, int, tuple[int, int]]] = []
+    ops: list[tuple[int, int]] = []
     lines: list[str] = []
-    g = 0
+    g = core = thread = n = 0
     for _ in range(random.choice((0, 1, 2, 3, 4, 4, 5, 6, 8, 10, 12))):
-        joins = bool(ops) and random.random() < 0.15
-        if not joins:
-            g, place, n = g + 1, (random.randint(0, 3), int(random.random() < 0.1)), 0
+        if ops and random.random() < 0.15:
+            n += 1
         else:
-            g, place, n = ops[-1][0], ops[-1][2], ops[-1][1] + 1
-        ops.append((g, n, place))
-        lines.append(f"Microop {g} {place[0]} {place[1]} {n} ({access(random, has_entries)}).")
+            g, core, thread, n = g + 1, random.randint(0, 3), int(random.random() < 0.1), 0
+        ops.append((g, n))
+        lines.append(f"Microop {g} {core} {thread} {n} ({access(random, has_entries)}).")
     for _ in range(random.choice((0, 0, 1, 2)) if ops else 0):
         first, second = random.choice(ops), random.choice(ops)
         lines.append(f"Relationship {random.choice(KINDS)} {first[0]} {first[1]} -> {second[0]} {second[1]}.")
@@ -166,9 +167,8 @@ def test_text(random: Random) -> bytes:
         for address in random.sample(addresses(has_entries), random.choice((0, 0, 0, 1, 2))):
             value = f"({entry(random)})" if has_entries and random.random() < 0.5 else str(random.randint(0, 3))
             lines.append(f"{word} {address} {value}.")
-    nothing: list[str] = []
-    lines += random.choice((nothing, ["Permitted."], ["Forbidden."]))
-    return "\n".join([f'Litmus{"2" if has_entries else ""} "r".'] + lines + [""]).encode()
+    stated = random.choice(("", "Permitted.\n", "Forbidden.\n"))
+    return "\n".join([f'Litmus{"2" if has_entries else ""} "r".', *lines, stated]).encode()
 
 
 def addresses(has_entries: bool) -> list[str]:
@@ -194,20 +194,16 @@ def access(random: Random, has_entries: bool) -> str:
 
 def machine_test(random: Random) -> bytes:
     """A test that the machines of tools/agree can run: each write of an address has a value of its own."""
-    lines, written = [], {0: [0], 1: [0]}
     plan = [(core, random.choice("RRWWF"), random.randint(0, 1)) for core in range(random.choice((2, 2, 3)))
             for _ in range(random.choice((1, 2, 2, 3)))]
-    for _, kind, page in plan:
-        if kind == "W":
-            written[page].append(len(written[page]))
-    next_value = {0: 1, 1: 1}
+    lines, written, values = [], Counter(page for _, kind, page in plan if kind == "W"), (count(1), count(1))
     for g, (core, kind, page) in enumerate(plan):
         if kind == "F":
             lines.append(f"Microop {g} {core} 0 0 (Fence Full).")
             continue
-        value = random.choice(written[page])
+        value = random.randint(0, written[page])
         if kind == "W":
-            value, next_value[page] = next_value[page], next_value[page] + 1
+            value = next(values[page])
         word = "Read" if kind == "R" else "Write"
         lines.append(f"Microop {g} {core} 0 0 ({word} (VA {page} 0) (PA {page} 0) (Data {value})).")
     return "\n".join(['Litmus "m".'] + lines + [""]).encode()

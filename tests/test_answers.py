@@ -25,6 +25,7 @@ UNREAD = "pipecheck: a file could not be read\n"
 UNWRITTEN = "pipecheck: standard output could not be written: what it got is not the whole answer\n"
 LACKING = "pipecheck: a command is missing; those that there are stand above\n"
 OBSERVABLE, UNOBSERVABLE = "verified observable\n", "verified unobservable\n"
+NO_TEST = "syntax: no test can continue with this token"
 PO_EDGE = "node 0.0@0:S\nnode 1.0@0:S\nedge 0.0@0:S 1.0@0:S\nend\n"
 ORDERED = f"observable\ntest permitted: ok\n{PO_EDGE}"
 CYCLIC = "unobservable\ntest forbidden: ok\ncycle 0.0@0:S 1.0@0:S\nend\n"
@@ -152,11 +153,17 @@ class Answers(Cases):
         """Writes a file of this case. Returns its path."""
         return write(f"{self.work}/{name}", text)
 
-    def judged(
-        self, name: str, status: int, out: str, model: str, test: str, text: str | bytes, word: str = "verify"
-    ) -> None:
+    def judged(self, name: str, status: int, out: str, model: str, test: str, text: str | bytes, word: str = "verify") -> None:
         """The program says this of a certificate of this text."""
         self.shows(name, status, out, word, model, test, self.file("certificate", text))
+
+    def tells(self, name: str, what: str, path: str, place: str, said: str, *words: str, due: str = "") -> None:
+        """This file is refused, and the script tells it: the place, the fault's word with its sentence, the line there with blanks
+        for tabs, a mark below its column, and what is expected there."""
+        line, column = map(int, place.split(":"))
+        row = read(path).splitlines()[line - 1].replace("\t", " ")
+        told = lines(f"{path}:{place}: {said}", f"    {row}", f"{' ' * (3 + column)}^", *[f"pipecheck: {due} is expected"] * bool(due))
+        self.says(name, 3, f"refused {what} {said.partition(':')[0]} at {place}\n", told, *words)
 
     def breaks_off(self, name: str, word: str, model: str, test: str, text: str) -> None:
         """Each first part of the text, by its length, is refused at the line that it breaks off in."""
@@ -551,10 +558,9 @@ class Questions(Answers):
         free = "without 0\nobservable\ntest permitted: ok\nend\nend\n"
         self.shows("core: an axiom that is False by itself", 0, alone + free, "core", self.file("never.uspec", NEVER), TWO)
         true = self.file("true.uspec", "True.\n")
-        self.says(
-            "core: a refusal is told", 3, "refused model syntax at 1:1\n",
-            f"{true}:1:1: syntax: no model can continue with this token\n    True.\n    ^\n"
-            "pipecheck: `StageName`, `Axiom` or `DefineMacro` is expected\n", "core", true, TWO,
+        self.tells(
+            "core: a refusal is told", "model", true, "1:1", "syntax: no model can continue with this token", "core", true, TWO,
+            due="`StageName`, `Axiom` or `DefineMacro`",
         )
 
     def test_core_on_shipped_models(self) -> None:
@@ -586,11 +592,8 @@ class Questions(Answers):
         asked = self.file("asked.uspec", f'{read(PO)}Axiom "asked": {both}.\n')
         self.judged("ask: its graph is of the model with the formula", 0, OBSERVABLE, asked, TWO, ORDERED)
         stage = self.file("stage.query", 'exists microop "i", NodeExists (i, T)\n')
-        self.says(
-            "ask: a refusal is told", 3, "refused query stage-unknown at 1:36\n",
-            f"{stage}:1:36: stage-unknown: no stage has the name\n"
-            f'    exists microop "i", NodeExists (i, T)\n{" " * 39}^\n', "ask", PO, TWO, stage,
-        )
+        said = "stage-unknown: no stage has the name"
+        self.tells("ask: a refusal is told", "query", stage, "1:36", said, "ask", PO, TWO, stage)
 
     def test_shipped_questions(self) -> None:
         for line in read("examples/queries/answers.tsv").splitlines()[1:]:
@@ -614,19 +617,10 @@ class Questions(Answers):
         self.judged("its graph is verified", 0, OBSERVABLE, model, test, walked)
         self.shows("an entry of another page", 0, FREE, "check", model, self.walk("Litmus2", "Maps 8 1 0"))
         test = self.walk("Litmus", "Maps 7 1 0")
-        self.says("an entry in a test of format 1", 3, "refused test syntax at 2:33\n", f"""\
-{test}:2:33: syntax: no test can continue with this token
-    Microop 0 0 0 0 (Read (VA 3 0) (Entry 3) (Maps 7 1 0)).
-{' ' * 36}^
-pipecheck: `PA` is expected
-""", "check", model, test)
+        self.tells("an entry in a test of format 1", "test", test, "2:33", NO_TEST, "check", model, test, due="`PA`")
         test = self.walk("Litmus2", "Maps 7 2 0")
         for name, word in (("a mark of 2", "check"), ("a mark of 2: check2 says it too", "check2")):
-            self.says(name, 3, "refused test mark-value at 2:50\n", f"""\
-{test}:2:50: mark-value: a mark of a page-table entry over 1
-    Microop 0 0 0 0 (Read (VA 3 0) (Entry 3) (Maps 7 2 0)).
-{' ' * 53}^
-""", word, model, test)
+            self.tells(name, "test", test, "2:50", "mark-value: a mark of a page-table entry over 1", word, model, test)
         for name, column, entry in (("both marks over 1", 50, "Maps 7 2 3"), ("a dirty mark over 1", 52, "Maps 7 1 3")):
             self.shows(name, 3, f"refused test mark-value at 2:{column}\n", "check", model, self.walk("Litmus2", entry))
         again = self.file("again.test", 'Litmus2 "d".\nInit (Entry 3) 7.\nInit (Entry 3) (Maps 7 2 0).\n')
@@ -682,11 +676,8 @@ class Listings(Answers):
             ("verify86: a refused listing beside a missing certificate", at, ("verify86", BUFFER, open_one, f"{self.work}/none")),
         ):
             self.shows(name, 3, out, *words)
-        self.says("check86: where a listing has its fault", 3, at, f"""\
-{open_one}:8:20: x86-open: the condition gives this register no value
-     MOV EAX,[y] | MOV EAX,[x] ;
-{' ' * 23}^
-""", "check86", BUFFER, open_one)
+        said = "x86-open: the condition gives this register no value"
+        self.tells("check86: where a listing has its fault", "test", open_one, "8:20", said, "check86", BUFFER, open_one)
 
     def test_faults(self) -> None:
         """Of this line the old part becomes the new one; an empty old part stands at its end."""
@@ -776,22 +767,14 @@ class Listings(Answers):
         self.same("... each once", len(set(rows)), 4096)
         self.same("... and in order", rows, sorted(rows))
         words = self.opens(stored(0, 1), *reads)
-        self.says("one open read too many", 3, "refused test too-many-rows at 15:48\n", f"""\
-{words[2]}:15:48: too-many-rows: of a pattern: with this open read there are more than 4,096 rows
-    Microop 13 0 0 0 (Read (VA 0 0) (PA 0 0) (Data Any)).
-{' ' * 51}^
-""", *words)
+        said = "too-many-rows: of a pattern: with this open read there are more than 4,096 rows"
+        self.tells("one open read too many", "test", words[2], "15:48", said, *words)
         other = self.opens(stored(0, 1), *reads, "Microop 14 64 0 0 (Fence).")
         self.shows("too many rows come after all other faults", 3, "refused test core-number at 16:12\n", *other)
 
     def test_what_may_not_be_open(self) -> None:
         words = self.opens(open_read(0, 0), stored(1, "Any"))
-        self.says("a write that is open", 3, "refused test syntax at 3:48\n", f"""\
-{words[2]}:3:48: syntax: no test can continue with this token
-    Microop 1 0 0 0 (Write (VA 0 0) (PA 0 0) (Data Any)).
-{' ' * 51}^
-pipecheck: a number is expected
-""", *words)
+        self.tells("a write that is open", "test", words[2], "3:48", NO_TEST, *words, due="a number")
         self.shows("an initial value that is open", 3, "refused test syntax at 2:15\n", *self.opens("Init (PA 0 0) Any."))
         pattern = self.file("mp.pattern", lines(*(it for it in read(MP_PATTERN).splitlines() if not it.startswith("%"))))
         for word in ("check", "check2"):
@@ -807,22 +790,14 @@ class Faults(Answers):
 
     def test_where_a_fault_is(self) -> None:
         no_item = self.file("no-item", ".\n")
-        self.says("where a refused test has its fault", 3, "refused test syntax at 1:1\n", f"""\
-{no_item}:1:1: syntax: no test can continue with this token
-    .
-    ^
-pipecheck: `Litmus` or `Litmus2` is expected
-""", "check", PO, no_item)
+        expected = "`Litmus` or `Litmus2`"
+        self.tells("where a refused test has its fault", "test", no_item, "1:1", NO_TEST, "check", PO, no_item, due=expected)
         arity = self.file("arity.uspec", f'{S}Axiom "x": forall microops "i",\n\tIsAnyRead i 7.\n')
         for name, words in (
             ("where a refused model has its fault", ("check", arity, no_item)),
             ("where a refused model has its fault, beside a certificate", ("verify", arity, TWO, MP_CERTIFICATE)),
         ):
-            self.says(name, 3, "refused model arity at 3:2\n", f"""\
-{arity}:3:2: arity: the predicate takes another number of arguments
-     IsAnyRead i 7.
-     ^
-""", *words)
+            self.tells(name, "model", arity, "3:2", "arity: the predicate takes another number of arguments", *words)
         long = self.file("long.uspec", 'Axiom "x": ' + "True /\\ " * 40 + "?\1\n")
         self.says(
             "a part of a long line, without bytes that no screen shows", 3, "refused model lexical at 1:332\n", f"""\

@@ -12,24 +12,23 @@ from __future__ import annotations
 
 import os
 import re
-import runpy
 import shutil
 import signal
 import sys
 
-from tests.cases import LONGEST, TOP, Cases, Done, call, program, read, run, write
+from tests.cases import LONGEST, TOP, Cases, Done, call, command, program, read, run, script_entry, write
 
 # a question is whole where its last line, or its first, is there
-SMT = """#!/bin/sh
+SMT = """\
 [ "$(tail -n 1 "$1")" = '(check-sat)' ] || exit 1
 echo {}
 """
-DIMACS = """#!/bin/sh
+DIMACS = """\
 case $(head -n 1 "$2") in 'c '* | 'p cnf '*) ;; *) exit 1 ;; esac
 echo {}ISFIABLE
 """
 # it runs the program, and counts the bytes of its last file
-VALGRIND = """#!/bin/sh
+VALGRIND = """\
 : >"${2#*=}"
 shift 2
 "$@"
@@ -37,10 +36,8 @@ for last; do :; done
 echo "Collected : $(wc -c <"$last")" >&2
 """
 # in the place of the toolchain: its prover takes some seconds, leaves a library, and judges crates, and edits, with these statuses
-TOOLCHAIN = """#!/bin/sh
-[ "$*" = doc ] && echo {folder}/kit/START.md
-"""
-PROVER = """#!/bin/sh
+TOOLCHAIN = '[ "$*" = doc ] && echo {folder}/kit/START.md\n'
+PROVER = """\
 echo "$3" >>{folder}/proved
 sleep {seconds}
 for it; do [ "$before" != -o ] || : >"$it"; before=$it; done
@@ -48,11 +45,7 @@ for it; do [ "$before" != -o ] || : >"$it"; before=$it; done
 exit {of_crates}
 """
 # a program under test that refuses all, so many seconds after it was asked
-REFUSER = """#!/bin/sh
-sleep {}
-echo refused
-exit 2
-"""
+REFUSER = "sleep {}\necho refused\nexit 2\n"
 
 # what a case shows, the words, the verdict of the solvers, or what the prover does, the status, and what is printed among other
 # things
@@ -118,25 +111,21 @@ TURNS = re.compile(r"^    check2? .* (\d+) turns,(?: .* x (\d+) )?", re.M)
 class Benches(Cases):
     """Calls of the scripts beside programs that stand in for others."""
 
-    def put(self, name: str, text: str) -> None:
-        """A program of this name and text."""
-        os.chmod(write(f"{self.work}/{name}", text), 0o755)
-
     def called(self, words: tuple[str, ...], says: str, is_counted: bool = False) -> Done:
         """A call beside programs that say, or do, this."""
         shutil.rmtree(self.work)
-        os.makedirs(f"{self.work}/kit/bin")
+        texts = {"refuses_at_once": REFUSER.format(0), "refuses_late": REFUSER.format(8)}
         if words[0] == "costs":
             seconds, of_crates, of_edits = says.split()
-            self.put("rt", TOOLCHAIN.format(folder=self.work))
-            self.put("kit/bin/rattle", PROVER.format(folder=self.work, seconds=seconds, of_crates=of_crates, of_edits=of_edits))
+            prover = PROVER.format(folder=self.work, seconds=seconds, of_crates=of_crates, of_edits=of_edits)
+            texts |= {"rt": TOOLCHAIN.format(folder=self.work), "kit/bin/rattle": prover}
         if not is_counted:
-            self.put("valgrind", VALGRIND)
+            texts["valgrind"] = VALGRIND
         # rings are asked of the one alone, since each kind of question takes long to write
         for name in ("minisat",) if words == RINGS else ("cadical", "z3"):
-            self.put(name, SMT.format(says) if name == "z3" else DIMACS.format(says.upper()))
-        for name, wait in (("refuses_at_once", "0"), ("refuses_late", "8")):
-            self.put(name, REFUSER.format(wait))
+            texts[name] = SMT.format(says) if name == "z3" else DIMACS.format(says.upper())
+        for name, text in texts.items():
+            command(f"{self.work}/{name}", text)
         return self.again(*words)
 
     def again(self, name: str, *words: str) -> Done:
@@ -145,7 +134,7 @@ class Benches(Cases):
             # no call may wait for what never comes
             signal.alarm(LONGEST)
             sys.path[0] = f"{TOP}/bench"
-            runpy.run_path(f"{TOP}/bench/{name}.py", run_name="__main__")
+            script_entry(f"{TOP}/bench/{name}.py")()
 
         return call(entry, [name, *words], env={"PATH": f"{self.work}:{os.environ['PATH']}", "PIPECHECK": program()})
 

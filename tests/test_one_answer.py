@@ -6,6 +6,7 @@ spoilt at random, the same ones in each run, and of lifted refutations of shippe
 """
 from __future__ import annotations
 
+import io
 import os
 import re
 import sys
@@ -16,11 +17,10 @@ from random import Random
 from tests import random_texts
 from tests.cases import TOP, Cases, program, run, write
 
-from tools.second.main import Refused, check, judged, judgement
-from tools.second.cases import Case, read_case
+from tools.second.main import Refused, judged
+from tools.second.main import run as answer
+from tools.second.cases import read_case
 from tools.second.lifted import LiftedJudge
-from tools.second.listings import read_listing
-from tools.second.models import Model
 from tools.second.scopes import read_model
 from tools.texts.contents import contents as bytes_of
 
@@ -54,16 +54,11 @@ VERIFIED = "verified unobservable\n"
 sys.setrecursionlimit(20_000)
 
 
-@cache
-def model_of(text: bytes) -> Model:
-    """A model, which is read once."""
-    return judged("model", read_model, text)
-
-
-@cache
-def case_of(text: bytes) -> Case:
-    """A test, which is read once."""
-    return judged("test", read_case, text)
+def second(*words: str) -> str:
+    """The answer of the second implementation."""
+    out = io.StringIO()
+    answer([*words], out)
+    return out.getvalue()
 
 
 def spoilt(chance: Random, listing: bytes) -> bytes:
@@ -98,12 +93,9 @@ class SpoiltListings(Cases):
             for _ in range(COUNT):
                 listing = spoilt(chance, chance.choice(listings))
                 write(path, listing)
-                try:
-                    answer = check(model_of(contents(MODEL)), judged("test", read_listing, listing))[0]
-                except Refused as refused:
-                    answer = f"{refused}\n"
-                self.assertEqual(run([program(), "check86", MODEL, path]).out, answer, listing)
-                words.add(answer.split()[2 if answer.startswith("refused") else 0])
+                found = second("check86", MODEL, path)
+                self.assertEqual(run([program(), "check86", MODEL, path]).out, found, listing)
+                words.add(found.split()[2 if found.startswith("refused") else 0])
             self.assertLess({"observable", "unobservable", "lexical", "syntax"}, words)
 
 
@@ -122,7 +114,7 @@ class SpoiltLifted(Cases):
         while True:
             model, test = random_texts.ModelMaker(chance).text(), random_texts.test_text(chance)
             try:
-                judge = LiftedJudge(model_of(model), case_of(test))
+                judge = LiftedJudge(judged("model", read_model, model), judged("test", read_case, test))
             except Refused:
                 continue
             return model, test, random_texts.lifted_text(chance, judge)
@@ -136,9 +128,9 @@ class SpoiltLifted(Cases):
                 for _ in range(chance.randint(0, 3)):
                     text = random_texts.changed_lifted(chance, text)
                 files = [write(f"{self.work}/{name}", it) for name, it in (("model", model), ("test", test), ("text", text))]
-                answer = judgement("verify-lifted", model_of(model), case_of(test), text)[0]
-                self.assertEqual(run([program(), "verify-lifted", *files]).out, answer, (model, test, text))
-                words.add(answer.split()[0])
+                found = second("verify-lifted", *files)
+                self.assertEqual(run([program(), "verify-lifted", *files]).out, found, (model, test, text))
+                words.add(found.split()[0])
             self.assertEqual(words, {"verified", "certificate"})
 
 
@@ -164,10 +156,9 @@ class Lifts(Cases):
             self.assertEqual((lifted.status, lifted.out), (0, "verified observable\n"), pair)
             return False
         self.assertEqual((certificate.status, lifted.status), (1, 0), pair)
-        judge = run([program(), "verify-lifted", model, test, write(f"{self.work}/lifted", lifted.out)])
-        self.assertEqual((judge.status, judge.out), (1, VERIFIED), pair)
-        text = lifted.out.encode("ascii")
-        self.assertEqual(judgement("verify-lifted", model_of(contents(model)), case_of(contents(test)), text), (VERIFIED, 1), pair)
+        words = "verify-lifted", model, test, write(f"{self.work}/lifted", lifted.out)
+        judge = run([program(), *words])
+        self.assertEqual((judge.status, judge.out, second(*words)), (1, VERIFIED, VERIFIED), pair)
         return True
 
     def test_pairs(self) -> None:

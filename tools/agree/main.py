@@ -47,10 +47,9 @@ from tools.agree.comparing import (
     Other, Pair, Refused, difference, is_allowed, machine_of, model_of, named_memory_model, pattern_of, sweeper, take, test_of
 )
 from tools.agree.comparing_programs import Comparison
-from tools.agree.counts import Counts, tell
 from tools.agree.small_programs import MOST_ACCESSES, MOST_LOCATIONS, Shape, shapes_of
 from tools.agree.table import TABLE, rows_of
-from tools.agree.working import ENDING, Unusable, Workers
+from tools.agree.working import ENDING, Counts, Unusable, Workers, tell
 from tools.ending import SIGNALS
 from tools.second.patterns import ENDING as PATTERN
 from tools.second.standard_output import FAILED, UNREAD, status_of

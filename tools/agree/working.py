@@ -1,6 +1,8 @@
-"""Processes that judge side by side. They end before this one does, with all that they called, however it is ended."""
+"""Processes that judge side by side, and how many of their comparisons agree, differ and failed. They end before this one does, with
+all that they called, however it is ended."""
 import os
 import signal
+import sys
 import traceback
 from collections import deque
 from concurrent.futures import Future, ProcessPoolExecutor
@@ -15,11 +17,14 @@ from types import TracebackType
 from typing import Callable, Generic, Iterable, Iterator, TypeVar
 
 from tools.ending import PATIENCE, SIGNALS
+from tools.second.standard_output import FAILED
 
 # a reader that goes away asks for an end, too
 ENDING = (signal.SIGALRM, signal.SIGHUP, signal.SIGINT, signal.SIGPIPE, signal.SIGQUIT, signal.SIGTERM, signal.SIGUSR1)
 # how many tasks wait for each processor
 WAITING = 4
+# the status where some comparisons differ
+DIFFER = 1
 
 Task = TypeVar("Task")
 Answer = TypeVar("Answer")
@@ -34,6 +39,47 @@ class Failed:
     """A task that was not judged, and why."""
 
     why: str
+
+
+def tell(sentence: str) -> None:
+    print(f"agree: {sentence}", file=sys.stderr, flush=True)
+
+
+@dataclass
+class Counts:
+    """How many comparisons agree, differ and failed. Each that failed is told."""
+
+    agree: int = 0
+    differ: int = 0
+    failed: int = 0
+
+    def enter(self, name: str, said: str | Failed) -> bool:
+        """Takes in what a comparison said, and answers whether the two differ."""
+        if isinstance(said, Failed):
+            self.failed += 1
+            tell(f"{name}: {said.why}")
+            return False
+        self.agree += not said
+        self.differ += bool(said)
+        return bool(said)
+
+    def add(self, other: "Counts") -> None:
+        self.agree += other.agree
+        self.differ += other.differ
+        self.failed += other.failed
+
+    @property
+    def done(self) -> int:
+        return self.agree + self.differ + self.failed
+
+    @property
+    def status(self) -> int:
+        return FAILED if self.failed else DIFFER if self.differ else 0
+
+    @property
+    def line(self) -> str:
+        failed = f", {self.failed} not compared" if self.failed else ""
+        return f"{self.agree} agree, {self.differ} differ{failed}"
 
 
 @dataclass(frozen=True)
