@@ -22,7 +22,7 @@ from tests.cases import Cases, write
 
 # where these stand tests.cases says
 from tools.install import installer
-from tools.install.installed import FORMER, LINKS, Refused
+from tools.install.installer import FORMER, LINKS, Refused
 
 EVENTS = {"os.chmod", "os.mkdir", "os.remove", "os.rename", "os.rmdir", "os.symlink"}
 TAKE_ROOM = {"open", "os.mkdir", "os.symlink"}
