@@ -70,30 +70,24 @@ def program() -> str:
     return said
 
 
-def lay_apart(folder: str) -> None:
-    """Has the scripts stand in this folder as where they are installed, with the program that stands here: which one does is not
-    asked there at each call, and what is in Python is compiled."""
-    # in a checkout that may not be written none of it is
-    compileall.compile_dir(f"{TOP}/tools", quiet=2)
-    for it in ("commands.txt", "docs", "pipecheck", "script", "tools"):
-        _take(f"{TOP}/{it}", f"{folder}/{it}", it != "docs")
-    os.remove(f"{folder}/script/build")
-    shutil.copy2(program(), f"{folder}/pipecheck_cli")
-    os.mkdir(f"{folder}/examples")
-    for it in os.listdir(f"{TOP}/examples"):
-        _take(f"{TOP}/examples/{it}", f"{folder}/examples/{it}", it == "suite")
-
-
 @functools.cache
 def apart() -> str:
-    """The folder of `lay_apart`, one for all families of a run."""
-    said = os.environ.get("APART")
-    if said is None:
-        said = tempfile.mkdtemp(prefix="pipecheck-apart-")
-        atexit.register(shutil.rmtree, said, ignore_errors=True)
-        lay_apart(said)
-        os.environ["APART"] = said
-    return said
+    """A folder, one for all families of a run, where the scripts stand as where they are installed, with the program that stands
+    here: which one does is not asked there at each call, and what is in Python is compiled."""
+    if "APART" not in os.environ:
+        folder = tempfile.mkdtemp(prefix="pipecheck-apart-")
+        atexit.register(shutil.rmtree, folder, ignore_errors=True)
+        # in a checkout that may not be written none of it is
+        compileall.compile_dir(f"{TOP}/tools", quiet=2)
+        for it in ("commands.txt", "docs", "pipecheck", "script", "tools"):
+            _take(f"{TOP}/{it}", f"{folder}/{it}", it != "docs")
+        os.remove(f"{folder}/script/build")
+        shutil.copy2(program(), f"{folder}/pipecheck_cli")
+        os.mkdir(f"{folder}/examples")
+        for it in os.listdir(f"{TOP}/examples"):
+            _take(f"{TOP}/examples/{it}", f"{folder}/examples/{it}", it == "suite")
+        os.environ["APART"] = folder
+    return os.environ["APART"]
 
 
 def pipecheck() -> str:
@@ -359,6 +353,32 @@ def copy_checkout(folder: str, copied: Sequence[str] = (), crates: Sequence[str]
     return folder
 
 
+class InACheckout(Cases):
+    """Cases in a checkout, `top`, with a PATH that has no toolchain, `plain`; both are in a folder of the class, `room`."""
+
+    # the programs that may answer
+    proved: str | None = None
+    room: str
+    top: str
+    plain: str
+
+    @classmethod
+    def setUpClass(cls) -> None:
+        cls.room = os.path.realpath(tempfile.mkdtemp(prefix="pipecheck-tests-"))
+        cls.addClassCleanup(shutil.rmtree, cls.room, ignore_errors=True)
+        cls.top, cls.plain = f"{cls.room}/checkout", commands_without(f"{cls.room}/plain", "rt")
+
+    @classmethod
+    def run_it(cls, words: Sequence[str | bytes], env: Mapping[str, str | None] | None = None, **how: Any) -> Done:
+        """Runs a command there."""
+        its = {"PATH": cls.plain, "PIPECHECK_PROVED": cls.proved, **(env or {})}
+        return run(words, cwd=how.pop("cwd", cls.top), env=its, **how)
+
+    def does(self, name: str, status: int, out: str, err: str, words: Sequence[str | bytes], **how: Any) -> None:
+        """A command that runs there ends with this status and writes these two texts."""
+        self.same(name, self.run_it(words, **how), Done(status, out, err))
+
+
 def _take(path: str, at: str, is_copied: bool) -> None:
     """Copies what stands at this path, or links it."""
     if not is_copied:
@@ -391,10 +411,8 @@ def unread(named: str | None = None) -> Iterator[int]:
         reader = os.open(named, os.O_RDONLY | os.O_NONBLOCK)
         writer = os.open(named, os.O_WRONLY)
     os.close(reader)
-    try:
+    with open(writer, "wb", buffering=0):
         yield writer
-    finally:
-        os.close(writer)
 
 
 def commands_without(folder: str, name: str) -> str:
@@ -412,16 +430,12 @@ def without_output(kind: str) -> Iterator[dict[str, Any]]:
     """Words of `run` by which standard output takes nothing: a `full` device, a `closed` file, or a pipe `unread` by anyone."""
     if kind == "closed":
         yield {"stdout": None, "preexec_fn": functools.partial(os.close, 1)}
-        return
-    reader, file = os.pipe()
-    os.close(reader)
-    if kind == "full":
-        os.close(file)
-        file = os.open("/dev/full", os.O_WRONLY)
-    try:
-        yield {"stdout": file}
-    finally:
-        os.close(file)
+    elif kind == "full":
+        with open("/dev/full", "wb") as device:
+            yield {"stdout": device}
+    else:
+        with unread() as pipe:
+            yield {"stdout": pipe}
 
 
 def command(path: str, text: str) -> str:

@@ -10,13 +10,12 @@ import resource
 import shutil
 import signal
 import subprocess
-import tempfile
 import time
 from typing import Any, Callable, Iterator, Mapping, Sequence
 
 from tests.cases import (
-    NO_TOOLCHAIN, TOP, Cases, Done, as_proved, at_once, call, command, command_forms, commands_without, copy_checkout, environment,
-    hash_of, heed_signals, program, read, run, status_of, tool, within, write
+    NO_TOOLCHAIN, TOP, Done, InACheckout, as_proved, at_once, call, command, command_forms, copy_checkout, environment, hash_of,
+    heed_signals, program, read, run, status_of, tool, within, write
 )
 
 # where these stand tests.cases says
@@ -45,7 +44,6 @@ for line in $argv[2..]
     echo end
 end
 """
-# as Ctrl-C and Ctrl-\\ find what a terminal starts
 
 
 def installed_under(prefix: str) -> str:
@@ -82,21 +80,16 @@ def completed(shell: str, prefix: str, cwd: str, lines: Sequence[str]) -> list[s
     return [" ".join(sorted(row)) for row in rows[:-1]]
 
 
-class Installs(Cases):
+class Installs(InACheckout):
     """Cases with a checkout where the program that is tested stands as the proved one. Nothing is built here."""
 
     # whether the checkout has all examples, and not those few that are called
     has_all = False
-    room: str
-    top: str
-    plain: str
 
     @classmethod
     def setUpClass(cls) -> None:
-        cls.room = os.path.realpath(tempfile.mkdtemp(prefix="pipecheck-tests-"))
-        cls.addClassCleanup(shutil.rmtree, cls.room, ignore_errors=True)
-        copied = ("docs", "editors", "tools", "tests", *["examples"] * cls.has_all)
-        cls.top = copy_checkout(f"{cls.room}/checkout", copied)
+        super().setUpClass()
+        copy_checkout(cls.top, ("docs", "editors", "tools", "tests", *["examples"] * cls.has_all))
         if not cls.has_all:
             os.remove(f"{cls.top}/examples")
             os.mkdir(f"{cls.top}/examples")
@@ -105,16 +98,6 @@ class Installs(Cases):
         # as if it were of one crate, which is read at each call
         write(f"{cls.top}/crates.txt", "pipecheck_cli:\n")
         as_proved(cls.top, program())
-        cls.plain = commands_without(f"{cls.room}/plain", "rt")
-
-    def run_it(self, words: Sequence[str | bytes], env: Mapping[str, str | None] | None = None, **how: Any) -> Done:
-        """Runs a command where there is no toolchain."""
-        its: dict[str, str | None] = {"PATH": self.plain, "PIPECHECK_PROVED": None}
-        return run(words, cwd=how.pop("cwd", self.top), env={**its, **(env or {})}, **how)
-
-    def does(self, name: str, status: int, out: str, err: str, words: Sequence[str | bytes], **how: Any) -> None:
-        """A command that runs there ends with this status and writes these two texts."""
-        self.same(name, self.run_it(words, **how), Done(status, out, err))
 
     def installs(self, name: str, prefix: str) -> None:
         """An install under this folder."""
@@ -139,15 +122,14 @@ class Installed(Installs):
         super().setUpClass()
         cls.prefix = f"{cls.room}/prefix"
         cls.tree = f"{cls.prefix}/lib/pipecheck"
-        env: dict[str, str | None] = {"PATH": cls.plain, "PIPECHECK_PROVED": None}
-        words = [f"{cls.top}/install", cls.prefix]
+        words = ["./install", cls.prefix]
         # the same program, as it stands without its proofs
         for old, new in (("pipecheck_cli", "unproved_cli"), ("pipecheck_built", "unproved_built")):
             os.rename(f"{cls.top}/{OUT}/{old}", f"{cls.top}/{OUT}/{new}")
-        cls.without = run(words, env=env)
+        cls.without = cls.run_it(words)
         as_proved(cls.top, program())
         os.mkdir(cls.prefix)
-        cls.done = run(words, env=env, preexec_fn=lambda: os.umask(0o077))
+        cls.done = cls.run_it(words, preexec_fn=lambda: os.umask(0o077))
         os.rename(cls.top, f"{cls.room}/elsewhere")
         cls.top = f"{cls.room}/elsewhere"
 
