@@ -14,7 +14,6 @@ import contextlib
 import fcntl
 import os
 import shutil
-import subprocess
 import sys
 from typing import Callable, Iterator
 
@@ -68,11 +67,10 @@ def make_kind(kind: str) -> None:
     with in_turn(kind):
         if stands(kind):
             return
-        tool = subprocess.run(["rt", "--version"], stdin=subprocess.DEVNULL, capture_output=True, check=False)
-        sources = asked("hash_sources")
-        if sources is None or tool.returncode != 0:
+        tool, sources = asked("rt --version"), asked("hash_sources")
+        if sources is None or tool is None:
             raise Hindered("the sources that the program is made of could not be read, or what rt says of itself")
-        MAKERS[kind](sources, os.fsdecode(tool.stdout).partition("\n")[0], crates()).make()
+        MAKERS[kind](sources, tool.partition("\n")[0], crates()).make()
         if not stands(kind):
             raise Hindered("a source changed while the program was made, so call again")
 

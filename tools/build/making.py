@@ -22,7 +22,6 @@ WELL = re.compile(r": proved$|^(statements|library|logic|by-macro) ")
 # the crate of the program, and where the programs stand
 PROGRAM = "pipecheck_cli"
 OUT = f"{TOP}/crates/{PROGRAM}/out"
-ASKED = 'top=$1; . "$top/script/calls" && '
 
 
 class Failed(Exception):
@@ -37,10 +36,10 @@ class NothingMade(Failed):
 
 
 def asked(words: str) -> Optional[str]:
-    """What a function of script/build prints; None where it fails."""
+    """What a command prints, or a function of script/build; None where it fails."""
     done = subprocess.run(
-        ["bash", "-p", "-c", ASKED + words, "asked", TOP], stdin=subprocess.DEVNULL, stdout=subprocess.PIPE,
-        stderr=subprocess.DEVNULL, check=False,
+        ["bash", "-p", "-c", f'top=$1; . "$top/script/calls" && {words}', "asked", TOP], stdin=subprocess.DEVNULL,
+        stdout=subprocess.PIPE, stderr=subprocess.DEVNULL, check=False,
     )
     return os.fsdecode(done.stdout).rstrip("\n") if done.returncode == 0 else None
 
@@ -59,8 +58,7 @@ def uses_of(checkout: str) -> dict[str, list[str]]:
 
 def toolchain() -> str:
     """The folder of the toolchain; `rt` prints the path of a page in it."""
-    said = subprocess.run(["rt", "doc"], stdin=subprocess.DEVNULL, capture_output=True, check=False)
-    return os.path.dirname(os.fsdecode(said.stdout.strip()))
+    return os.path.dirname(asked("rt doc || :") or "")
 
 
 def linking(tools: str, compiled: str, program: str) -> list[str]:

@@ -39,12 +39,7 @@ def origin() -> str:
     is_top = (here("rev-parse", "--show-toplevel") or b"") == os.fsencode(f"{TOP}\n")
     commit = os.fsdecode(here("rev-parse", "HEAD") or b"").strip() if is_top else ""
     changed = ", changed since" if commit and has_changed() else ""
-    tool = note_line(1)
-    if not tool:
-        try:
-            tool = os.fsdecode(subprocess.run(["rt", "--version"], capture_output=True, check=True).stdout)
-        except (OSError, subprocess.CalledProcessError):
-            tool = ""
+    tool = note_line(1) or asked("rt --version") or ""
     return f"commit {commit or 'unknown'}{changed}\nlogic {tool.rpartition(' logic ')[2].strip() if ' logic ' in tool else 'unknown'}"
 
 
