@@ -59,20 +59,6 @@ def processors() -> int:
     return int(said) if said.isdigit() and int(said) > 0 else len(os.sched_getaffinity(0))
 
 
-def proof(tools: str, libraries: str, checkout: str, crates: list[str]) -> list[str]:
-    """The call that proves and compiles the program, in its folder of the checkout. The other repository has the crates
-    that it stands on, as `rt ci` left them."""
-    places = {name: f"{libraries}/crates/{name}/out/rlib" for name in crates if name != PROGRAM}
-    words = [f"{tools}/bin/rattle", "build", "--crate-name", PROGRAM, "src/main.rt", "-L", f"dependency={tools}/rlibs"]
-    for name in ["std", *uses_of(checkout).get(PROGRAM, [])]:
-        words += ["--extern", f"{name}={places.get(name, f'{tools}/rlibs')}/{name}.rlib"]
-    for place in places.values():
-        words += ["-L", f"dependency={place}"]
-    words += ["--antt-project", f"{tools}/rattle/logic/antt-project.json", "--logic-built", f"{tools}/logic_built"]
-    words += ["--jobs", str(processors()), "--links", f"{PROGRAM}=", "--toolchain", f"{tools}/toolchain"]
-    return [*words, "--backend", "llvm", "-o", f"out/{PROGRAM}.o"]
-
-
 def is_proved(said: str) -> bool:
     """Whether the call that proves says so, and nothing of handles."""
     lines = said.splitlines()
@@ -108,12 +94,24 @@ class Proved(Job):
         self.copy_crates([it for it in self.crates if it != PROGRAM], "libraries")
         super().copy()
 
+    def proof(self, tools: str) -> list[str]:
+        """The call that proves and compiles the program, in its folder of the checkout. The other repository has the crates
+        that it stands on, as `rt ci` left them."""
+        places = {name: f"{self.room}/libraries/crates/{name}/out/rlib" for name in self.crates if name != PROGRAM}
+        words = [f"{tools}/bin/rattle", "build", "--crate-name", PROGRAM, "src/main.rt", "-L", f"dependency={tools}/rlibs"]
+        for name in ["std", *uses_of(f"{self.room}/checkout").get(PROGRAM, [])]:
+            words += ["--extern", f"{name}={places.get(name, f'{tools}/rlibs')}/{name}.rlib"]
+        for place in places.values():
+            words += ["-L", f"dependency={place}"]
+        words += ["--antt-project", f"{tools}/rattle/logic/antt-project.json", "--logic-built", f"{tools}/logic_built"]
+        words += ["--jobs", str(processors()), "--links", f"{PROGRAM}=", "--toolchain", f"{tools}/toolchain"]
+        return [*words, "--backend", "llvm", "-o", f"out/{PROGRAM}.o"]
+
     def is_called(self) -> bool:
         """Whether one call proved the program over its libraries, compiled it, and it was linked."""
-        tools = toolchain()
-        folder = f"{self.room}/checkout/crates/{PROGRAM}"
+        tools, folder = toolchain(), f"{self.room}/checkout/crates/{PROGRAM}"
         os.makedirs(f"{folder}/out", exist_ok=True)
-        words = proof(tools, f"{self.room}/libraries", f"{self.room}/checkout", self.crates)
+        words = self.proof(tools)
         with tempfile.TemporaryFile(dir=f"{self.room}/temporary") as said:
             status = self.run(words, folder, said)
             said.seek(0)
