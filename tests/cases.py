@@ -235,7 +235,8 @@ def signal_unseen() -> None:
 
 
 def write(path: str, text: str | bytes) -> str:
-    """Writes a file. Returns its path."""
+    """Writes a file, with the folders on the way to it. Returns its path."""
+    os.makedirs(os.path.dirname(path) or ".", exist_ok=True)
     with open(path, "wb") as file:
         file.write(text if isinstance(text, bytes) else text.encode("utf-8", "surrogateescape"))
     return path
@@ -401,6 +402,42 @@ def heed_signals() -> None:
         signal.signal(it, signal.SIG_DFL)
 
 
+def as_a_job() -> None:
+    """Of a process that begins: a group of its own, which signals end."""
+    os.setpgrp()
+    heed_signals()
+
+
+class Beside:
+    """A command that runs beside a test, as a job of a shell does, and has by now written to this file, or where none is named to
+    standard error. `how` are words of `subprocess.Popen`."""
+
+    def __init__(self, words: Sequence[str], begun: str | None, env: Mapping[str, str | None], **how: Any) -> None:
+        with contextlib.suppress(FileNotFoundError):
+            os.remove(begun or "")
+        self.out, self.err = tempfile.TemporaryFile(), tempfile.TemporaryFile()
+        self.process = subprocess.Popen(  # pylint: disable=subprocess-popen-preexec-fn,consider-using-with
+            words, env=environment(env), stdin=subprocess.DEVNULL, stdout=self.out, stderr=self.err, preexec_fn=as_a_job, **how
+        )
+        noted = begun or f"/proc/self/fd/{self.err.fileno()}"
+        comes(lambda: self.process.poll() is not None or os.path.exists(noted) and os.path.getsize(noted) > 0)
+
+    def ended_by(self, name: str, is_group: bool = False) -> Done:
+        """What it wrote until this signal ended it, or all that it began with it; it is ended by force where it lives on."""
+        if is_group:
+            os.killpg(self.process.pid, signal.Signals[f"SIG{name}"])
+        else:
+            self.process.send_signal(signal.Signals[f"SIG{name}"])
+        try:
+            self.process.wait(PATIENCE)
+        except subprocess.TimeoutExpired:
+            self.process.kill()
+        with self.out, self.err:
+            self.out.seek(0)
+            self.err.seek(0)
+            return Done(status_of(self.process.wait()), text_of(self.out.read()), text_of(self.err.read()))
+
+
 @contextlib.contextmanager
 def unread(named: str | None = None) -> Iterator[int]:
     """The end of a pipe to write to, which nobody reads any more: of one between two commands, or of one of this name."""
@@ -440,7 +477,6 @@ def without_output(kind: str) -> Iterator[dict[str, Any]]:
 
 def command(path: str, text: str) -> str:
     """Writes a command, which this shell script is. Returns its path."""
-    os.makedirs(os.path.dirname(path), exist_ok=True)
     write(path, text if text.startswith("#!") else f"#!/bin/sh\n{text}")
     os.chmod(path, 0o755)
     return path
@@ -465,6 +501,17 @@ def replaced(owner: object, name: str, value: object) -> Iterator[None]:
         yield
     finally:
         setattr(owner, name, was)
+
+
+@contextlib.contextmanager
+def holding(path: str, text: str) -> Iterator[None]:
+    """Has a file with this text meanwhile, also in the place of another one."""
+    was = read(path) if os.path.exists(path) else None
+    write(path, text)
+    try:
+        yield
+    finally:
+        os.remove(path) if was is None else write(path, was)
 
 
 def files_below(folder: str) -> list[str]:

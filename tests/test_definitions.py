@@ -171,7 +171,6 @@ class Scripts(Cases):
 
     def put(self, path: str, text: str) -> None:
         """A file of the tree."""
-        os.makedirs(os.path.dirname(f"{self.work}/{path}"), exist_ok=True)
         write(f"{self.work}/{path}", text)
 
     def said(self, script: str, *words: str) -> Done:

@@ -8,14 +8,12 @@ import os
 import re
 import resource
 import shutil
-import signal
 import subprocess
-import time
 from typing import Any, Callable, Iterator, Mapping, Sequence
 
 from tests.cases import (
-    NO_TOOLCHAIN, TOP, Done, InACheckout, as_proved, at_once, call, command, command_forms, copy_checkout, environment, hash_of,
-    heed_signals, program, read, run, status_of, tool, within, write
+    NO_TOOLCHAIN, TOP, Beside, Done, InACheckout, as_proved, at_once, call, command, command_forms, copy_checkout, hash_of,
+    heed_signals, holding, program, read, run, tool, within, write
 )
 
 # where these stand tests.cases says
@@ -475,55 +473,29 @@ class Fails(Installs):
         is_left = self.older_one()
         self.is_refused("an update that fails", said, ["./install", self.way], preexec_fn=limit)
         is_left("... leaves the older one")
-        with self.manual("exit 1\n"):
+        with holding(f"{self.top}/examples/suite", "#!/bin/sh\nexit 1\n"):
             self.is_refused(
                 "a man page that cannot be made", "install: the man page pipecheck-suite(1) could not be made\n",
                 ["./install", self.way],
             )
         is_left("... leaves the older one")
 
-    @contextlib.contextmanager
-    def manual(self, text: str) -> Iterator[str]:
-        """Has this say meanwhile what a man page is made of."""
-        path = f"{self.top}/examples/suite"
-        shutil.move(path, f"{self.work}/manual")
-        command(path, text)
-        try:
-            yield path
-        finally:
-            shutil.move(f"{self.work}/manual", path)
-
-    def ended(self, words: Sequence[str], begun: str, number: int, env: Mapping[str, str | None], is_group: bool) -> Done:
-        """A call that this signal ends, or with it all that it began, once this file is there."""
-        with contextlib.suppress(FileNotFoundError):
-            os.remove(begun)
-        with open(f"{self.work}/out", "w+b") as out, open(f"{self.work}/err", "w+b") as err, subprocess.Popen(
-            ["./install", *words], cwd=self.top, env=environment({"PATH": self.plain, "PIPECHECK_PROVED": None, **env}),
-            stdin=subprocess.DEVNULL, stdout=out, stderr=err, start_new_session=is_group,
-            preexec_fn=heed_signals,
-        ) as process:
-            while not os.path.exists(begun) and process.poll() is None:
-                time.sleep(0.05)
-            (os.killpg if is_group else os.kill)(process.pid, number)
-        return Done(status_of(process.returncode), read(f"{self.work}/out"), read(f"{self.work}/err"))
-
     def test_signals(self) -> None:
         is_left, begun = self.older_one(), f"{self.work}/begun"
-        with self.manual(f": >'{begun}'\nexec sleep 600\n"):
+        env: dict[str, str | None] = {"PATH": self.plain, "PIPECHECK_PROVED": None}
+        with holding(f"{self.top}/examples/suite", f"#!/bin/sh\necho >'{begun}'\nexec sleep 600\n"):
             for name, status in (("HUP", 129), ("INT", 130), ("QUIT", 131), ("TERM", 143)):
-                done = self.ended([self.way], begun, signal.Signals[f"SIG{name}"], {}, False)
+                done = Beside(["./install", self.way], begun, env, cwd=self.top).ended_by(name)
                 self.judge(f"an install that {name} ends", done, status)
                 is_left("... leaves the older one")
         # Ctrl-C reaches all that the script began, also a Python that loads, and would say then where it was
         command(f"{self.work}/late/python3", """[ "${5-}" = "$LATE" ] || exec "$PYTHON" "$@"
-exec "$PYTHON" -c 'import sys, time; open(sys.argv[1], "w").close(); time.sleep(600)' "$BEGUN"
+exec "$PYTHON" -c 'import sys, time; open(sys.argv[1], "w").write("begun"); time.sleep(600)' "$BEGUN"
 """)
         way = [self.way]
         for name, late, words in (("judge", "judge", way), ("install", "install", way), ("uninstall", "judge", ["--uninstall", *way])):
-            env: dict[str, str | None] = {
-                "PYTHON": f"{self.plain}/python3", "BEGUN": begun, "LATE": late, "PATH": f"{self.work}/late:{self.plain}",
-            }
-            done = self.ended(words, begun, signal.SIGINT, env, True)
+            env |= {"PYTHON": f"{self.plain}/python3", "BEGUN": begun, "LATE": late, "PATH": f"{self.work}/late:{self.plain}"}
+            done = Beside(["./install", *words], begun, env, cwd=self.top).ended_by("INT", True)
             self.judge(f"Ctrl-C while Python loads to {name}: nothing is said", done, 130)
         is_left("... and the older one is left")
         # Ctrl-\ reaches what the script waits for, too; a shell names the signal then

@@ -106,7 +106,6 @@ class Built(InACopy):
 
     def test_clean(self) -> None:
         for it in ("pc_common/out/lib.rlib", "pc_common/out/incremental/kept", "solver/out/x", "pipecheck_cli/out/pipecheck_cli.o"):
-            os.makedirs(os.path.dirname(f"{self.top}/crates/{it}"), exist_ok=True)
             write(f"{self.top}/crates/{it}", "")
         self.judge("--clean", self.call_it("--clean"))
         left = [f"pipecheck_cli/out/{it}" for it in ("pipecheck_built", "pipecheck_cli", "pipecheck_lock", "unproved_lock")]
