@@ -70,30 +70,24 @@ def program() -> str:
     return said
 
 
-def lay_apart(folder: str) -> None:
-    """Has the scripts stand in this folder as where they are installed, with the program that stands here: which one does is not
-    asked there at each call, and what is in Python is compiled."""
-    # in a checkout that may not be written none of it is
-    compileall.compile_dir(f"{TOP}/tools", quiet=2)
-    for it in ("commands.txt", "docs", "pipecheck", "script", "tools"):
-        _take(f"{TOP}/{it}", f"{folder}/{it}", it != "docs")
-    os.remove(f"{folder}/script/build")
-    shutil.copy2(program(), f"{folder}/pipecheck_cli")
-    os.mkdir(f"{folder}/examples")
-    for it in os.listdir(f"{TOP}/examples"):
-        _take(f"{TOP}/examples/{it}", f"{folder}/examples/{it}", it == "suite")
-
-
 @functools.cache
 def apart() -> str:
-    """The folder of `lay_apart`, one for all families of a run."""
-    said = os.environ.get("APART")
-    if said is None:
-        said = tempfile.mkdtemp(prefix="pipecheck-apart-")
-        atexit.register(shutil.rmtree, said, ignore_errors=True)
-        lay_apart(said)
-        os.environ["APART"] = said
-    return said
+    """A folder, one for all families of a run, where the scripts stand as where they are installed, with the program that stands
+    here: which one does is not asked there at each call, and what is in Python is compiled."""
+    if "APART" not in os.environ:
+        folder = tempfile.mkdtemp(prefix="pipecheck-apart-")
+        atexit.register(shutil.rmtree, folder, ignore_errors=True)
+        # in a checkout that may not be written none of it is
+        compileall.compile_dir(f"{TOP}/tools", quiet=2)
+        for it in ("commands.txt", "docs", "pipecheck", "script", "tools"):
+            _take(f"{TOP}/{it}", f"{folder}/{it}", it != "docs")
+        os.remove(f"{folder}/script/build")
+        shutil.copy2(program(), f"{folder}/pipecheck_cli")
+        os.mkdir(f"{folder}/examples")
+        for it in os.listdir(f"{TOP}/examples"):
+            _take(f"{TOP}/examples/{it}", f"{folder}/examples/{it}", it == "suite")
+        os.environ["APART"] = folder
+    return os.environ["APART"]
 
 
 def pipecheck() -> str:
@@ -241,7 +235,8 @@ def signal_unseen() -> None:
 
 
 def write(path: str, text: str | bytes) -> str:
-    """Writes a file. Returns its path."""
+    """Writes a file, with the folders on the way to it. Returns its path."""
+    os.makedirs(os.path.dirname(path) or ".", exist_ok=True)
     with open(path, "wb") as file:
         file.write(text if isinstance(text, bytes) else text.encode("utf-8", "surrogateescape"))
     return path
@@ -359,6 +354,32 @@ def copy_checkout(folder: str, copied: Sequence[str] = (), crates: Sequence[str]
     return folder
 
 
+class InACheckout(Cases):
+    """Cases in a checkout, `top`, with a PATH that has no toolchain, `plain`; both are in a folder of the class, `room`."""
+
+    # the programs that may answer
+    proved: str | None = None
+    room: str
+    top: str
+    plain: str
+
+    @classmethod
+    def setUpClass(cls) -> None:
+        cls.room = os.path.realpath(tempfile.mkdtemp(prefix="pipecheck-tests-"))
+        cls.addClassCleanup(shutil.rmtree, cls.room, ignore_errors=True)
+        cls.top, cls.plain = f"{cls.room}/checkout", commands_without(f"{cls.room}/plain", "rt")
+
+    @classmethod
+    def run_it(cls, words: Sequence[str | bytes], env: Mapping[str, str | None] | None = None, **how: Any) -> Done:
+        """Runs a command there."""
+        its = {"PATH": cls.plain, "PIPECHECK_PROVED": cls.proved, **(env or {})}
+        return run(words, cwd=how.pop("cwd", cls.top), env=its, **how)
+
+    def does(self, name: str, status: int, out: str, err: str, words: Sequence[str | bytes], **how: Any) -> None:
+        """A command that runs there ends with this status and writes these two texts."""
+        self.same(name, self.run_it(words, **how), Done(status, out, err))
+
+
 def _take(path: str, at: str, is_copied: bool) -> None:
     """Copies what stands at this path, or links it."""
     if not is_copied:
@@ -381,6 +402,42 @@ def heed_signals() -> None:
         signal.signal(it, signal.SIG_DFL)
 
 
+def as_a_job() -> None:
+    """Of a process that begins: a group of its own, which signals end."""
+    os.setpgrp()
+    heed_signals()
+
+
+class Beside:
+    """A command that runs beside a test, as a job of a shell does, and has by now written to this file, or where none is named to
+    standard error. `how` are words of `subprocess.Popen`."""
+
+    def __init__(self, words: Sequence[str], begun: str | None, env: Mapping[str, str | None], **how: Any) -> None:
+        with contextlib.suppress(FileNotFoundError):
+            os.remove(begun or "")
+        self.out, self.err = tempfile.TemporaryFile(), tempfile.TemporaryFile()
+        self.process = subprocess.Popen(  # pylint: disable=subprocess-popen-preexec-fn,consider-using-with
+            words, env=environment(env), stdin=subprocess.DEVNULL, stdout=self.out, stderr=self.err, preexec_fn=as_a_job, **how
+        )
+        noted = begun or f"/proc/self/fd/{self.err.fileno()}"
+        comes(lambda: self.process.poll() is not None or os.path.exists(noted) and os.path.getsize(noted) > 0)
+
+    def ended_by(self, name: str, is_group: bool = False) -> Done:
+        """What it wrote until this signal ended it, or all that it began with it; it is ended by force where it lives on."""
+        if is_group:
+            os.killpg(self.process.pid, signal.Signals[f"SIG{name}"])
+        else:
+            self.process.send_signal(signal.Signals[f"SIG{name}"])
+        try:
+            self.process.wait(PATIENCE)
+        except subprocess.TimeoutExpired:
+            self.process.kill()
+        with self.out, self.err:
+            self.out.seek(0)
+            self.err.seek(0)
+            return Done(status_of(self.process.wait()), text_of(self.out.read()), text_of(self.err.read()))
+
+
 @contextlib.contextmanager
 def unread(named: str | None = None) -> Iterator[int]:
     """The end of a pipe to write to, which nobody reads any more: of one between two commands, or of one of this name."""
@@ -391,10 +448,8 @@ def unread(named: str | None = None) -> Iterator[int]:
         reader = os.open(named, os.O_RDONLY | os.O_NONBLOCK)
         writer = os.open(named, os.O_WRONLY)
     os.close(reader)
-    try:
+    with open(writer, "wb", buffering=0):
         yield writer
-    finally:
-        os.close(writer)
 
 
 def commands_without(folder: str, name: str) -> str:
@@ -412,21 +467,16 @@ def without_output(kind: str) -> Iterator[dict[str, Any]]:
     """Words of `run` by which standard output takes nothing: a `full` device, a `closed` file, or a pipe `unread` by anyone."""
     if kind == "closed":
         yield {"stdout": None, "preexec_fn": functools.partial(os.close, 1)}
-        return
-    reader, file = os.pipe()
-    os.close(reader)
-    if kind == "full":
-        os.close(file)
-        file = os.open("/dev/full", os.O_WRONLY)
-    try:
-        yield {"stdout": file}
-    finally:
-        os.close(file)
+    elif kind == "full":
+        with open("/dev/full", "wb") as device:
+            yield {"stdout": device}
+    else:
+        with unread() as pipe:
+            yield {"stdout": pipe}
 
 
 def command(path: str, text: str) -> str:
     """Writes a command, which this shell script is. Returns its path."""
-    os.makedirs(os.path.dirname(path), exist_ok=True)
     write(path, text if text.startswith("#!") else f"#!/bin/sh\n{text}")
     os.chmod(path, 0o755)
     return path
@@ -451,6 +501,17 @@ def replaced(owner: object, name: str, value: object) -> Iterator[None]:
         yield
     finally:
         setattr(owner, name, was)
+
+
+@contextlib.contextmanager
+def holding(path: str, text: str) -> Iterator[None]:
+    """Has a file with this text meanwhile, also in the place of another one."""
+    was = read(path) if os.path.exists(path) else None
+    write(path, text)
+    try:
+        yield
+    finally:
+        os.remove(path) if was is None else write(path, was)
 
 
 def files_below(folder: str) -> list[str]:

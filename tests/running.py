@@ -43,9 +43,7 @@ Class = type[unittest.TestCase]
 class Lines(unittest.TestResult):
     """Prints a line for each case: for each part of a test method that has a name, or for the method."""
 
-    def __init__(self) -> None:
-        super().__init__()
-        self.has_parts = False
+    has_parts = False
 
     def startTest(self, test: unittest.TestCase) -> None:
         super().startTest(test)
@@ -73,20 +71,17 @@ class Lines(unittest.TestResult):
         super().addError(test, err)
         self.tell("failed", test, self.errors[-1][1])
 
-    def addFailure(self, test: unittest.TestCase, err: Any) -> None:
-        super().addFailure(test, err)
-        self.tell("failed", test, self.failures[-1][1])
+    addFailure = addError
 
     def addSkip(self, test: unittest.TestCase, reason: str) -> None:
         super().addSkip(test, reason)
         self.tell("skipped", test, reason)
 
     def addSubTest(self, test: unittest.TestCase, subtest: unittest.TestCase, err: Any) -> None:
-        super().addSubTest(test, subtest, err)
         if err is None:
             self.tell("ok", subtest)
         else:
-            self.tell("failed", subtest, (self.failures if issubclass(err[0], test.failureException) else self.errors)[-1][1])
+            self.addError(subtest, err)
 
 
 def families() -> list[str]:
@@ -200,9 +195,9 @@ def prepare(room: str) -> None:
     shorten_python(f"{room}/python")
     # what pages show of explain has lines as where there is no terminal
     os.environ.pop("COLUMNS", None)
-    os.mkdir(f"{room}/apart")
-    cases.lay_apart(f"{room}/apart")
-    os.environ["APART"] = f"{room}/apart"
+    # of a run that this one is a part of
+    os.environ.pop("APART", None)
+    cases.apart()
     which = "proved program" if cases.is_proved() else "program without its proofs"
     print(f"on the {which}, sha256 {cases.hash_of(program)}", flush=True)
     with open(os.devnull, "rb") as nothing:

@@ -5,12 +5,11 @@ from __future__ import annotations
 import os
 import re
 import shutil
-import signal
-import subprocess
 from collections import Counter
 from glob import glob
+from typing import Any, Sequence
 
-from tests.cases import BY_THAT_PROGRAM, TOP, Cases, Done, comes, copy_checkout, environment, heed_signals, read, run, write
+from tests.cases import BY_THAT_PROGRAM, TOP, Beside, Cases, copy_checkout, read, run, write
 
 SHELL = re.compile(r"#!.*(/|[ \t])(ba|da)?sh$|# shellcheck shell=")
 PYTHON = re.compile(r"#!.*[ \t]python3( -I -S)?$")
@@ -33,8 +32,12 @@ def begin_so(pattern: re.Pattern[str]) -> list[str]:
 class Checked(Cases):
     """What one call of a checker says."""
 
-    def judge_parts(self, said: Done, starts: dict[str, str]) -> None:
+    def judge_parts(self, what: str, words: Sequence[str], starts: dict[str, str], **how: Any) -> None:
         """Of each part there is no line, which would start so. With another status than 0 and 1 nothing is judged."""
+        if shutil.which(words[0]) is None:
+            self.skips(what, f"there is no {words[0]}")
+            return
+        said = run(words, **how)
         lines = [*said.out.splitlines(), *said.err.splitlines()]
         for name, start in starts.items():
             found = [it for it in lines if it.startswith(start)]
@@ -48,11 +51,10 @@ class Shell(Checked):
 
     def test_shellcheck(self) -> None:
         files = begin_so(SHELL)
-        if shutil.which("shellcheck") is None:
-            self.skips(f"shellcheck of {len(files)} scripts", "there is no shellcheck")
-            return
-        parts = {f"shellcheck of {it}": f"{it}:" for it in files}
-        self.judge_parts(run(["shellcheck", "-x", "-f", "gcc", *files]), {**parts, "shellcheck of what these take": ""})
+        self.judge_parts(f"shellcheck of {len(files)} scripts", ["shellcheck", "-x", "-f", "gcc", *files], {
+            **{f"shellcheck of {it}": f"{it}:" for it in files},
+            "shellcheck of what these take": "",
+        })
 
 
 class Types(Checked):
@@ -61,27 +63,21 @@ class Types(Checked):
     def test_mypy(self) -> None:
         kinds = ("tools/**/*.py", "tests/*.py", "bench/*.py")
         files = [it for kind in kinds for it in sorted(glob(kind, root_dir=TOP, recursive=True))]
-        if shutil.which("mypy") is None:
-            self.skips(f"types of {len(files)} files of Python", "there is no mypy")
-            return
         # A script without the ending of a module has a copy under such a name. One call looks at all, since each reads the types of
         # the library anew.
         copies = {it: f"{self.work}/script_{number}.py" for number, it in enumerate(begin_so(PYTHON)) if not it.endswith(".py")}
         for it, copy in copies.items():
             shutil.copy(f"{TOP}/{it}", copy)
         options = ["--python-version", "3.10", "--strict", "--no-error-summary", "--explicit-package-bases", "--cache-dir"]
-        said = run(
-            ["mypy", *options, f"{self.work}/types", *copies.values(), *files],
-            env={"MYPYPATH": f"{TOP}:{TOP}/bench"},
-        )
-        self.judge_parts(said, {
+        words = ["mypy", *options, f"{self.work}/types", *copies.values(), *files]
+        self.judge_parts(f"types of {len(files)} files of Python", words, {
             **{f"types of {it}": f"{copy}:" for it, copy in copies.items()},
             **{f"types of {it}": it for it in sorted(glob("tools/[!_]*/", root_dir=TOP))},
             "types of what all tools take": "tools/",
             "types of the families of tests": "tests/",
             "types of the scripts of bench/": "bench/",
             "types of what else scripts take": "",
-        })
+        }, env={"MYPYPATH": f"{TOP}:{TOP}/bench"})
 
     def test_second(self) -> None:
         """the second implementation takes nothing of the other tools"""
@@ -112,7 +108,7 @@ class Families(Cases):
         for name, text in (
             ("good", "self.same('one', 1, 1)\n        self.same('two', 2, 2)"), ("wrong", "self.same('three', 3, 4)"),
             ("slow", f"open('{self.work}/begun', 'w').close()\n        time.sleep(1)"), ("ended", "os._exit(0)"),
-            ("long", f"open('{self.work}/begun', 'w').close()\n        time.sleep(600)"),
+            ("long", f"open('{self.work}/begun', 'w').write('begun')\n        time.sleep(600)"),
             ("deep", "self.same('deep', sys.getrecursionlimit(), 5000)\n\n\nsys.setrecursionlimit(5000)"),
             ("flat", "self.same('flat', sys.getrecursionlimit(), 1000)"),
         ):
@@ -147,13 +143,6 @@ class Families(Cases):
 
     def test_signals(self) -> None:
         """what is ended is told, and leaves nothing where temporary files go"""
-        with open(f"{self.work}/err", "wb") as err, subprocess.Popen(
-            ["tests/program", "long"], cwd=self.top, env=environment(self.env), stdout=subprocess.DEVNULL, stderr=err,
-            start_new_session=True, preexec_fn=heed_signals,
-        ) as job:
-            comes(lambda: os.path.exists(f"{self.work}/begun"))
-            os.killpg(job.pid, signal.SIGINT)
-        self.assertEqual(
-            (job.returncode, read(f"{self.work}/err"), os.listdir(f"{self.work}/room")),
-            (-signal.SIGINT, "tests: tests.test_long.It is ended\n", []),
-        )
+        done = Beside(["tests/program", "long"], f"{self.work}/begun", self.env, cwd=self.top).ended_by("INT", True)
+        self.assertEqual((done.status, done.err), (130, "tests: tests.test_long.It is ended\n"))
+        self.assertEqual(os.listdir(f"{self.work}/room"), [])

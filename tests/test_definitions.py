@@ -13,7 +13,7 @@ from tests.test_pages import shown_by
 
 from tools.pages.antt import Fault, first_sentence, read_file
 from tools.pages.crates import crates_of
-from tools.pages.meaning import Meaning, Top, by_crate, only
+from tools.pages.definitions import Meaning, Top, by_crate, only
 from tools.second.predicates import PREDICATES
 
 # A top call with two commands. `Unused` stands in a file that is reached, and `Spare` in one that is imported alone.
@@ -171,7 +171,6 @@ class Scripts(Cases):
 
     def put(self, path: str, text: str) -> None:
         """A file of the tree."""
-        os.makedirs(os.path.dirname(f"{self.work}/{path}"), exist_ok=True)
         write(f"{self.work}/{path}", text)
 
     def said(self, script: str, *words: str) -> Done:

@@ -8,15 +8,12 @@ import os
 import re
 import resource
 import shutil
-import signal
 import subprocess
-import tempfile
-import time
 from typing import Any, Callable, Iterator, Mapping, Sequence
 
 from tests.cases import (
-    NO_TOOLCHAIN, TOP, Cases, Done, as_proved, at_once, call, command, command_forms, commands_without, copy_checkout, environment,
-    hash_of, heed_signals, program, read, run, status_of, tool, within, write
+    NO_TOOLCHAIN, TOP, Beside, Done, InACheckout, as_proved, at_once, call, command, command_forms, copy_checkout, hash_of,
+    heed_signals, holding, program, read, run, tool, within, write
 )
 
 # where these stand tests.cases says
@@ -45,7 +42,6 @@ for line in $argv[2..]
     echo end
 end
 """
-# as Ctrl-C and Ctrl-\\ find what a terminal starts
 
 
 def installed_under(prefix: str) -> str:
@@ -82,21 +78,16 @@ def completed(shell: str, prefix: str, cwd: str, lines: Sequence[str]) -> list[s
     return [" ".join(sorted(row)) for row in rows[:-1]]
 
 
-class Installs(Cases):
+class Installs(InACheckout):
     """Cases with a checkout where the program that is tested stands as the proved one. Nothing is built here."""
 
     # whether the checkout has all examples, and not those few that are called
     has_all = False
-    room: str
-    top: str
-    plain: str
 
     @classmethod
     def setUpClass(cls) -> None:
-        cls.room = os.path.realpath(tempfile.mkdtemp(prefix="pipecheck-tests-"))
-        cls.addClassCleanup(shutil.rmtree, cls.room, ignore_errors=True)
-        copied = ("docs", "editors", "tools", "tests", *["examples"] * cls.has_all)
-        cls.top = copy_checkout(f"{cls.room}/checkout", copied)
+        super().setUpClass()
+        copy_checkout(cls.top, ("docs", "editors", "tools", "tests", *["examples"] * cls.has_all))
         if not cls.has_all:
             os.remove(f"{cls.top}/examples")
             os.mkdir(f"{cls.top}/examples")
@@ -105,16 +96,6 @@ class Installs(Cases):
         # as if it were of one crate, which is read at each call
         write(f"{cls.top}/crates.txt", "pipecheck_cli:\n")
         as_proved(cls.top, program())
-        cls.plain = commands_without(f"{cls.room}/plain", "rt")
-
-    def run_it(self, words: Sequence[str | bytes], env: Mapping[str, str | None] | None = None, **how: Any) -> Done:
-        """Runs a command where there is no toolchain."""
-        its: dict[str, str | None] = {"PATH": self.plain, "PIPECHECK_PROVED": None}
-        return run(words, cwd=how.pop("cwd", self.top), env={**its, **(env or {})}, **how)
-
-    def does(self, name: str, status: int, out: str, err: str, words: Sequence[str | bytes], **how: Any) -> None:
-        """A command that runs there ends with this status and writes these two texts."""
-        self.same(name, self.run_it(words, **how), Done(status, out, err))
 
     def installs(self, name: str, prefix: str) -> None:
         """An install under this folder."""
@@ -139,15 +120,14 @@ class Installed(Installs):
         super().setUpClass()
         cls.prefix = f"{cls.room}/prefix"
         cls.tree = f"{cls.prefix}/lib/pipecheck"
-        env: dict[str, str | None] = {"PATH": cls.plain, "PIPECHECK_PROVED": None}
-        words = [f"{cls.top}/install", cls.prefix]
+        words = ["./install", cls.prefix]
         # the same program, as it stands without its proofs
         for old, new in (("pipecheck_cli", "unproved_cli"), ("pipecheck_built", "unproved_built")):
             os.rename(f"{cls.top}/{OUT}/{old}", f"{cls.top}/{OUT}/{new}")
-        cls.without = run(words, env=env)
+        cls.without = cls.run_it(words)
         as_proved(cls.top, program())
         os.mkdir(cls.prefix)
-        cls.done = run(words, env=env, preexec_fn=lambda: os.umask(0o077))
+        cls.done = cls.run_it(words, preexec_fn=lambda: os.umask(0o077))
         os.rename(cls.top, f"{cls.room}/elsewhere")
         cls.top = f"{cls.room}/elsewhere"
 
@@ -493,55 +473,29 @@ class Fails(Installs):
         is_left = self.older_one()
         self.is_refused("an update that fails", said, ["./install", self.way], preexec_fn=limit)
         is_left("... leaves the older one")
-        with self.manual("exit 1\n"):
+        with holding(f"{self.top}/examples/suite", "#!/bin/sh\nexit 1\n"):
             self.is_refused(
                 "a man page that cannot be made", "install: the man page pipecheck-suite(1) could not be made\n",
                 ["./install", self.way],
             )
         is_left("... leaves the older one")
 
-    @contextlib.contextmanager
-    def manual(self, text: str) -> Iterator[str]:
-        """Has this say meanwhile what a man page is made of."""
-        path = f"{self.top}/examples/suite"
-        shutil.move(path, f"{self.work}/manual")
-        command(path, text)
-        try:
-            yield path
-        finally:
-            shutil.move(f"{self.work}/manual", path)
-
-    def ended(self, words: Sequence[str], begun: str, number: int, env: Mapping[str, str | None], is_group: bool) -> Done:
-        """A call that this signal ends, or with it all that it began, once this file is there."""
-        with contextlib.suppress(FileNotFoundError):
-            os.remove(begun)
-        with open(f"{self.work}/out", "w+b") as out, open(f"{self.work}/err", "w+b") as err, subprocess.Popen(
-            ["./install", *words], cwd=self.top, env=environment({"PATH": self.plain, "PIPECHECK_PROVED": None, **env}),
-            stdin=subprocess.DEVNULL, stdout=out, stderr=err, start_new_session=is_group,
-            preexec_fn=heed_signals,
-        ) as process:
-            while not os.path.exists(begun) and process.poll() is None:
-                time.sleep(0.05)
-            (os.killpg if is_group else os.kill)(process.pid, number)
-        return Done(status_of(process.returncode), read(f"{self.work}/out"), read(f"{self.work}/err"))
-
     def test_signals(self) -> None:
         is_left, begun = self.older_one(), f"{self.work}/begun"
-        with self.manual(f": >'{begun}'\nexec sleep 600\n"):
+        env: dict[str, str | None] = {"PATH": self.plain, "PIPECHECK_PROVED": None}
+        with holding(f"{self.top}/examples/suite", f"#!/bin/sh\necho >'{begun}'\nexec sleep 600\n"):
             for name, status in (("HUP", 129), ("INT", 130), ("QUIT", 131), ("TERM", 143)):
-                done = self.ended([self.way], begun, signal.Signals[f"SIG{name}"], {}, False)
+                done = Beside(["./install", self.way], begun, env, cwd=self.top).ended_by(name)
                 self.judge(f"an install that {name} ends", done, status)
                 is_left("... leaves the older one")
         # Ctrl-C reaches all that the script began, also a Python that loads, and would say then where it was
         command(f"{self.work}/late/python3", """[ "${5-}" = "$LATE" ] || exec "$PYTHON" "$@"
-exec "$PYTHON" -c 'import sys, time; open(sys.argv[1], "w").close(); time.sleep(600)' "$BEGUN"
+exec "$PYTHON" -c 'import sys, time; open(sys.argv[1], "w").write("begun"); time.sleep(600)' "$BEGUN"
 """)
         way = [self.way]
         for name, late, words in (("judge", "judge", way), ("install", "install", way), ("uninstall", "judge", ["--uninstall", *way])):
-            env: dict[str, str | None] = {
-                "PYTHON": f"{self.plain}/python3", "BEGUN": begun, "LATE": late, "PATH": f"{self.work}/late:{self.plain}",
-            }
-            done = self.ended(words, begun, signal.SIGINT, env, True)
+            env |= {"PYTHON": f"{self.plain}/python3", "BEGUN": begun, "LATE": late, "PATH": f"{self.work}/late:{self.plain}"}
+            done = Beside(["./install", *words], begun, env, cwd=self.top).ended_by("INT", True)
             self.judge(f"Ctrl-C while Python loads to {name}: nothing is said", done, 130)
         is_left("... and the older one is left")
         # Ctrl-\ reaches what the script waits for, too; a shell names the signal then

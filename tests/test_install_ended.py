@@ -16,13 +16,13 @@ import sys
 import tempfile
 from contextlib import suppress
 from itertools import count
-from typing import Callable, NamedTuple, Sequence
+from typing import Callable, Iterable, NamedTuple
 
 from tests.cases import Cases, write
 
 # where these stand tests.cases says
 from tools.install import installer
-from tools.install.installed import FORMER, LINKS, Refused
+from tools.install.installer import FORMER, LINKS, Refused
 
 EVENTS = {"os.chmod", "os.mkdir", "os.remove", "os.rename", "os.rmdir", "os.symlink"}
 TAKE_ROOM = {"open", "os.mkdir", "os.symlink"}
@@ -43,6 +43,7 @@ FILES = {
     "script/completion.zsh": "zsh\n",
     "tools/agree/machines/sc.py": "machine\n",
 }
+COMMANDS = ("bin/pipecheck", "bin/pipecheck-suite")
 Texts = dict[str, str]
 
 
@@ -65,10 +66,7 @@ class Room(NamedTuple):
     def make(self, version: str) -> None:
         """Makes the checkout of a version. A later one has a file more and one less."""
         files = {**FILES, "program": "#!/bin/sh\n", f"docs/{version}.md": "page\n"}
-        for name, text in files.items():
-            path = os.path.join(self.path, version, name)
-            os.makedirs(os.path.dirname(path), exist_ok=True)
-            os.chmod(write(path, f"{text}# {version}\n"), 0o755 if text.startswith("#!") else 0o644)
+        put({name: f"{text}# {version}\n" for name, text in files.items()}, os.path.join(self.path, version))
 
     def install(self, version: str) -> None:
         """An install or update from the checkout of a version."""
@@ -91,11 +89,11 @@ class Room(NamedTuple):
         for name in ("README.md", "commands.txt", "docs", "editors", "examples", "pipecheck", "tools"):
             installer.copy(os.path.join(self.path, "1", name), os.path.join(tree, name))
         installer.copy(os.path.join(self.path, "1", "program"), os.path.join(tree, "pipecheck_cli"))
-        os.symlink("../lib/pipecheck/pipecheck", os.path.join(self.prefix, "bin", "pipecheck"))
-        os.symlink("../lib/pipecheck/examples/suite", os.path.join(self.prefix, "bin", "pipecheck-suite"))
+        for name in COMMANDS:
+            os.symlink(f"../lib/pipecheck/{LINKS[name]}", os.path.join(self.prefix, name))
         for name, begin in FORMER.items():
             write(os.path.join(self.prefix, name), begin + b"\n")
-        lines = [f"file {name}" for name in ("bin/pipecheck", "bin/pipecheck-suite", *FORMER)] + ["tree lib/pipecheck"]
+        lines = [f"file {name}" for name in (*COMMANDS, *FORMER)] + ["tree lib/pipecheck"]
         lines += [f"folder {self.prefix}/{name}" for name in reversed(made)]
         write(os.path.join(tree, "installed"), "".join(f"{it}\n" for it in lines))
 
@@ -119,9 +117,22 @@ def texts(folder: str) -> Texts:
     return found
 
 
+def put(found: Texts, folder: str) -> None:
+    """Has a folder with these files, links and folders stand in the place of another one."""
+    shutil.rmtree(folder, ignore_errors=True)
+    os.makedirs(folder)
+    for name, text in found.items():
+        path = f"{folder}/{name}"
+        os.makedirs(path if text == "folder" else os.path.dirname(path), exist_ok=True)
+        if text.startswith("-> "):
+            os.symlink(text[3:], path)
+        elif text != "folder":
+            os.chmod(write(path, text), 0o755 if text.startswith("#!") else 0o644)
+
+
 def commands(room: Room) -> list[Texts]:
     """What the trees of the commands that are there have, without their lists."""
-    names = [name for name in ("bin/pipecheck", "bin/pipecheck-suite") if os.path.exists(f"{room.prefix}/{name}")]
+    names = [name for name in COMMANDS if os.path.exists(f"{room.prefix}/{name}")]
     trees = [os.path.realpath(f"{room.prefix}/{name}").removesuffix(f"/{LINKS[name]}") for name in names]
     found = {tree: {name: text for name, text in texts(tree).items() if not name.startswith("installed")} for tree in set(trees)}
     return [found[tree] for tree in trees]
@@ -200,47 +211,33 @@ class Case(NamedTuple):
     prefix: str = "prefix"
 
 
-CASES = (
+INSTALLS = (
     Case("a first install", "", "install", False),
     Case("a first install under a folder that is not there", "", "install", True),
     Case("a first install under folders that are not there", "", "install", True, "new/deep/prefix"),
     Case("an update", "installed", "install", False),
     Case("an update of the former layout", "former", "install", False),
+)
+UNINSTALLS = (
     Case("an uninstall", "installed", "uninstall", False),
     Case("an uninstall of a folder that was made", "installed", "uninstall", True),
     Case("an uninstall of folders that were made", "installed", "uninstall", True, "new/deep/prefix"),
     Case("an uninstall of the former layout", "former", "uninstall", False),
 )
+CASES = INSTALLS + UNINSTALLS
+ENDED = "ended before each change"
 
 
 def prepare(room: Room, case: Case) -> Texts:
     """What stands before the case; answers what no installation made."""
-    shutil.rmtree(room.around, ignore_errors=True)
-    os.makedirs(room.around)
-    if not case.is_alone:
-        for name in ("bin/mine", "share/man/man1/mine.1", "lib/mine/file"):
-            os.makedirs(os.path.dirname(os.path.join(room.prefix, name)), exist_ok=True)
-            write(os.path.join(room.prefix, name), "mine\n")
+    mine = () if case.is_alone else ("bin/mine", "share/man/man1/mine.1", "lib/mine/file")
+    put({f"{room.name}/{name}": "mine\n" for name in mine}, room.around)
     own = texts(room.around)
     if case.before == "installed":
         room.install("1")
     elif case.before == "former":
         room.install_former()
     return own
-
-
-def put(found: Texts, folder: str) -> None:
-    """Has a folder with these files, links and folders stand in the place of another one."""
-    shutil.rmtree(folder, ignore_errors=True)
-    os.makedirs(folder)
-    for name, text in found.items():
-        path = f"{folder}/{name}"
-        if text == "folder":
-            os.mkdir(path)
-        elif text.startswith("-> "):
-            os.symlink(text[3:], path)
-        else:
-            write(path, text)
 
 
 def run_case(room: Room, case: Case, new: Texts) -> int:
@@ -339,11 +336,11 @@ class InARoom(Cases):
         cls.room.install("2")
         cls.new = commands(cls.room)[0]
 
-    def walk(self, name: str, cases: Sequence[Case], run_one: Callable[[Room, Case, Texts], int], least: int) -> None:
+    def walk(self, kind: str, run_one: Callable[[Room, Case, Texts], int], cases: Iterable[Case], least: int) -> None:
         """Each of these cases, of which each has at least so many changes."""
         for case in cases:
-            if self.is_wanted(f"{name}: {case.name}"):
-                with self.case(f"{name}: {case.name}"):
+            if self.is_wanted(f"{kind}: {case.name}"):
+                with self.case(f"{kind}: {case.name}"):
                     self.assertGreaterEqual(run_one(self.room._replace(name=case.prefix), case, self.new), least)
 
 
@@ -351,28 +348,23 @@ class EndedInstalls(InARoom):
     """Installs that end before each change."""
 
     def test_installs(self) -> None:
-        self.walk("ended before each change", [it for it in CASES if it.work == "install" and not it.before], run_case, 50)
+        self.walk(ENDED, run_case, [it for it in INSTALLS if not it.before], 50)
 
 
 class EndedUpdates(InARoom):
     """Updates and uninstalls that end before each change."""
 
     def test_updates(self) -> None:
-        self.walk("ended before each change", [it for it in CASES if it.work == "install" and it.before], run_case, 50)
-
-    def test_uninstalls(self) -> None:
-        self.walk("ended before each change", [it for it in CASES if it.work == "uninstall"], run_case, 20)
+        self.walk(ENDED, run_case, [it for it in INSTALLS if it.before], 50)
+        self.walk(ENDED, run_case, UNINSTALLS, 20)
 
 
 class FullDisks(InARoom):
     """A disk that is full from each change on, and calls that end one after the other."""
 
-    def test_installs(self) -> None:
-        apart = [it for it in CASES if "/" in it.prefix or not it.is_alone]
-        self.walk("on a full disk", [it for it in apart if it.work == "install"], run_without_room, 50)
-        self.walk("on a full disk", [it for it in apart if it.work == "uninstall"], run_without_room, 1)
+    def test_full_disks(self) -> None:
+        for cases, least in ((INSTALLS, 50), (UNINSTALLS, 1)):
+            self.walk("on a full disk", run_without_room, [it for it in cases if "/" in it.prefix or not it.is_alone], least)
 
     def test_call_after_call(self) -> None:
-        if self.is_wanted("ended before each change: call after call"):
-            with self.case("ended before each change: call after call"):
-                self.assertGreaterEqual(run_again_and_again(self.room, self.new), 50)
+        self.walk(ENDED, lambda room, _, new: run_again_and_again(room, new), [Case("call after call", "", "", False)], 50)

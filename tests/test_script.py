@@ -5,12 +5,11 @@ import os
 import re
 import resource
 import shutil
-import tempfile
-from typing import Any, Mapping
+from typing import Any
 
 from tests.cases import (
-    NO_TOOLCHAIN, TOP, Cases, Done, as_proved, command, command_forms, commands_without, copy_checkout, files_below, forms_of,
-    hash_of, program, read, run, unread, within, write
+    NO_TOOLCHAIN, TOP, Done, InACheckout, as_proved, command, command_forms, copy_checkout, files_below, forms_of, hash_of,
+    program, read, run, unread, within, write
 )
 
 MP = ("examples/in-order.uspec", "examples/mp.test")
@@ -23,31 +22,25 @@ MANY = 'StageName 0 "S".\n' + AXIOM * 10_000
 OUT = "crates/pipecheck_cli/out"
 
 
-class InACopy(Cases):
+class InACopy(InACheckout):
     """Cases in a copy of the checkout without what was built, where the proved program alone answers, as if it were of fewer
     crates, which are read at each call."""
 
-    room: str
-    copy: str
-    plain: str
+    proved = "yes"
 
     @classmethod
     def setUpClass(cls) -> None:
-        cls.room = tempfile.mkdtemp(prefix="pipecheck-tests-")
-        cls.addClassCleanup(shutil.rmtree, cls.room, ignore_errors=True)
-        cls.copy = copy_checkout(f"{cls.room}/copy", ("tests", "tools"))
-        write(f"{cls.copy}/crates.txt", "pc_common:\nsolver: pc_common\nmodel_bench: pc_common\npipecheck_cli: pc_common solver\n")
-        cls.plain = commands_without(f"{cls.room}/plain", "rt")
+        super().setUpClass()
+        copy_checkout(cls.top, ("tests", "tools"))
+        write(f"{cls.top}/crates.txt", "pc_common:\nsolver: pc_common\nmodel_bench: pc_common\npipecheck_cli: pc_common solver\n")
 
-    def call_it(self, *words: str, env: Mapping[str, str | None] | None = None, **how: Any) -> Done:
+    def call_it(self, *words: str, **how: Any) -> Done:
         """Calls the script of the copy where there is no toolchain."""
-        its: dict[str, str | None] = {"PATH": self.plain, "PIPECHECK_PROVED": "yes"}
-        return run(["./pipecheck", *words], env={**its, **(env or {})}, cwd=how.pop("cwd", self.copy), **how)
+        return self.run_it(["./pipecheck", *words], **how)
 
     def answers(self, name: str, words: tuple[str, ...], status: int = 0, out: str = "", err: str = "", **how: Any) -> None:
         """The script of the copy answers so."""
-        if self.is_wanted(name):
-            self.judge(name, self.call_it(*words, **how), status, out, err)
+        self.does(name, status, out, err, ["./pipecheck", *words], **how)
 
 
 class NotBuilt(InACopy):
@@ -81,7 +74,7 @@ class NotBuilt(InACopy):
             return
         tools = f"{self.work}/tools"
         command(f"{tools}/rt", "echo 'a kit logic 0123456789abcdef'\n")
-        said = run(["./pipecheck", "--version"], env={"PATH": f"{tools}:{self.plain}", "PIPECHECK_PROVED": "yes"})
+        said = self.call_it("--version", env={"PATH": f"{tools}:{self.plain}"}, cwd=TOP)
         found = said.out.partition("\n")[0].removesuffix(", changed since")
         self.same("--version names the commit", (found, said.err), (f"commit {done.out.rstrip()}", ""))
 
@@ -108,16 +101,15 @@ class Built(InACopy):
 
     def setUp(self) -> None:
         super().setUp()
-        shutil.rmtree(f"{self.copy}/{OUT}", ignore_errors=True)
-        as_proved(self.copy, program())
+        shutil.rmtree(f"{self.top}/{OUT}", ignore_errors=True)
+        as_proved(self.top, program())
 
     def test_clean(self) -> None:
         for it in ("pc_common/out/lib.rlib", "pc_common/out/incremental/kept", "solver/out/x", "pipecheck_cli/out/pipecheck_cli.o"):
-            os.makedirs(os.path.dirname(f"{self.copy}/crates/{it}"), exist_ok=True)
-            write(f"{self.copy}/crates/{it}", "")
+            write(f"{self.top}/crates/{it}", "")
         self.judge("--clean", self.call_it("--clean"))
         left = [f"pipecheck_cli/out/{it}" for it in ("pipecheck_built", "pipecheck_cli", "pipecheck_lock", "unproved_lock")]
-        self.same("... leaves the program", [it for it in files_below(f"{self.copy}/crates") if "/out/" in it], left)
+        self.same("... leaves the program", [it for it in files_below(f"{self.top}/crates") if "/out/" in it], left)
         self.answers("... which is called as before", CHECK, 1, VERDICT)
         command(f"{self.work}/tools/rt", "echo 'a kit logic 0123456789abcdef'\n")
         self.answers(
@@ -128,7 +120,7 @@ class Built(InACopy):
 
     def test_a_signal(self) -> None:
         """The shell says its own word of it before."""
-        as_proved(self.copy, command(f"{self.work}/ended", "kill -SEGV $$\n"))
+        as_proved(self.top, command(f"{self.work}/ended", "kill -SEGV $$\n"))
         done = self.call_it(*CHECK)
         said = "".join(it for it in done.err.splitlines(True) if it.startswith("pipecheck: "))
         self.judge(
@@ -154,33 +146,23 @@ class Built(InACopy):
         stages = "".join(f'StageName {k} "S{k}".\n' for k in range(64))
         nodes = "".join(f"(i, S{k});" for k in range(64))
         model = write(f"{self.work}/nodes.uspec", f'{stages}Axiom "n": forall microops "i", NodesExist [{nodes}].\n')
-        words = ("check", model, "examples/two.test")
-        first = self.call_it(*words).out[:1024]
+        words = ("./pipecheck", "check", model, "examples/two.test")
+        first = self.run_it(words).out[:1024]
         self.assertEqual(len(first), 1024)
-        for name, command, status, said in (
-            ("a limit of the size of files", "./pipecheck", 5, UNWRITTEN),
-            ("... ends the program without the script by a signal", program(), 153, ""),
+        for name, size, asked, status, out, said in (
+            ("a limit of the size of files", 1024, words, 5, first, UNWRITTEN),
+            ("... ends the program without the script by a signal", 1024, (program(), *words[1:]), 153, first, ""),
+            ("no file may be written: check", 0, ("./pipecheck", *CHECK), 5, "", UNWRITTEN),
+            ("... help", 0, ("./pipecheck", "help"), 5, "", ""),
+            ("... agree", 0, ("./pipecheck", "agree", "examples/models/tso-ooo.uspec", "examples/patterns/MP.pattern"), 125, "",
+                "agree: File too large\n"),
+            ("... mend", 0, ("./pipecheck", "mend", "examples/buggy/tutorial-early.uspec", "examples/tests/MP.test"), 125, "",
+                "pipecheck: mend: No usable temporary directory found; TMPDIR names another folder for temporary files\n"),
         ):
             with open(f"{self.work}/answer", "w+b") as kept:
-                env = {"PATH": self.plain, "PIPECHECK_PROVED": "yes"}
-                done = run(
-                    [command, *words], cwd=self.copy, env=env, stdout=kept, preexec_fn=within(resource.RLIMIT_FSIZE, 1024)
-                )
-            self.judge(name, Done(done.status, read(f"{self.work}/answer"), done.err), status, first, said)
-        for name, asked, status, said in (
-            ("no file may be written: check", CHECK, 5, UNWRITTEN),
-            ("... help", ("help",), 5, ""),
-            ("... agree", ("agree", "examples/models/tso-ooo.uspec", "examples/patterns/MP.pattern"), 125,
-                "agree: File too large\n"),
-            (
-                "... mend", ("mend", "examples/buggy/tutorial-early.uspec", "examples/tests/MP.test"), 125,
-                "pipecheck: mend: No usable temporary directory found; TMPDIR names another folder for temporary files\n",
-            ),
-        ):
-            with open(f"{self.work}/limited", "w+b") as kept:
-                done = self.call_it(*asked, stdout=kept, preexec_fn=within(resource.RLIMIT_FSIZE, 0))
+                done = self.run_it(asked, stdout=kept, preexec_fn=within(resource.RLIMIT_FSIZE, size))
             told = re.sub(r"directory found in .*;", "directory found;", done.err)
-            self.judge(name, Done(done.status, "", told), status, "", said)
+            self.judge(name, Done(done.status, read(f"{self.work}/answer"), told), status, out, said)
 
     def test_a_pipe_that_nobody_reads(self) -> None:
         """Its reader has enough, as `head` has."""

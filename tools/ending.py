@@ -121,20 +121,16 @@ class Signals:
             return status
         except Interrupted as interrupted:
             self.clear()
-            return end_by(interrupted.number)
+            signal.signal(interrupted.number, signal.SIG_DFL)
+            os.kill(os.getpid(), interrupted.number)
+            # for a process that no signal ends, as the first one of a container
+            return 128 + interrupted.number
 
 
 def tell_lost(lost: "sys.UnraisableHookArgs") -> None:
     """Tells an exception that is lost, as Python does, but for one that is raised again."""
     if not isinstance(lost.exc_value, Interrupted):
         sys.__unraisablehook__(lost)
-
-
-def end_by(number: int) -> int:
-    """Ends this process by a signal. The status is for a process that no signal ends, as the first one of a container."""
-    signal.signal(number, signal.SIG_DFL)
-    os.kill(os.getpid(), number)
-    return 128 + number
 
 
 # those of this process

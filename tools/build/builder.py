@@ -14,19 +14,19 @@ import contextlib
 import fcntl
 import os
 import shutil
-import subprocess
 import sys
 from typing import Callable, Iterator
 
 from tools import TOP
-from tools.build import make_program, make_unproved
-from tools.build.making import OUT, Failed, Job, NothingMade, asked, crates, put, put_over, say
+from tools.build.make_program import Proved
+from tools.build.make_unproved import Unproved
+from tools.build.making import OUT, Failed, NothingMade, asked, crates, put, put_over, say
 from tools.build.processes import SIGNALS
 from tools.build.versions import origin, program_line
 from tools.ending import Interrupted
 from tools.telling.forms import Forms
 
-MAKERS = {"pipecheck": make_program.make, "unproved": make_unproved.make}
+MAKERS = {it.kind: it for it in (Proved, Unproved)}
 
 
 class Hindered(Exception):
@@ -67,11 +67,10 @@ def make_kind(kind: str) -> None:
     with in_turn(kind):
         if stands(kind):
             return
-        tool = subprocess.run(["rt", "--version"], stdin=subprocess.DEVNULL, capture_output=True, check=False)
-        sources = asked("hash_sources")
-        if sources is None or tool.returncode != 0:
+        tool, sources = asked("rt --version"), asked("hash_sources")
+        if sources is None or tool is None:
             raise Hindered("the sources that the program is made of could not be read, or what rt says of itself")
-        MAKERS[kind](Job(kind, sources, os.fsdecode(tool.stdout).partition("\n")[0], crates()))
+        MAKERS[kind](sources, tool.partition("\n")[0], crates()).make()
         if not stands(kind):
             raise Hindered("a source changed while the program was made, so call again")
 

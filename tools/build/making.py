@@ -12,16 +12,16 @@ import subprocess
 import tempfile
 import time
 from dataclasses import dataclass, field
-from typing import IO, Callable, Iterator, Optional
+from typing import IO, ClassVar, Optional
 
 from tools import TOP
-from tools.build.processes import SIGNALS, running
+from tools.build.processes import SIGNALS, end_group
 
 # What `rt` and its tools print that says nothing of why they failed.
 WELL = re.compile(r": proved$|^(statements|library|logic|by-macro) ")
-# where the programs stand
-OUT = f"{TOP}/crates/pipecheck_cli/out"
-ASKED = 'top=$1; . "$top/script/calls" && '
+# the crate of the program, and where the programs stand
+PROGRAM = "pipecheck_cli"
+OUT = f"{TOP}/crates/{PROGRAM}/out"
 
 
 class Failed(Exception):
@@ -35,35 +35,11 @@ class NothingMade(Failed):
     """The toolchain did nothing by the words that it was given, as where its words are others."""
 
 
-@dataclass
-class Job:
-    """A program that is made: its kind, the hash of its sources, what the toolchain says of itself, and the crates that it is made
-    of. `log` gets what the toolchain prints."""
-
-    kind: str
-    sources: str
-    tool: str
-    crates: list[str]
-    begun: float = field(default_factory=time.monotonic)
-
-    @property
-    def program(self) -> str:
-        return f"{OUT}/{self.kind}_cli"
-
-    @property
-    def note(self) -> str:
-        return f"{OUT}/{self.kind}_built"
-
-    @property
-    def log(self) -> str:
-        return f"{OUT}/{self.kind}_build.log"
-
-
 def asked(words: str) -> Optional[str]:
-    """What a function of script/build prints; None where it fails."""
+    """What a command prints, or a function of script/build; None where it fails."""
     done = subprocess.run(
-        ["bash", "-p", "-c", ASKED + words, "asked", TOP], stdin=subprocess.DEVNULL, stdout=subprocess.PIPE,
-        stderr=subprocess.DEVNULL, check=False,
+        ["bash", "-p", "-c", f'top=$1; . "$top/script/calls" && {words}', "asked", TOP], stdin=subprocess.DEVNULL,
+        stdout=subprocess.PIPE, stderr=subprocess.DEVNULL, check=False,
     )
     return os.fsdecode(done.stdout).rstrip("\n") if done.returncode == 0 else None
 
@@ -71,6 +47,24 @@ def asked(words: str) -> Optional[str]:
 def crates() -> list[str]:
     """The crates that the program is made of; none where they could not be read."""
     return (asked("parts") or "").split()
+
+
+def uses_of(checkout: str) -> dict[str, list[str]]:
+    """What each crate of a checkout stands on."""
+    with open(f"{checkout}/crates.txt", encoding="utf-8") as given:
+        rows = [line.partition("#")[0].partition(":") for line in given]
+    return {head.split()[0]: below.split() for head, colon, below in rows if colon and head.strip()}
+
+
+def toolchain() -> str:
+    """The folder of the toolchain; `rt` prints the path of a page in it."""
+    return os.path.dirname(asked("rt doc || :") or "")
+
+
+def linking(tools: str, compiled: str, program: str) -> list[str]:
+    """The call that links what was compiled."""
+    words = [f"{tools}/bin/rattle-link", "--target", "x86_64-unknown-linux-gnu", "--toolchain", f"{tools}/toolchain"]
+    return [*words, "-o", program, compiled, f"{tools}/c/libos_c.a", f"{tools}/c/liblibc_c.a"]
 
 
 def put(text: str) -> None:
@@ -88,11 +82,6 @@ def say(text: str) -> None:
     put_over(f"pipecheck: {text}\n")
 
 
-def elapsed(job: Job) -> str:
-    seconds = int(time.monotonic() - job.begun)
-    return f"{seconds // 60}:{seconds % 60:02}"
-
-
 def folder_for_copies() -> tempfile.TemporaryDirectory[str]:
     """A new folder, by its whole path. TMPDIR says where, and no other place is taken."""
     where = os.path.abspath(os.environ.get("TMPDIR") or "/tmp")
@@ -102,71 +91,115 @@ def folder_for_copies() -> tempfile.TemporaryDirectory[str]:
         raise Failed(f"no folder for temporary files (TMPDIR) can be made in {where}: {error.strerror}") from error
 
 
-@contextlib.contextmanager
-def temporary_folder() -> Iterator[str]:
-    """A new folder that is removed at the end."""
-    with SIGNALS.temporary_folder(folder_for_copies) as room:
-        # where rt runs as root, it runs programs as nobody, in a folder below this one
-        os.chmod(room, 0o711)
-        yield room
+@dataclass
+class Job:
+    """A program that is made: the hash of its sources, what the toolchain says of itself, and the crates that it is made of. Each
+    kind of program has its own way. While it is made `room` has copies of the crates, and what is temporary, and `log` gets what
+    the toolchain prints."""
 
+    sources: str
+    tool: str
+    crates: list[str]
+    begun: float = field(default_factory=time.monotonic)
+    room: str = field(init=False)
+    log: IO[bytes] = field(init=False)
 
-def copy_crates(crates: list[str], to: str) -> None:
-    """Makes a repository of these crates alone, without their edits that must fail."""
-    os.makedirs(f"{to}/.git")
-    shutil.copy(f"{TOP}/HANDLES", to)
-    with open(f"{TOP}/crates.txt", encoding="utf-8") as given:
-        lines = [line for line in given if re.split("[ :]", line)[0] in crates]
-    with open(f"{to}/crates.txt", "w", encoding="utf-8") as kept:
-        kept.writelines(lines)
-    for name in crates:
-        crate = f"{TOP}/crates/{name}"
+    kind: ClassVar[str]
+    # what is said before it is made, with how many crates it has, and after it
+    begins: ClassVar[str]
+    ends: ClassVar[str]
 
-        def left_out(folder: str, _: list[str], crate: str = crate) -> list[str]:
-            return ["out", "must-fail"] if folder == crate else []
+    def progress(self) -> str:
+        """How far the work is."""
+        raise NotImplementedError
 
-        # what a link leads to is what the hash of the sources is of
-        shutil.copytree(crate, f"{to}/crates/{name}", ignore=left_out)
+    def made(self) -> str:
+        """Makes the program of the copies. Returns where it is."""
+        raise NotImplementedError
 
+    def copy(self) -> None:
+        """Makes the copies."""
+        self.copy_crates(self.crates, "checkout")
 
-def refuse_changes(job: Job) -> None:
-    """Refuses copies that may have more than one state of the sources: they are all made by now."""
-    if asked("hash_sources") != job.sources:
-        raise Failed("a source changed while it was copied, so call again")
+    def make(self) -> None:
+        """Makes the program, and says on standard error how that goes."""
+        say(self.begins.format(len(self.crates)))
+        with SIGNALS.temporary_folder(folder_for_copies) as self.room, open(self.at("build.log"), "wb", buffering=0) as self.log:
+            # where rt runs as root, it runs programs as nobody, in a folder below this one
+            os.chmod(self.room, 0o711)
+            os.mkdir(f"{self.room}/temporary", 0o711)
+            self.copy()
+            # the copies may have more than one state of the sources; they are all made by now
+            if asked("hash_sources") != self.sources:
+                raise Failed("a source changed while it was copied, so call again")
+            self.put_in_place(self.made())
+        say(f"{self.ends} after {self.elapsed()}")
 
+    def at(self, what: str) -> str:
+        """The place of a file of this kind of program."""
+        return f"{OUT}/{self.kind}_{what}"
 
-def run_tool(job: Job, words: list[str], folder: str, temporary: str, said: IO[bytes], progress: Callable[[], str]) -> int:
-    """Runs a command of the toolchain to its end, with a line on a terminal that says how far it is. What it says goes to a file.
-    Returns its status."""
-    with running(words, folder, temporary, said) as call:
-        while True:
-            if os.isatty(2):
-                put(f"\rpipecheck: {progress()}, {elapsed(job)} ")
-            with contextlib.suppress(subprocess.TimeoutExpired):
-                return call.wait(timeout=0.5)
-            SIGNALS.look()
+    def elapsed(self) -> str:
+        seconds = int(time.monotonic() - self.begun)
+        return f"{seconds // 60}:{seconds % 60:02}"
 
+    def copy_crates(self, crates: list[str], name: str) -> None:
+        """Makes a repository of these crates alone, without their edits that must fail."""
+        to = f"{self.room}/{name}"
+        os.makedirs(f"{to}/.git")
+        shutil.copy(f"{TOP}/HANDLES", to)
+        with open(f"{TOP}/crates.txt", encoding="utf-8") as given, open(f"{to}/crates.txt", "w", encoding="utf-8") as kept:
+            kept.writelines(line for line in given if re.split("[ :]", line)[0] in crates)
+        for it in crates:
+            crate = f"{TOP}/crates/{it}"
 
-def tell_end(log: str) -> None:
-    """Shows the last lines of what the toolchain printed that may say why it failed."""
-    with open(log, encoding="utf-8", errors="replace") as it:
-        lines = [line for line in it if not WELL.search(line.rstrip("\n"))]
-    put_over("".join(lines[-60:]))
+            def left_out(folder: str, _: list[str], crate: str = crate) -> list[str]:
+                return ["out", "must-fail"] if folder == crate else []
 
+            # what a link leads to is what the hash of the sources is of
+            shutil.copytree(crate, f"{to}/crates/{it}", ignore=left_out)
 
-def put_in_place(job: Job, made: str) -> None:
-    """Has a program that was made stand for its sources. What its note has of its bytes is of neither program while one
-    takes the place of the other. A signal comes before all of it, or after."""
-    new = {job.program: f"{job.program}.new", job.note: f"{job.note}.new"}
-    with SIGNALS.held():
+    def run(self, words: list[str], folder: str, said: Optional[IO[bytes]] = None) -> int:
+        """Runs a command of the toolchain to its end, as a group of processes of its own, with a line on a terminal that says how far
+        the work is. What it says goes to the log, or to this file. Returns its status."""
+        out = said or self.log
+        with SIGNALS.held():
+            leader = subprocess.Popen(
+                words, cwd=folder, env={**os.environ, "TMPDIR": f"{self.room}/temporary"}, stdin=subprocess.DEVNULL, stdout=out,
+                stderr=out, start_new_session=True,
+            )
+            SIGNALS.leaders.append(leader)
         try:
-            shutil.copy2(made, new[job.program])
-            with open(made, "rb") as program, open(new[job.note], "w", encoding="utf-8") as note:
-                own = hashlib.sha256(program.read()).hexdigest()
-                note.write(f"{job.sources}\n{job.tool}\n{own}\n")
-            for place, it in new.items():
-                os.replace(it, place)
+            while True:
+                if os.isatty(2):
+                    put(f"\rpipecheck: {self.progress()}, {self.elapsed()} ")
+                with contextlib.suppress(subprocess.TimeoutExpired):
+                    return leader.wait(timeout=0.5)
+                SIGNALS.look()
         finally:
-            for it in new.values():
-                with contextlib.suppress(OSError):
-                    os.remove(it)
+            with SIGNALS.held():
+                end_group(leader)
+                SIGNALS.leaders.remove(leader)
+
+    def told(self, fault: Failed) -> Failed:
+        """Shows the last lines of what the toolchain printed that may say why it failed. Returns the fault."""
+        with open(self.at("build.log"), encoding="utf-8", errors="replace") as it:
+            lines = [line for line in it if not WELL.search(line.rstrip("\n"))]
+        put_over("".join(lines[-60:]))
+        return fault
+
+    def put_in_place(self, made: str) -> None:
+        """Has a program that was made stand for its sources. What its note has of its bytes is of neither program while one
+        takes the place of the other. A signal comes before all of it, or after."""
+        program, note = self.at("cli"), self.at("built")
+        with SIGNALS.held():
+            try:
+                shutil.copy2(made, f"{program}.new")
+                with open(made, "rb") as whole, open(f"{note}.new", "w", encoding="utf-8") as file:
+                    file.write(f"{self.sources}\n{self.tool}\n{hashlib.sha256(whole.read()).hexdigest()}\n")
+                for place in (program, note):
+                    os.replace(f"{place}.new", place)
+            finally:
+                for place in (program, note):
+                    with contextlib.suppress(OSError):
+                        os.remove(f"{place}.new")

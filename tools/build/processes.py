@@ -7,7 +7,7 @@ import os
 import signal
 import subprocess
 from types import FrameType
-from typing import IO, Iterable, Iterator, Optional
+from typing import Iterable, Iterator, Optional
 
 from tools import ending
 
@@ -71,20 +71,3 @@ def end_group(leader: subprocess.Popen[bytes]) -> None:
             leader.wait(PATIENCE)
     signal_group(leader, signal.SIGKILL)
     leader.wait()
-
-
-@contextlib.contextmanager
-def running(words: list[str], folder: str, temporary: str, said: IO[bytes]) -> Iterator[subprocess.Popen[bytes]]:
-    """Runs a command as a group of processes of its own, which ends at the end."""
-    with SIGNALS.held():
-        leader = subprocess.Popen(
-            words, cwd=folder, env={**os.environ, "TMPDIR": temporary}, stdin=subprocess.DEVNULL, stdout=said, stderr=said,
-            start_new_session=True,
-        )
-        SIGNALS.leaders.append(leader)
-    try:
-        yield leader
-    finally:
-        with SIGNALS.held():
-            end_group(leader)
-            SIGNALS.leaders.remove(leader)

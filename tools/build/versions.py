@@ -23,26 +23,14 @@ def here(*words: str) -> bytes | None:
     return done.stdout if done.returncode == 0 else None
 
 
-def committed(paths: list[str]) -> dict[str, str]:
-    """The hash of each file of the commit below these paths."""
-    rows = (here("ls-tree", "-r", "-z", "HEAD", "--", *paths) or b"").split(b"\0")[:-1]
-    return {os.fsdecode(name): os.fsdecode(head.split()[2]) for head, _, name in (row.partition(b"\t") for row in rows)}
-
-
-def hash_of(path: str, kind: str) -> str:
-    """The hash that git has of a file with these bytes."""
-    with open(path, "rb") as file:
-        data = file.read()
-    return hashlib.new(kind, b"blob %d\0" % len(data) + data).hexdigest()
-
-
 def has_changed() -> bool:
     """Whether a source of the program is not as in the commit, by the hashes of both: git may be told to look away from a file."""
     paths = ["crates.txt", *(f"crates/{name}/{folder}" for name in crates() for folder in ("src", "specs", "proofs"))]
-    wanted = committed(paths)
-    kind = "sha256" if any(len(it) == 64 for it in wanted.values()) else "sha1"
-    found = [f"{place}/{name}" for it in paths for place, _, files in os.walk(f"{TOP}/{it}", followlinks=True) for name in files]
-    return wanted != {os.path.relpath(it, TOP): hash_of(it, kind) for it in [f"{TOP}/crates.txt", *found]}
+    rows = (here("ls-tree", "-r", "-z", "HEAD", "--", *paths) or b"").split(b"\0")[:-1]
+    wanted = {os.fsdecode(name): head.split()[2] for head, _, name in (row.partition(b"\t") for row in rows)}
+    walked = [f"{place}/{name}" for it in paths for place, _, files in os.walk(f"{TOP}/{it}", followlinks=True) for name in files]
+    found = ["crates.txt", *(os.path.relpath(it, TOP) for it in walked)]
+    return wanted != dict(zip(found, (here("hash-object", "--no-filters", "--", *found) or b"").split()))
 
 
 def origin() -> str:
@@ -51,12 +39,7 @@ def origin() -> str:
     is_top = (here("rev-parse", "--show-toplevel") or b"") == os.fsencode(f"{TOP}\n")
     commit = os.fsdecode(here("rev-parse", "HEAD") or b"").strip() if is_top else ""
     changed = ", changed since" if commit and has_changed() else ""
-    tool = note_line(1)
-    if not tool:
-        try:
-            tool = os.fsdecode(subprocess.run(["rt", "--version"], capture_output=True, check=True).stdout)
-        except (OSError, subprocess.CalledProcessError):
-            tool = ""
+    tool = note_line(1) or asked("rt --version") or ""
     return f"commit {commit or 'unknown'}{changed}\nlogic {tool.rpartition(' logic ')[2].strip() if ' logic ' in tool else 'unknown'}"
 
 

@@ -15,21 +15,29 @@ signal.
 # The script `install` calls it twice: with `judge` and its words, which does all but to install; the status is 3 where that is to
 # be done; and then, once a program stands, with `install`, that program and its words.
 #
-# installed.py says how an installation stands. An update makes the other tree, and one rename of the link puts it in use.
-# The list of a tree stands before anything that it lists is made, and goes after all of it. So what was ended halfway is
-# known, and the next call takes it away. To take away needs no room on the disk: nothing is written for it.
+# An installation is a folder, its tree, PREFIX/lib/pipecheck.1 or PREFIX/lib/pipecheck.2. The link PREFIX/lib/pipecheck
+# leads to the tree that is in use, and each command, page and completion is a link through that one. The file `installed`
+# of a tree lists these links, and the folders that were made for them, also those around the prefix (`..`, `../..`).
+# In the former layout the tree was PREFIX/lib/pipecheck itself, and the man page and the completion were files.
+#
+# An update makes the other tree, and one rename of the link puts it in use. The list of a tree stands before anything that
+# it lists is made, and goes after all of it. So what was ended halfway is known, and the next call takes it away. To take
+# away needs no room on the disk: nothing is written for it.
 import fcntl
 import io
 import os
 import shutil
 import sys
+import unicodedata
 from collections.abc import Iterator, Sequence
 from contextlib import ExitStack, contextmanager, suppress
+from dataclasses import dataclass
+from functools import reduce
+from operator import or_
 
 import tools
 from tools.build.processes import SIGNALS
 from tools.build.versions import origin
-from tools.install.installed import FOLDERS, IN_USE, LINKS, LIST, TREES, Listing, Prefix, Refused, is_below
 from tools.install.manual import NAMES, Unmade, manual
 
 TOP = tools.TOP
@@ -40,6 +48,60 @@ COPIED = ("README.md", "CONTRIBUTING.md", "NEWS.md", "commands.txt", "docs", "ed
 # what builds, and what says what the crates and their definitions are
 LEFT_OUT = {"script/build", "tools/build", "tools/install", "tools/pages"}
 LEFT_OUT_NAMES = {"__pycache__", ".gitignore"}
+
+IN_USE = "lib/pipecheck"
+TREES = ("lib/pipecheck.1", "lib/pipecheck.2")
+LIST = "installed"
+# each link, and the file of the tree that it leads to
+LINKS = {
+    "bin/pipecheck": "pipecheck",
+    "bin/pipecheck-suite": "examples/suite",
+    "share/man/man1/pipecheck.1": "man/pipecheck.1",
+    "share/man/man1/pipecheck-suite.1": "man/pipecheck-suite.1",
+    "share/bash-completion/completions/pipecheck": "script/completion.bash",
+    "share/zsh/site-functions/_pipecheck": "script/completion.zsh",
+    "share/fish/vendor_completions.d/pipecheck.fish": "script/completion.fish",
+}
+# how the files of the former layout begin
+FORMER = {
+    "share/man/man1/pipecheck.1": b".TH PIPECHECK 1 ",
+    "share/bash-completion/completions/pipecheck": b"# shellcheck shell=bash\n# Completion of `pipecheck` for bash.",
+}
+
+
+class Refused(Exception):
+    """Nothing is changed, and why."""
+
+
+@dataclass(frozen=True)
+class Listing:
+    """What stands outside of a tree for it, by paths from the prefix: links or files, and folders that were made."""
+
+    files: frozenset[str] = frozenset()
+    folders: frozenset[str] = frozenset()
+
+    def __or__(self, other: "Listing") -> "Listing":
+        return Listing(self.files | other.files, self.folders | other.folders)
+
+
+def parents(name: str) -> list[str]:
+    """The folders that a path from the prefix goes through, the prefix first."""
+    parts = name.split("/")
+    return ["."] + ["/".join(parts[:k]) for k in range(1, len(parts))]
+
+
+# all of these, the outer ones first
+FOLDERS = sorted({folder for name in (IN_USE, *LINKS) for folder in parents(name)})
+
+
+def is_below(name: str) -> bool:
+    """Whether a path from the prefix stays in it."""
+    return name != "" and not os.path.isabs(name) and ".." not in name.split("/")
+
+
+def is_around(name: str) -> bool:
+    """Whether a path from the prefix leads to a folder around it."""
+    return set(name.split("/")) == {".."}
 
 
 def write_new(path: str, text: str) -> None:
@@ -80,27 +142,118 @@ def copy(source: str, target: str) -> None:
         os.chmod(target, 0o755 if os.access(source, os.X_OK) else 0o644)
 
 
-class Installation(Prefix):
-    """A prefix that is changed."""
+class Installation:
+    """What stands under a folder, the prefix. Names of files are paths from it."""
 
     def __init__(self, path: str) -> None:
-        super().__init__(path)
         self.locks = ExitStack()
         self.locked: list[str] = []
+        if os.path.islink(path) and not os.path.exists(path):
+            raise Refused(f"{path} is a link to what is not there")
+        self.path = os.path.realpath(path)
+        try:
+            self.path.encode("utf-8")
+        except UnicodeEncodeError as error:
+            raise Refused("no folder is taken whose path is not UTF-8: the program could not be called there") from error
+        if any(unicodedata.category(it) == "Cc" for it in self.path):
+            raise Refused("no folder is taken whose path has a control character")
+        depth = len([part for part in self.path.split("/") if part])
+        # the folders around the prefix, the outer ones first
+        self.around = ["/".join([".."] * steps) for steps in range(depth, 0, -1)]
+
+    def at(self, name: str) -> str:
+        """The whole path."""
+        return os.path.normpath(os.path.join(self.path, name))
+
+    def part(self, name: str) -> str:
+        """Where something is made before a rename gives it this name, or goes to after one took it."""
+        folder, base = os.path.split(self.at(name))
+        return os.path.join(folder, f".{base}.pipecheck-part")
+
+    def trees(self) -> list[str]:
+        """The trees that stand."""
+        return [it for it in (IN_USE, *TREES) if not os.path.islink(self.at(it)) and os.path.isfile(self.at(f"{it}/{LIST}"))]
+
+    def listing(self, tree: str) -> Listing:
+        """What the list of a tree says; of the former layout all folders are whole paths."""
+        files, folders = set(), set()
+        with open(os.path.join(self.at(tree), LIST), encoding="utf-8", errors="surrogateescape") as file:
+            for line in file.read().split("\n"):
+                kind, _, name = line.partition(" ")
+                if kind == "folder":
+                    kind, name = "made", os.path.relpath(os.path.realpath(name), self.path)
+                if is_below(name) and kind == "file":
+                    files.add(name)
+                elif kind == "made" and (is_around(name) or is_below(name) and not name.startswith(IN_USE)):
+                    folders.add(name)
+        return Listing(frozenset(files), frozenset(folders))
+
+    def known(self) -> Listing:
+        """What the lists of all trees say."""
+        return reduce(or_, map(self.listing, self.trees()), Listing())
+
+    def led_to(self, name: str) -> str | None:
+        """The tree that a link leads to by its own words: IN_USE for one that goes through it."""
+        path = self.at(name)
+        if not os.path.islink(path):
+            return None
+        end = os.path.normpath(os.path.join(os.path.dirname(name), os.readlink(path)))
+        return next((tree for tree in (IN_USE, *TREES) if f"{end}/".startswith(f"{tree}/")), None)
+
+    def in_use(self) -> str | None:
+        """The tree that is in use."""
+        tree = self.led_to(IN_USE) or IN_USE
+        return tree if tree in self.trees() else None
+
+    def serves(self, tree: str) -> bool:
+        """Whether a link leads to the tree."""
+        return any(self.led_to(name) == tree for name in (IN_USE, *LINKS))
+
+    def is_ours(self, name: str, known: Listing) -> bool:
+        """Whether an installation made what has the name: a link into a tree, or a file of the former layout."""
+        path = self.at(name)
+        if os.path.islink(path) or not os.path.isfile(path):
+            return self.led_to(name) is not None
+        if name not in FORMER or name not in known.files:
+            return False
+        with open(path, "rb") as file:
+            return file.read(len(FORMER[name])) == FORMER[name]
+
+    def is_followed(self, name: str) -> bool:
+        """Whether a folder on the way to a name is a link, so that the name is another place's."""
+        return any(os.path.islink(self.at(folder)) for folder in parents(name)[1:])
 
     def refuse(self) -> None:
-        """Refuses where nothing can be installed."""
+        """Refuses where nothing can be installed, as where something that is not of an installation stands in the way."""
         for name in COPIED:
             folder = os.path.join(TOP, name)
             if f"{self.path}/".startswith(f"{folder}/"):
                 raise Refused(f"{self.path} is in {folder}, all of which is installed: name a folder outside of it")
-        self.refuse_foreign()
+        for folder in (*self.around, *FOLDERS):
+            path = self.at(folder)
+            if os.path.islink(path):
+                raise Refused(f"{path} is a link, so that what is installed there would stand elsewhere")
+            if os.path.lexists(path) and not os.path.isdir(path):
+                raise Refused(f"{path} is no folder")
+        for tree in (IN_USE, *TREES):
+            is_link_to_tree = tree == IN_USE and self.led_to(tree) in TREES
+            if os.path.lexists(self.at(tree)) and tree not in self.trees() and not is_link_to_tree:
+                raise Refused(f"{self.at(tree)} is not of an installation")
+        known = self.known()
+        for name in LINKS:
+            if os.path.lexists(self.at(name)) and not self.is_ours(name, known):
+                raise Refused(f"{self.at(name)} is not of an installation: it is left as it is")
 
     # what is made
 
     def put_list(self, tree: str, listing: Listing) -> None:
-        """Puts the list of a tree in its place by one rename, with the folders on the way that are not there."""
-        text = listing.text(tree, self.path)
+        """Puts the list of a tree in its place by one rename, with the folders on the way that are not there. Older installers
+        know `file` and `tree`. A folder around the prefix has its whole path, so that none is taken for it where the prefix was
+        moved."""
+        lines = [f"file {name}" for name in sorted(listing.files)] + [f"tree {tree}"]
+        lines += [f"made {name}" for name in sorted(listing.folders) if is_below(name)]
+        lines += [f"folder {self.at(name)}" for name in sorted(listing.folders) if is_around(name)]
+        text = "".join(line + "\n" for line in lines)
         if os.path.isdir(self.at(tree)):
             path = os.path.join(self.at(tree), LIST)
             write_new(f"{path}.part", text)
@@ -301,14 +454,6 @@ class Installation(Prefix):
         return False
 
 
-def tell_installed(prefix: Prefix) -> None:
-    """Says what is there now."""
-    names = "pipecheck, pipecheck-suite, their man pages, completion for bash, zsh and fish"
-    print(f"installed under {prefix.path}: {names}")
-    if prefix.at("bin") not in [os.path.realpath(folder) for folder in os.environ.get("PATH", "").split(":")]:
-        print(f"{prefix.at('bin')} is not in PATH")
-
-
 def prefix_of(words: Sequence[str]) -> str:
     """The folder that words name."""
     if len(words) > 1 or words and (not words[0] or words[0].startswith("-")):
@@ -333,10 +478,13 @@ def judge(*words: str) -> int:
 
 
 def install(program: str, *words: str) -> int:
-    """Installs this program."""
+    """Installs this program, and says what is there now."""
     prefix = Installation(prefix_of(words))
     prefix.install(program, origin())
-    tell_installed(prefix)
+    names = "pipecheck, pipecheck-suite, their man pages, completion for bash, zsh and fish"
+    print(f"installed under {prefix.path}: {names}")
+    if prefix.at("bin") not in [os.path.realpath(folder) for folder in os.environ.get("PATH", "").split(":")]:
+        print(f"{prefix.at('bin')} is not in PATH")
     return 0
 
 

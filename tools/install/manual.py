@@ -32,6 +32,9 @@ SUITE_FOOT = ".SH SEE ALSO\n.BR pipecheck (1)"
 BEGIN_BLOCK, END_BLOCK = ".PP\n.RS\n.nf", ".fi\n.RE"
 # the command by the name that it has in a checkout
 SUITE = re.compile(r"(^|[ `])[^ `]*examples/suite(?=[ `]|$)", re.MULTILINE)
+# of its help text a line that shows a call, and a block that is moved in
+CALL = re.compile(r"^ +(pipecheck-suite(?: .*)?)\n", re.MULTILINE)
+MOVED_IN = re.compile(r"^ .*\n(?:\n*(?: .*\n))*", re.MULTILINE)
 
 
 class Unmade(Exception):
@@ -114,23 +117,11 @@ def suite_page(top: str) -> Iterator[str]:
     done = subprocess.run([os.path.join(top, "examples", "suite"), "--help"], stdout=subprocess.PIPE, check=False)
     if done.returncode != 0:
         raise Unmade("the man page pipecheck-suite(1) could not be made")
-    lines = SUITE.sub(r"\1pipecheck-suite", done.stdout.decode("utf-8")).splitlines()
-    calls = [it for it in lines if re.match(" +pipecheck-suite( |$)", it)]
+    text = SUITE.sub(r"\1pipecheck-suite", done.stdout.decode("utf-8"))
     yield SUITE_HEAD
-    yield from (f".B {plain(it.lstrip(' '))}\n.br" for it in calls)
+    yield from (f".B {plain(it)}\n.br" for it in CALL.findall(text))
     yield ".SH DESCRIPTION"
-    is_block = False
-    rest = [it for it in lines if it not in calls]
-    for line, following in zip(rest, [*rest[1:], ""]):
-        if is_block and not line and following.startswith(" "):
-            yield ""
-            continue
-        if is_block != line.startswith(" "):
-            is_block = not is_block
-            yield BEGIN_BLOCK if is_block else END_BLOCK
-        yield (line_of(plain(line)) if is_block else line_of(marked(line))) if line else ".PP"
-    if is_block:
-        yield END_BLOCK
+    yield from roff(MOVED_IN.sub(r"```\n\g<0>```\n", CALL.sub("", text)), True)
     yield SUITE_FOOT
 
 

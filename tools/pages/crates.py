@@ -77,10 +77,8 @@ def crates_of() -> list[Crate]:
 
 def by_heading() -> dict[str, list[Crate]]:
     """The crates under each heading, both in the order of crates.txt."""
-    found: dict[str, list[Crate]] = {}
-    for it in crates_of():
-        found.setdefault(it.heading, []).append(it)
-    return found
+    found = crates_of()
+    return {heading: [it for it in found if it.heading == heading] for heading in dict.fromkeys(it.heading for it in found)}
 
 
 def cell(text: str) -> str:

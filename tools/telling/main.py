@@ -2,10 +2,8 @@
 
     python3 tools telling forms [WORD]            the forms of all commands, or of one
     python3 tools telling misuse WORD..           that these words are no command
-    python3 tools telling before WORD..           the same before a program is made that says so; nothing where they are one
     python3 tools telling unreadable FILE..       which of these files can't be opened
     python3 tools telling refusal LINE WORD..     where a file of these words has the fault that the program's line names
-    python3 tools telling place LINE FILE         the same of one file
     python3 tools telling unread                  says nothing; the status is 0 where nobody reads standard output, a pipe, any more
 """
 import select
@@ -16,33 +14,24 @@ from tools import TOP
 from tools.second.standard_output import status_of
 from tools.telling.files import unreadable
 from tools.telling.forms import Forms
-from tools.telling.refusals import place_of, refusal_of, told
+from tools.telling.refusals import told
 
 
 def lines(what: str, words: list[str]) -> Iterator[str]:
     if what == "forms":
         yield from Forms(TOP).lines(*words)
         if words == ["agree"]:
+            # it takes longer to load than all else here
+            from tools.agree.main import parser
+
             yield ""
-            yield from options()
+            yield from parser().format_help().splitlines()
     elif what == "misuse":
         yield from Forms(TOP).misuse(words)
-    elif what == "before":
-        yield from Forms(TOP).before(words)
     elif what == "unreadable":
         yield from unreadable(words)
-    elif what == "refusal":
-        yield from told(TOP, words[0], words[1:])
     else:
-        yield from place_of(TOP, words[1], refusal_of(words[0]))
-
-
-def options() -> list[str]:
-    """What `agree` says of its options."""
-    # it takes longer to load than all else here
-    from tools.agree.main import parser
-
-    return parser().format_help().splitlines()
+        yield from told(TOP, words[0], words[1:])
 
 
 def is_unread() -> bool:
