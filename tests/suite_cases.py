@@ -22,13 +22,11 @@ from tests.cases import (
 # what a suite imports where it is needed is there before it is forked
 from tools.lint import main as lint
 import tools.suite.axioms
-import tools.suite.main
-import tools.suite.sarif
+import tools.suite.reports
 from tools.explain import files as explaining_files
 from tools.lint import linting
 from tools.second import queries
 from tools.suite import running
-from tools.suite.beside import LINTED
 from tools.suite.files import File
 
 SC = "examples/models/sc-inorder.uspec"
@@ -66,7 +64,7 @@ def lint_here(_: str, tests: Sequence[File], __: object, ___: float, model: File
     """What lint says of a model and the tests, by its entry in this process."""
     with LINTING, contextlib.redirect_stdout(io.StringIO()) as out, contextlib.redirect_stderr(io.StringIO()):
         status = lint.main(model.path, *(it.path for it in tests))
-    if status not in LINTED:
+    if status not in running.LINTED:
         raise AssertionError(f"lint ended with {status}")
     return out.getvalue().split("\n")[:-1]
 

@@ -30,15 +30,14 @@ from tests.suite_cases import CORR, EARLY, GOOD, MP, SB, SC, TUTORIAL, SuiteCase
 from tools.ending import SIGNALS as RECEIVED, Interrupted
 from tools.texts.memory_models import memory_model_of
 from tools.texts.quoting import quoted
-from tools.suite import kept
-from tools.suite.beside import lint_lines
+from tools.suite import keeping
 from tools.suite.calling import Calls, side_by_side
 from tools.suite.files import File, model_file, test_file
-from tools.suite.keeping import Folder, State, write_anew
+from tools.suite.keeping import Folder, Kept, State, write_anew
 from tools.suite.pairs import Found
 from tools.suite.programs import command_of
-from tools.suite.refusing import Refusal
-from tools.suite.tables import table_of_models
+from tools.suite.running import lint_lines
+from tools.suite.telling import Refusal, table_of_models
 
 PATTERN = "examples/patterns/MP.pattern"
 BAD_ROW = f"{PATTERN}: tutorial-early: shown though tso does not allow it: 1 0"
@@ -682,12 +681,12 @@ class Parts(SuiteCases):
         store = f"{self.work}/store"
         for name in ("mine", "0" * 64 + ".part", "0" * 64 + "." + "0" * 32 + ".part"):
             os.utime(self.put(f"store/{name}", text), (0, 0))
-        verdicts = kept.Kept(store, "the program")
+        verdicts = Kept(store, "the program")
         for age, test in enumerate(tests):
             verdicts.keep(model, test, found, io.BytesIO(text))
             os.utime(verdicts.place(model, test), (1000 - age, 1000 - age))
         self.same("a verdict is taken", verdicts.found(model, tests[2]), (found, text))
-        with replaced(kept, "MOST_BYTES", 2500):
+        with replaced(keeping, "MOST_BYTES", 2500):
             verdicts.shorten()
         left = {os.path.basename(verdicts.place(model, test)) for test in (tests[0], tests[2])}
         name = "the one that was not taken for longest goes, with what is half written"

@@ -14,7 +14,7 @@ from tools.agree.programs import Program, named, random_program, smallest
 from tools.agree.small_programs import Family, Shape
 from tools.agree.working import Unusable, Workers
 from tools.second.patterns import MOST_ROWS
-from tools.suite.counting import Progress as Meter
+from tools.suite.telling import Progress as Meter
 from tools.texts.quoting import shown
 
 # how often what is done is kept

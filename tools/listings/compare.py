@@ -28,13 +28,10 @@ from tools.second.models import Model
 from tools.second.scopes import read_model
 from tools.second.standard_output import FAILED, UNREAD, status_of
 from tools.second.tokens import Fault
-from tools.suite.calling import Calls, side_by_side
-from tools.suite.counting import Progress
-from tools.suite.main import ENDING
+from tools.suite.calling import ENDING, Calls, side_by_side
 from tools.suite.pairs import Checker
 from tools.suite.programs import checker_of
-from tools.suite.refusing import Refusal
-from tools.suite.telling import tell
+from tools.suite.telling import Progress, Refusal, tell
 from tools.telling.files import unreadable
 from tools.texts.contents import Unreadable, contents, read_within
 from tools.texts.quoting import shown

@@ -6,7 +6,7 @@ from glob import glob
 from tools.lint.lines import line_of
 from tools.suite.calling import PYTHON
 from tools.suite.files import File
-from tools.suite.refusing import Refusal
+from tools.suite.telling import Refusal
 from tools.texts.memory_models import FORM, memory_model_of
 from tools.texts.quoting import quoted, shown
 

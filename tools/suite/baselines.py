@@ -2,7 +2,7 @@
 from typing import Iterator, Mapping
 
 from tools.suite.pairs import BUG, GOOD, STRICTER, TIME
-from tools.suite.refusing import Refusal
+from tools.suite.telling import Refusal
 from tools.texts.quoting import quoted, shown
 
 # by the names of model and test

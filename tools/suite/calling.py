@@ -15,7 +15,7 @@ from contextlib import suppress
 from typing import IO, Callable, Sequence, TypeVar
 
 from tools.ending import PATIENCE, SIGNALS
-from tools.suite.refusing import Refusal
+from tools.suite.telling import Refusal
 from tools.texts.quoting import quoted
 
 # What the limits need is done by a shell that becomes the program. Where a limit of file size is passed, a write fails,
@@ -24,6 +24,11 @@ LIMITED = 'trap "" XFSZ; ulimit -S -t "$0" && ulimit -S -v "$1" || exit 125; shi
 MOST_DIGITS = 11
 # Python as the suite starts it: no variable of the environment, and nothing that is installed beside it, changes it
 PYTHON = (sys.executable, "-E", "-S", "-B")
+# the signals that end a process without a fault of its own
+ENDING = (
+    signal.SIGINT, signal.SIGTERM, signal.SIGHUP, signal.SIGQUIT, signal.SIGUSR1, signal.SIGUSR2, signal.SIGALRM,
+    signal.SIGVTALRM, signal.SIGPROF, signal.SIGXCPU,
+)
 # how long what cleans up after itself may take to end
 GRACE = 10.0
 

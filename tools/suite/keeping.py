@@ -1,4 +1,5 @@
-"""The folder of a suite: certificates, the rows of the last table, and what an interrupted suite has got so far.
+"""The folder of a suite: certificates, the rows of the last table, and what an interrupted suite has got so far; reports; and the
+folder of verdicts that are kept over suites.
 
 Each file is written under another name first and then takes the place of the old one: so no link is followed, and what
 stood before stands until the new one is whole.
@@ -6,15 +7,15 @@ stood before stands until the new one is whole.
 import fcntl
 import json
 import os
+import re
 import stat
 from contextlib import contextmanager, suppress
 from typing import IO, Iterator, Mapping
 
 from tools.ending import SIGNALS
 from tools.suite.files import CELLS, PART, File, digest_of
-from tools.suite.pairs import Found, verdict_found
-from tools.suite.refusing import Refusal
-from tools.suite.telling import tell
+from tools.suite.pairs import Found, found_in, verdict_found
+from tools.suite.telling import Refusal, tell
 from tools.texts.quoting import shown
 
 CERTIFICATE, ROWS, ANSWER = ".certificate", ".rows", ".answer"
@@ -23,6 +24,11 @@ PARTS = (CERTIFICATE + PART, ROWS + PART, ANSWER + PART)
 # no model has a name that begins with a dot
 LOCK = ".lock"
 STATE = ".state"
+# how much stays of verdicts that are kept over suites
+MOST_BYTES = 1 << 30
+# what is written there; nothing else in that folder is touched
+ENTRY = re.compile(r"[0-9a-f]{64}(\.[0-9a-f]{32}\.part)?")
+FORMAT = "1"
 
 
 @contextmanager
@@ -44,6 +50,30 @@ def write_anew(place: str, text: bytes) -> None:
         file.write(text)
         file.flush()
         os.replace(file.name, place)
+
+
+def judge_place(option: str, path: str) -> None:
+    """Refuses a place that a report cannot be written to, before anything runs."""
+    if os.path.exists(path) and not os.path.isfile(path):
+        is_writable = not os.path.isdir(path) and os.access(path, os.W_OK)
+    else:
+        folder = os.path.dirname(os.path.realpath(path))
+        is_writable = os.path.isdir(folder) and os.access(folder, os.W_OK)
+    if not is_writable:
+        raise Refusal(f"{option}: {shown(path)} cannot be written")
+
+
+def write_report(path: str, text: bytes) -> None:
+    """Writes a report whole: a file has its former text until then. What is no file, as a pipe, gets it as it comes."""
+    try:
+        is_file = stat.S_ISREG(os.stat(path).st_mode)
+    except FileNotFoundError:
+        is_file = True
+    if is_file:
+        write_anew(os.path.realpath(path), text)
+    else:
+        with open(path, "wb") as file:
+            file.write(text)
 
 
 class Folder:
@@ -166,6 +196,98 @@ class State:
         """A suite that is done leaves nothing to go on from."""
         with suppress(OSError):
             os.unlink(self.place)
+
+
+class Kept:
+    """Verdicts that are kept over suites, in a folder that many suites may read and write at once. Without a path nothing is kept.
+
+    An entry is a file by the hash of all that a verdict comes from: program, model, test and the words of the call. Its first line
+    has the hash of the rest, which is what the program wrote. An entry that is spoilt is none, and is made anew.
+    """
+
+    def __init__(self, path: str, program: str) -> None:
+        self.path = path
+        # the hash of the program; empty where its bytes are not known, and then nothing is kept
+        self.program = program if path else ""
+        self.taken: set[str] = set()
+        if not path:
+            return
+        if not program:
+            tell(f"suite: nothing is kept in {shown(path)}: PIPECHECK is not one binary")
+        try:
+            os.makedirs(path, exist_ok=True)
+        except OSError as error:
+            raise Refusal(f"the folder {shown(path)} cannot be made: {error.strerror}") from error
+        if not os.access(path, os.R_OK | os.W_OK | os.X_OK):
+            raise Refusal(f"the folder {shown(path)} cannot be written")
+
+    def knows(self, model: File, test: File) -> bool:
+        """Whether all bytes are known that a verdict comes from."""
+        return "" not in (self.program, model.digest, test.digest)
+
+    def place(self, model: File, test: File) -> str:
+        origin = (FORMAT, self.program, model.digest, test.digest, f"{test.kind.check} {test.kind.verify}")
+        return os.path.join(self.path, digest_of("\n".join(origin).encode("ascii")))
+
+    def found(self, model: File, test: File) -> tuple[Found, bytes] | None:
+        """The verdict of a pair with the program's text, where it is kept."""
+        if not self.knows(model, test):
+            return None
+        place = self.place(model, test)
+        try:
+            head, _, text = contents_of_any_length(place).partition(b"\n")
+            is_whole = json.loads(head)["digest"] == digest_of(text)
+        except (OSError, ValueError, KeyError, TypeError, RecursionError):
+            return None
+        found = found_in(test, text)
+        if not is_whole or not found.verdict:
+            return None
+        # what is taken stays longest
+        with suppress(OSError):
+            os.utime(place)
+        self.taken.add(place)
+        return found, text
+
+    def keep(self, model: File, test: File, found: Found, said: IO[bytes]) -> None:
+        """Keeps a verdict with what the program said. Where that fails the program is asked again the next time."""
+        if not self.knows(model, test):
+            return
+        said.seek(0)
+        text = said.read()
+        place = self.place(model, test)
+        head = json.dumps({"stated": found.stated, "digest": digest_of(text)}).encode("ascii")
+        part = f"{place}.{os.urandom(16).hex()}{PART}"
+        try:
+            with open(part, "xb") as file:
+                file.write(head + b"\n" + text)
+            os.replace(part, place)
+        except OSError:
+            with suppress(OSError):
+                os.unlink(part)
+
+    def tell_taken(self) -> None:
+        if self.taken:
+            tell(f"suite: {len(self.taken)} pairs stand from {shown(self.path)}")
+
+    def shorten(self) -> None:
+        """Removes what was not taken for longest, until the rest is no more than so much."""
+        entries = sorted(self.entries())
+        length = sum(size for _, _, size in entries)
+        for _, path, size in entries:
+            if length <= MOST_BYTES:
+                return
+            with suppress(OSError):
+                os.unlink(path)
+            length -= size
+
+    def entries(self) -> Iterator[tuple[float, str, int]]:
+        """Of each entry, and of what a suite that was ended by force left of one: when it was last taken, its path and its size."""
+        with suppress(OSError), os.scandir(self.path) as entries:
+            for entry in entries:
+                if ENTRY.fullmatch(entry.name):
+                    with suppress(OSError):
+                        status = entry.stat(follow_symlinks=False)
+                        yield status.st_mtime, entry.path, status.st_size
 
 
 def contents_of_any_length(place: str) -> bytes:

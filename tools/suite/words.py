@@ -7,7 +7,7 @@ from typing import Mapping, Sequence
 from tools.suite.files import (
     KINDS, MODEL_ENDING, File, ending_of, is_row, is_test, judge_distinct, judge_present, model_file, test_file
 )
-from tools.suite.refusing import Refusal
+from tools.suite.telling import Refusal
 from tools.texts.quoting import quoted, shown
 
 SECONDS = re.compile(r"[0-9]{1,9}(\.[0-9]+)?", re.ASCII)
