@@ -167,7 +167,12 @@ def ask(answer: Answer, comparisons: Sequence[Comparison], checker: Checker, mod
             run(waiting, checker, model)
             waiting = []
     run(waiting, checker, model)
-    return [comparison for comparison in done if is_whole(answer, comparison)]
+    for comparison in done:
+        if comparison.failed is not None:
+            why = f"a sweep of it has no answer, and the status {comparison.failed}"
+            status = comparison.failed if comparison.failed in (REFUSED, MEMORY) else FAILED
+            answer.tell("tests that are not compared", f"compare: not compared: {comparison.result.name}: {why}", status)
+    return [comparison for comparison in done if comparison.failed is None]
 
 
 def run(waiting: Sequence[tuple[Comparison, Sweep]], checker: Checker, model: str) -> None:
@@ -184,16 +189,6 @@ def run(waiting: Sequence[tuple[Comparison, Sweep]], checker: Checker, model: st
         side_by_side(checker.calls, len(os.sched_getaffinity(0)), tasks, take)
     finally:
         progress.end()
-
-
-def is_whole(answer: Answer, comparison: Comparison) -> bool:
-    """Whether all sweeps of a test have an answer. That one has none is told."""
-    if comparison.failed is None:
-        return True
-    why = f"a sweep of it has no answer, and the status {comparison.failed}"
-    status = comparison.failed if comparison.failed in (REFUSED, MEMORY) else FAILED
-    answer.tell("tests that are not compared", f"compare: not compared: {comparison.result.name}: {why}", status)
-    return False
 
 
 def main(model: str, *paths: str) -> int:

@@ -6,10 +6,9 @@ from itertools import product
 from math import prod
 from typing import Iterator, Mapping, NamedTuple
 
-from tools.listings.conditions import Variable
 from tools.listings.logs import Result, State
 from tools.listings.programs import Program
-from tools.listings.reading import register_name
+from tools.listings.reading import Variable, register_name
 from tools.second.cases import Location
 from tools.second.patterns import ENDING, MOST_ROWS
 from tools.second.standard_output import FAILED

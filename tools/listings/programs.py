@@ -2,8 +2,7 @@
 from dataclasses import replace
 from typing import Mapping, NamedTuple
 
-from tools.listings.conditions import Variable
-from tools.listings.reading import Beyond, Instruction, Notes, read_written
+from tools.listings.reading import Beyond, Instruction, Notes, Variable, read_written
 from tools.second.cases import GREATEST_CORE, MOST_OPS, Location, Op
 from tools.second.tokens import Fault, Token
 from tools.texts.writing_tests import op_text, printable, value_line, written

@@ -14,9 +14,9 @@ from typing import IO, Iterator, Mapping
 
 from tools.ending import SIGNALS
 from tools.suite.files import CELLS, PART, File, digest_of
-from tools.suite.pairs import Found, found_in, verdict_found
+from tools.suite.pairs import BUG, GOOD, STRICTER, TIME, Found, found_in, verdict_found
 from tools.suite.telling import Refusal, tell
-from tools.texts.quoting import shown
+from tools.texts.quoting import quoted, shown
 
 CERTIFICATE, ROWS, ANSWER = ".certificate", ".rows", ".answer"
 # other files of such a folder may end in .part, too
@@ -29,6 +29,10 @@ MOST_BYTES = 1 << 30
 # what is written there; nothing else in that folder is touched
 ENTRY = re.compile(r"[0-9a-f]{64}(\.[0-9a-f]{32}\.part)?")
 FORMAT = "1"
+# by the names of model and test
+Cells = Mapping[tuple[str, str], str]
+# how what is new is told, by these words first
+FIRST = (BUG, STRICTER, TIME)
 
 
 @contextmanager
@@ -120,10 +124,61 @@ class Folder:
         ending = ROWS if test.is_pattern else ANSWER if test.is_query else CERTIFICATE
         return os.path.join(self.path, model.name, test.base + ending)
 
-    def write_cells(self, cells: Mapping[tuple[str, str], str]) -> None:
+    def write_cells(self, cells: Cells) -> None:
         """Keeps the rows of a table: model, test and cell."""
         text = "".join("\t".join((*pair, cell)) + "\n" for pair, cell in cells.items())
         write_anew(self.cells, os.fsencode(text))
+
+
+class Baseline:
+    """The cells of an earlier suite, which the file `cells` of its folder has; none without a path."""
+
+    def __init__(self, path: str | None) -> None:
+        self.path = path
+        self.cells: dict[tuple[str, str], str] = {}
+        if path is None:
+            return
+        try:
+            with open(path, encoding="utf-8", errors="surrogateescape", newline="\n") as file:
+                lines = file.read().split("\n")
+        except OSError as error:
+            raise Refusal(f"the baseline {shown(path)} cannot be read: {error.strerror}") from error
+        if lines.pop():
+            raise Refusal(f"the baseline {shown(path)} ends in the midst of a line")
+        for line in lines:
+            row = line.split("\t")
+            if len(row) != 3 or "" in row:
+                raise Refusal(f"the baseline {shown(path)} has a line that is no model, test and cell: {quoted(line)}")
+            self.cells[row[0], row[1]] = row[2]
+
+    def has(self, pair: tuple[str, str], cell: str) -> bool:
+        return self.cells.get(pair) == cell
+
+    def new(self, cells: Cells) -> dict[tuple[str, str], str]:
+        """The pairs that are BUG, stricter, late or a fault, and were not the same before."""
+        return {pair: cell for pair, cell in cells.items() if cell not in GOOD and not self.has(pair, cell)}
+
+    def lines(self, cells: Cells) -> list[str]:
+        """What is new, a line for each word of a cell, and what is gone."""
+        if self.path is None:
+            return []
+        pairs: dict[str, list[str]] = {}
+        for (model, test), cell in self.new(cells).items():
+            pairs.setdefault(cell, []).append(f"{model} {test}")
+        order = [*(cell for cell in FIRST if cell in pairs), *sorted(cell for cell in pairs if cell not in FIRST)]
+        lines = [f"{len(pairs[cell])} new {cell}: {', '.join(pairs[cell])}" for cell in order]
+        lines = lines or [f"nothing is new beside {shown(self.path)}"]
+        gone = [*self.gone(cells)]
+        return [*lines, f"{len(gone)} gone: {', '.join(gone)}"] if gone else lines
+
+    def gone(self, cells: Cells) -> Iterator[str]:
+        """The pairs that were not good and are now; and the models and the tests that are not in this suite any more."""
+        for pair, cell in self.cells.items():
+            if cell not in GOOD and cells.get(pair) in GOOD:
+                yield f"{' '.join(pair)} ({cell})"
+        for place, kind in enumerate(("model", "test")):
+            left = {pair[place] for pair in cells}
+            yield from (f"{kind} {name}" for name in dict.fromkeys(pair[place] for pair in self.cells) if name not in left)
 
 
 class State:
@@ -153,27 +208,26 @@ class State:
     def found(self, model: File, test: File) -> Found | None:
         """The verdict of a pair, where it is known for these bytes and the certificate of then is there."""
         known = self.pairs.get(self.key(model, test))
-        if known is None or "" in (model.digest, test.digest):
+        if known is None or "" in (model.digest, test.digest) or self.pair(model, test) != known:
             return None
-        found, pair = self.pair(model, test)
-        return found if pair == known and found.verdict else None
+        return Found(known["verdict"], known["stated"]) if known["verdict"] else None
 
     def note(self, model: File, test: File, found: Found) -> None:
         """Notes a verdict whose certificate is kept."""
-        kept, pair = self.pair(model, test)
-        if self.program != "" and kept.verdict == found.verdict != "":
+        pair = self.pair(model, test)
+        if self.program != "" and pair["verdict"] == found.verdict != "":
             self.pairs[self.key(model, test)] = pair
 
     def key(self, model: File, test: File) -> str:
         return f"{model.name}/{test.base}"
 
-    def pair(self, model: File, test: File) -> tuple[Found, dict[str, str]]:
-        """What the certificate of a pair says, and that with all that it comes from."""
+    def pair(self, model: File, test: File) -> dict[str, str]:
+        """What the certificate of a pair says, with all that this comes from."""
         certificate = None
         with suppress(OSError):
             certificate = contents_of_any_length(self.folder.place(model, test))
         found = verdict_found(certificate or b"")
-        return found, {
+        return {
             "model": model.digest,
             "test": test.digest,
             "words": f"{test.kind.check} {test.kind.verify}",

@@ -80,10 +80,9 @@ from typing import Collection, Mapping, Sequence
 from tools import TOP
 from tools.ending import SIGNALS
 from tools.suite.allowing import Rows
-from tools.suite.baselines import Baseline
 from tools.suite.calling import ENDING, Calls
 from tools.suite.files import Copies
-from tools.suite.keeping import Folder, Kept, State, judge_place, write_report
+from tools.suite.keeping import Baseline, Folder, Kept, State, judge_place, write_report
 from tools.suite.pairs import BUG, NOT_TAKEN, OBSERVABLE, OK, STRICTER, SWEPT, TIME, UNOBSERVABLE, kind_of
 from tools.suite.programs import checker_of, program_digest
 from tools.suite.running import Suite

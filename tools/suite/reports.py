@@ -9,8 +9,8 @@ from urllib.parse import quote
 from xml.etree import ElementTree
 from xml.etree.ElementTree import Element, SubElement
 
-from tools.suite.baselines import Baseline
 from tools.suite.files import File
+from tools.suite.keeping import Baseline
 from tools.suite.pairs import BUG, NOT_TAKEN, OBSERVABLE, OK, STRICTER, SWEPT, TIME, UNOBSERVABLE, kind_of
 from tools.suite.running import Suite
 from tools.suite.words import JUNIT, SARIF
@@ -132,7 +132,12 @@ def sarif(cases: Iterable[Case], lines: Sequence[str], files: Iterable[File], ru
     known = {rule.name: rule for rule in rules}
     # the longest name first, since one may begin another
     names = sorted({shown(file.path): file.path for file in files}.items(), key=lambda item: len(item[0]), reverse=True)
-    results = [result_of_case(known, case) for case in cases if kind_of(case.cell) in FAILURES]
+    results = []
+    for case in cases:
+        if kind_of(case.cell) in FAILURES:
+            model, test = case.model.path, case.test.path
+            said = f"{shown(model)} on {shown(test)}: {sentence_of(case)}"
+            results.append(result(known, kind_of(case.cell), said, location(model, 1, 1), location(test, 1, 1)))
     for line in lines:
         found = ((path, PLACE.fullmatch(line, len(name))) for name, path in names if line.startswith(name))
         path, place = next((it for it in found if it[1] is not None), ("", None))
@@ -146,23 +151,16 @@ def sarif(cases: Iterable[Case], lines: Sequence[str], files: Iterable[File], ru
     return json.dumps(log, indent=1).encode("ascii") + b"\n"
 
 
-def result(rules: Mapping[str, Rule], name: str, said: str, place: dict[str, object]) -> dict[str, object]:
-    """A result by the rule of this name, at a place. Rules that come later stand behind."""
+def result(rules: Mapping[str, Rule], name: str, said: str, place: dict[str, object], *beside: object) -> dict[str, object]:
+    """A result by the rule of this name, at a place, with what stands beside it. Rules that come later stand behind."""
     return {
         "ruleId": name,
         "ruleIndex": [*rules].index(name),
         "level": "error" if rules[name].is_fault else "warning",
         "message": {"text": writable(said)},
         "locations": [place],
+        **({"relatedLocations": beside} if beside else {}),
     }
-
-
-def result_of_case(rules: Mapping[str, Rule], case: Case) -> dict[str, object]:
-    """That of a pair, at the model; the test stands beside it."""
-    said = f"{shown(case.model.path)} on {shown(case.test.path)}: {sentence_of(case)}"
-    found = result(rules, kind_of(case.cell), said, location(case.model.path, 1, 1))
-    found["relatedLocations"] = [location(case.test.path, 1, 1)]
-    return found
 
 
 def location(path: str, line: int, column: int) -> dict[str, object]:

@@ -8,11 +8,10 @@ from dataclasses import dataclass
 from functools import partial
 from typing import Iterator, Sequence
 
-from tools.suite.allowing import Machines, Rows, line_of_unnamed
+from tools.suite.allowing import Answer, Judges, Machines, Rows, line_of_unnamed
 from tools.suite.calling import PYTHON, Calls, side_by_side
 from tools.suite.files import Copies, File, in_order
 from tools.suite.keeping import Kept, State, new_file, write_anew
-from tools.suite.machines import Answer, Judges
 from tools.suite.pairs import BUG, FAULT, FORBIDDEN, MACHINE, NOT_TAKEN, OBSERVABLE, OK, PERMITTED, SWEPT, TIME, UNNAMED
 from tools.suite.pairs import UNOBSERVABLE, UNSTATED, UNWRITTEN, Checker, Found, cell_of, cell_of_rows, takes
 from tools.suite.telling import Progress, table_of_models, tell
