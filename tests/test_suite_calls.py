@@ -29,15 +29,13 @@ from tests.suite_cases import CORR, EARLY, GOOD, MP, SB, SC, TUTORIAL, SuiteCase
 
 from tools.ending import SIGNALS as RECEIVED, Interrupted
 from tools.texts.memory_models import memory_model_of
-from tools.texts.quoting import quoted
 from tools.suite import keeping
 from tools.suite.calling import Calls, side_by_side
 from tools.suite.files import File, model_file, test_file
 from tools.suite.keeping import Folder, Kept, State, write_anew
 from tools.suite.pairs import Found
-from tools.suite.programs import command_of
 from tools.suite.running import lint_lines
-from tools.suite.telling import Refusal, table_of_models
+from tools.suite.telling import table_of_models
 
 PATTERN = "examples/patterns/MP.pattern"
 BAD_ROW = f"{PATTERN}: tutorial-early: shown though tso does not allow it: 1 0"
@@ -122,23 +120,12 @@ class Words(SuiteCases):
             ("PIPECHECK with a substitution", "$(touch called)", r"no checker: \$\(touch called\)"),
             ("PIPECHECK with one quote", "'", r"PIPECHECK is no command: No closing quotation: \'"),
             ("PIPECHECK is a blank", " ", r"PIPECHECK is no command: \ "),
+            (r"PIPECHECK \'\' has no words", "''", r"PIPECHECK is no command: \'\'"),
+            ("the words of PIPECHECK a '' $HOME * `b` $(c) ; d", "a '' $HOME * `b` $(c) ; d",
+             r"no checker: a '' \$HOME \* \`b\` \$\(c\) \; d"),
             ("a command that is no checker", "true", "no checker: true"),
         ):
             self.refuses(name, line, SC, PIPECHECK=words)
-
-    def test_commands(self) -> None:
-        place = self.put("a b", "")
-        for value, wanted in (
-            (place, [place]),
-            (f"'{place}' -x", [place, "-x"]),
-            (f"{self.work}/a\\ b", [place]),
-            ("python3 tools/second/main.py", ["python3", "tools/second/main.py"]),
-            ("a '' $HOME * `b` $(c) ; d", ["a", "", "$HOME", "*", "`b`", "$(c)", ";", "d"]),
-        ):
-            self.same(f"the words of PIPECHECK {value.replace(self.work, '..')}", command_of(value), wanted)
-        for value in ("'", " ", "''"):
-            with self.case(f"PIPECHECK {quoted(value)} has no words"):
-                self.assertRaisesRegex(Refusal, "^suite: PIPECHECK is no command: ", command_of, value)
 
 
 class Checkers(SuiteCases):
@@ -599,22 +586,17 @@ class Parts(SuiteCases):
         """What a model names, and why it names nothing."""
         none = "the model names no memory model"
         inside = "a memory model is named inside another comment"
-        twice = "a memory model is named a second time"
         for text, wanted in (
             ("% Memory model: tso\n", "tso"),
             ("% MEMORY MODEL:\tx86-TSO \r\n", "x86-tso"),
             ("%Memory model:tso", "tso"),
             ('StageName 0 "S". % Memory model: tso', "tso"),
-            ("", none),
             ("% Memory model: tso, for now\n", none),
             ("% the memory model: tso\n", none),
             ("// Memory model: tso\n", none),
             ('Axiom "% Memory model: tso": True.', none),
-            ("% Memory model: tso\n% memory model: tso\n", twice),
-            ("(* % Memory model: tso *)", inside),
-            ("(*\n% Memory model: tso\n*)\n% Memory model: sc\n", inside),
-            ("// % Memory model: tso", inside),
             ("%% Memory model: tso", inside),
+            ("(*\n% Memory model: tso\n*)\n% Memory model: sc\n", inside),
             ("% such as % Memory model: tso\n", inside),
             ("% such as `% Memory model: NAME`\n% Memory model: tso\n", "tso"),
         ):
