@@ -2,7 +2,7 @@
 from dataclasses import replace
 from typing import Mapping, NamedTuple
 
-from tools.listings.reading import Beyond, Instruction, Notes, Variable, read_written
+from tools.listings.reading import Beyond, HerdReader, Instruction, Notes, Variable
 from tools.second.cases import GREATEST_CORE, MOST_OPS, Location, Op
 from tools.second.tokens import Fault, Token
 from tools.texts.writing_tests import op_text, printable, value_line, written
@@ -21,7 +21,7 @@ class Program:
     """What the bytes of a listing say, which are judged in their order up to the first fault. A read has no value: it is open."""
 
     def __init__(self, data: bytes, notes: Notes) -> None:
-        self.written = written = read_written(data, notes)
+        self.written = written = HerdReader(data, notes).written()
         self.condition = written.condition
         self.notes = notes
         # by their names, and numbered as they are named first

@@ -159,12 +159,6 @@ class Written:
     condition: Condition
 
 
-def read_written(data: bytes, notes: Notes) -> Written:
-    """The listing that the bytes say, or their first fault. What `check86` does not read is noted."""
-    is_wide, title, start = behind_header(data, notes)
-    return HerdReader(tokens(data, PIECE, start), is_wide, notes).written(title, start)
-
-
 def behind_header(data: bytes, notes: Notes) -> tuple[bool, str, int]:
     """Whether the listing is of X86_64, its name, and the place of the first line that begins with `{`."""
     first = FIRST_LINE.match(data)
@@ -193,11 +187,11 @@ def behind_header(data: bytes, notes: Notes) -> tuple[bool, str, int]:
 
 
 class HerdReader(ListingReader):
-    """Reads what stands after the header."""
+    """Reads the listing that the bytes say, or their first fault. What `check86` does not read is noted."""
 
-    def __init__(self, all_tokens: list[Token], is_wide: bool, notes: Notes) -> None:
-        super().__init__(all_tokens)
-        self.is_wide = is_wide
+    def __init__(self, data: bytes, notes: Notes) -> None:
+        self.is_wide, self.title, self.start = behind_header(data, notes)
+        super().__init__(tokens(data, PIECE, self.start))
         self.notes = notes
 
     @property
@@ -209,7 +203,7 @@ class HerdReader(ListingReader):
         """Whether the token behind the next one is one of these symbols."""
         return self.later.kind == "symbol" and self.later.piece in pieces
 
-    def written(self, title: str, start: int) -> Written:
+    def written(self) -> Written:
         starts = self.within("{", "}", self.start_value)
         head, _ = self.cells(lambda: self.expect_kind("name"))
         rows = []
@@ -221,7 +215,7 @@ class HerdReader(ListingReader):
             self.within("[", "]", self.variable)
         condition = self.condition()
         self.expect_kind("end")
-        return Written(self.is_wide, title, start, tuple(starts), head, tuple(rows), condition)
+        return Written(self.is_wide, self.title, self.start, tuple(starts), head, tuple(rows), condition)
 
     # the first block
 

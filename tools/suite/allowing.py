@@ -1,4 +1,4 @@
-"""What memory models allow: the rows of a table, and the machines of tools/agree. A process of a machine runs one test after another."""
+"""What memory models allow: the rows of a table, and the machines of tools/agree, of which a process runs one test after another."""
 import math
 import os
 import re

@@ -90,9 +90,12 @@ class Suite:
         self.found: dict[Pair, Found] = {}
         # by memory model and test
         self.answers: defaultdict[tuple[str, File], Answer] = defaultdict(Answer)
+        # what is found of them all: the cells by the names of model and test, the lines below their table, and how long it took
+        self.cells: dict[tuple[str, str], str] = {}
+        self.below: list[str] = []
+        self.seconds = 0.0
 
     def run(self, jobs: int, seconds: float) -> None:
-        """Finds the cells, by the names of model and test, the lines below their table, and how long this took."""
         begun = time.monotonic()
         self.check_pairs(jobs)
         self.ask_machines(jobs, seconds)
