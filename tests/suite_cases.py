@@ -13,6 +13,7 @@ import shutil
 import signal
 import subprocess
 import threading
+from collections import Counter
 from typing import Any, Callable, Sequence
 
 from tests.cases import (
@@ -46,16 +47,21 @@ SB    ok
 """
 # what the last line counts, some of it where there is any
 COUNTED, SOMETIMES = ("ok", "BUG", "stricter", "unstated", "not taken", "time", "faults"), ("unstated", "not taken")
+# how it counts these cells; what it does not name otherwise is a fault
+KINDS = {**dict.fromkeys(("observable", "unobservable", "swept"), "unstated"), "BUG (never)": "BUG"}
 LINTING = threading.Lock()
 
 
-def tabled(models: str, rows: str, counts: str, *below: str) -> str:
+def tabled(models: str, rows: str, counts: str = "", *below: str) -> str:
     """The table of these models, with rows of a test and its cells, in which `_` stands for a blank; the lines below it; and the
-    last line, of which all other counts are 0."""
+    last line, of which all other counts are 0. Where nothing is said of them it counts the cells."""
     cells = [[it.replace("_", " ") for it in row.split()] for row in (f"test {models}", *filter(None, rows.split(", ")))]
     widths = [max(map(len, column)) for column in zip(*cells, strict=True)]
     lines = ["  ".join(map(str.ljust, row, widths)).rstrip() for row in cells]
-    found = {word: int(number) for number, word in (it.split(" ", 1) for it in counts.split(", "))}
+    kinds = [KINDS.get(it, it) for row in cells[1:] for it in row[1:]]
+    found = dict(Counter(it if it in COUNTED else "faults" for it in kinds))
+    if counts:
+        found = {word: int(number) for number, word in (it.split(" ", 1) for it in counts.split(", "))}
     said = ", ".join(f"{found.get(it, 0)} {it}" for it in COUNTED if it in found or it not in SOMETIMES)
     return "".join(f"{line}\n" for line in (*lines, *below, f"{sum(found.values())} pairs: {said}, in N s"))
 
@@ -170,6 +176,11 @@ class SuiteCases(Cases):
         """The suite writes this table."""
         if self.is_wanted(name):
             self.writes(name, self.called(*words, **env), status, text)
+
+    def rows(self, name: str, status: int, words: Sequence[str], rows: str, *below: str, counts: str = "", **env: str) -> None:
+        """The suite writes the table of the models that are among these words."""
+        models = " ".join(os.path.basename(it).removesuffix(".uspec") for it in words if it.endswith(".uspec"))
+        self.table(name, status, tabled(models, rows, counts, *below), *words, **env)
 
     def refuses(self, name: str, line: str, *words: str, **env: str) -> None:
         """The suite says this line and prints no table."""

@@ -159,8 +159,8 @@ class Checkers(SuiteCases):
         self.lint_lines = no_lint
         axiom = 'Axiom "a": forall microop "i", forall microop "j", ProgramOrder i j => AddEdge ((i, S), (j, S), "").\n'
         self.put("many.uspec", '% Memory model: tso\nStageName 0 "S".\n' + 3_000 * axiom)
-        self.table("a check under the limit of memory", 2, tabled("many", "two status:7", "1 faults"), "WORK/many.uspec",
-                   "examples/two.test", PIPECHECK_MEMORY="6")
+        self.rows("a check under the limit of memory", 2, ["WORK/many.uspec", "examples/two.test"], "two status:7",
+                  PIPECHECK_MEMORY="6")
         said = "PIPECHECK_MEMORY is 1 MiB, and the program takes more to start"
         self.refuses("a limit of memory that the program cannot start in", said, SC, PIPECHECK_MEMORY="1")
         said = "pipecheck: PIPECHECK_MEMORY is a number of MiB, or none, and not much\n"
@@ -254,10 +254,9 @@ class Machines(SuiteCases):
         ))
         liar = self.script("liar", """\
 case $1 in "") exit 2 ;; check) echo observable; echo test unstated ;; verify) echo verified observable ;; esac""")
-        self.table("a machine that is late", 0,
-                   tabled("sc-inorder", "large observable", "1 unstated",
-                          "not compared with a machine within the limit of time: 1 test, the first WORK/large.test"), SC,
-                   "WORK/large.test", PIPECHECK=liar, SUITE_SECONDS="5")
+        self.rows("a machine that is late", 0, [SC, "WORK/large.test"], "large observable",
+                  "not compared with a machine within the limit of time: 1 test, the first WORK/large.test", PIPECHECK=liar,
+                  SUITE_SECONDS="5")
 
     def test_environment(self) -> None:
         """What the suite starts of Python has nothing of the environment."""
@@ -302,15 +301,12 @@ Microop 0 0 0 1 (Read (VA 0 0) (PA 0 0) (Data Any)).
             ("gives an answer that is none", "its answer is none", "os._exit(0)"),
         ):
             self.machine(f"import os\ndef outcomes(test: object) -> object:\n    return {fails}\n")
-            self.table(f"a machine that {name}", 2,
-                       tabled("tutorial-early", "MP BUG, MP.pattern machine, mine machine", "1 BUG, 2 faults",
-                              f"{PATTERN}: the machine of tso failed: {reason}",
-                              f"WORK/own/mine.test: tutorial-early says observable, and the machine of tso failed: {reason}"),
-                       EARLY, PATTERN, "WORK/own", MP)
+            self.rows(f"a machine that {name}", 2, [EARLY, PATTERN, "WORK/own", MP], "MP BUG, MP.pattern machine, mine machine",
+                      f"{PATTERN}: the machine of tso failed: {reason}",
+                      f"WORK/own/mine.test: tutorial-early says observable, and the machine of tso failed: {reason}")
         shutil.rmtree(f"{self.top}/tools/agree/machines")
-        self.table("a copy without machines", 0,
-                   tabled("tutorial", "mine unobservable", "1 unstated",
-                          "not compared with machines: there are none in WORK/copy/tools/agree/machines"), TUTORIAL, "WORK/own")
+        self.rows("a copy without machines", 0, [TUTORIAL, "WORK/own"], "mine unobservable",
+                  "not compared with machines: there are none in WORK/copy/tools/agree/machines")
 
     def test_several(self) -> None:
         """A machine runs one test after another in one process as long as it does not fail, and the clock has its time."""
@@ -346,8 +342,7 @@ class Folders(SuiteCases):
 
     def test_unwritten(self) -> None:
         self.put("kept/sc-inorder/MP.test.certificate.part/x", "")
-        self.writes("a certificate that cannot be written", self.called(SC), 2,
-                    tabled("sc-inorder", "MP unwritten, SB ok", "1 ok, 1 faults"))
+        self.rows("a certificate that cannot be written", 2, [SC], "MP unwritten, SB ok")
         shutil.rmtree(f"{self.work}/kept")
         os.makedirs(f"{self.work}/kept/cells")
         said = "suite: WORK/kept/cells cannot be written: Is a directory\n"
