@@ -29,7 +29,7 @@ from tools.second.tokens import Fault
 from tools.suite.calling import ENDING, Calls, side_by_side
 from tools.suite.pairs import Checker
 from tools.suite.programs import checker_of
-from tools.suite.telling import Progress, Refusal, tell
+from tools.suite.telling import Refusal, tell
 from tools.telling.files import unreadable
 from tools.texts.contents import Unreadable, contents, read_within
 from tools.texts.quoting import shown
@@ -177,18 +177,13 @@ def ask(answer: Answer, comparisons: Sequence[Comparison], checker: Checker, mod
 
 def run(waiting: Sequence[tuple[Comparison, Sweep]], checker: Checker, model: str) -> None:
     """Runs sweeps side by side, and notes what each shows."""
-    progress = Progress(len(waiting))
 
     def take(place: int, found: Swept) -> None:
         comparison, sweep = waiting[place]
         comparison.take(sweep, found)
-        progress.step()
 
     tasks = [partial(swept, checker, model, comparison.program, sweep) for comparison, sweep in waiting]
-    try:
-        side_by_side(checker.calls, len(os.sched_getaffinity(0)), tasks, take)
-    finally:
-        progress.end()
+    side_by_side(checker.calls, len(os.sched_getaffinity(0)), tasks, take, is_long=True)
 
 
 def main(model: str, *paths: str) -> int:

@@ -14,7 +14,7 @@ from tools.suite.files import Copies, File, digest_of, in_order
 from tools.suite.keeping import Kept
 from tools.suite.pairs import TIME, Checker, Found
 from tools.suite.running import checked
-from tools.suite.telling import Progress, Refusal, aligned
+from tools.suite.telling import Refusal, aligned
 from tools.texts.answers import cut_text
 
 NEEDED = "untested or not needed"
@@ -46,11 +46,7 @@ def answers_of(
         return found
 
     tasks = [partial(found, model, test) for model in models for test in tests]
-    progress = Progress(len(tasks))
-    try:
-        return side_by_side(checker.calls, jobs, tasks, lambda _, __: progress.step())
-    finally:
-        progress.end()
+    return side_by_side(checker.calls, jobs, tasks, is_long=True)
 
 
 def run_axioms(

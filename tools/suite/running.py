@@ -14,7 +14,7 @@ from tools.suite.files import Copies, File, in_order
 from tools.suite.keeping import Kept, State, new_file, write_anew
 from tools.suite.pairs import BUG, FAULT, FORBIDDEN, MACHINE, NOT_TAKEN, OBSERVABLE, OK, PERMITTED, SWEPT, TIME, UNNAMED
 from tools.suite.pairs import UNOBSERVABLE, UNSTATED, UNWRITTEN, Checker, Found, cell_of, cell_of_rows, takes
-from tools.suite.telling import Progress, table_of_models, tell
+from tools.suite.telling import table_of_models, tell
 from tools.suite.words import Words
 from tools.texts.memory_models import memory_model_of
 from tools.texts.quoting import shown
@@ -116,14 +116,12 @@ class Suite:
         if self.found:
             tell(f"suite: {len(self.found)} pairs stand from a suite that was interrupted")
         pairs = [pair for pair in self.pairs if pair not in self.found]
-        progress = Progress(len(pairs))
         written = time.monotonic()
 
         def step(place: int, found: Found) -> None:
             nonlocal written
             self.found[pairs[place]] = found
             self.state.note(*pairs[place], found)
-            progress.step()
             # an end by force says nothing before
             if time.monotonic() - written >= SECONDS_OF_STATE:
                 self.state.write()
@@ -131,13 +129,11 @@ class Suite:
 
         tasks = [partial(checked, self.checker, self.kept, self.copies, *pair, self.state.folder.place(*pair)) for pair in pairs]
         try:
-            side_by_side(self.checker.calls, jobs, tasks, step)
+            side_by_side(self.checker.calls, jobs, tasks, step, is_long=True)
         except BaseException:
-            progress.end()
             if self.state.write():
                 tell(f"suite: {len(self.state.pairs)} pairs are kept, and the next suite goes on from there")
             raise
-        progress.end()
         self.kept.tell_taken()
 
     def ask_machines(self, jobs: int, seconds: float) -> None:

@@ -65,10 +65,10 @@ def close(number: int) -> None:
 class Progress:
     """How many of so many are done, on a terminal that shows what is said."""
 
-    def __init__(self, count: int) -> None:
+    def __init__(self, count: int, is_shown: bool = True) -> None:
         self.count = count
         self.done = 0
-        self.is_shown = sys.stderr is not None and sys.stderr.isatty()
+        self.is_shown = is_shown and sys.stderr is not None and sys.stderr.isatty()
 
     def step(self) -> None:
         self.done += 1
