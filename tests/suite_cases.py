@@ -13,6 +13,7 @@ import shutil
 import signal
 import subprocess
 import threading
+from collections import Counter
 from typing import Any, Callable, Sequence
 
 from tests.cases import (
@@ -22,13 +23,11 @@ from tests.cases import (
 # what a suite imports where it is needed is there before it is forked
 from tools.lint import main as lint
 import tools.suite.axioms
-import tools.suite.main
-import tools.suite.sarif
+import tools.suite.reports
 from tools.explain import files as explaining_files
 from tools.lint import linting
 from tools.second import queries
 from tools.suite import running
-from tools.suite.beside import LINTED
 from tools.suite.files import File
 
 SC = "examples/models/sc-inorder.uspec"
@@ -48,16 +47,21 @@ SB    ok
 """
 # what the last line counts, some of it where there is any
 COUNTED, SOMETIMES = ("ok", "BUG", "stricter", "unstated", "not taken", "time", "faults"), ("unstated", "not taken")
+# how it counts these cells; what it does not name otherwise is a fault
+KINDS = {**dict.fromkeys(("observable", "unobservable", "swept"), "unstated"), "BUG (never)": "BUG"}
 LINTING = threading.Lock()
 
 
-def tabled(models: str, rows: str, counts: str, *below: str) -> str:
+def tabled(models: str, rows: str, counts: str = "", *below: str) -> str:
     """The table of these models, with rows of a test and its cells, in which `_` stands for a blank; the lines below it; and the
-    last line, of which all other counts are 0."""
+    last line, of which all other counts are 0. Where nothing is said of them it counts the cells."""
     cells = [[it.replace("_", " ") for it in row.split()] for row in (f"test {models}", *filter(None, rows.split(", ")))]
     widths = [max(map(len, column)) for column in zip(*cells, strict=True)]
     lines = ["  ".join(map(str.ljust, row, widths)).rstrip() for row in cells]
-    found = {word: int(number) for number, word in (it.split(" ", 1) for it in counts.split(", "))}
+    kinds = [KINDS.get(it, it) for row in cells[1:] for it in row[1:]]
+    found = dict(Counter(it if it in COUNTED else "faults" for it in kinds))
+    if counts:
+        found = {word: int(number) for number, word in (it.split(" ", 1) for it in counts.split(", "))}
     said = ", ".join(f"{found.get(it, 0)} {it}" for it in COUNTED if it in found or it not in SOMETIMES)
     return "".join(f"{line}\n" for line in (*lines, *below, f"{sum(found.values())} pairs: {said}, in N s"))
 
@@ -66,7 +70,7 @@ def lint_here(_: str, tests: Sequence[File], __: object, ___: float, model: File
     """What lint says of a model and the tests, by its entry in this process."""
     with LINTING, contextlib.redirect_stdout(io.StringIO()) as out, contextlib.redirect_stderr(io.StringIO()):
         status = lint.main(model.path, *(it.path for it in tests))
-    if status not in LINTED:
+    if status not in running.LINTED:
         raise AssertionError(f"lint ended with {status}")
     return out.getvalue().split("\n")[:-1]
 
@@ -172,6 +176,11 @@ class SuiteCases(Cases):
         """The suite writes this table."""
         if self.is_wanted(name):
             self.writes(name, self.called(*words, **env), status, text)
+
+    def rows(self, name: str, status: int, words: Sequence[str], rows: str, *below: str, counts: str = "", **env: str) -> None:
+        """The suite writes the table of the models that are among these words."""
+        models = " ".join(os.path.basename(it).removesuffix(".uspec") for it in words if it.endswith(".uspec"))
+        self.table(name, status, tabled(models, rows, counts, *below), *words, **env)
 
     def refuses(self, name: str, line: str, *words: str, **env: str) -> None:
         """The suite says this line and prints no table."""

@@ -56,6 +56,8 @@ WORDS = {
     "model": "the model shows what herd forbids",
     "herd": "herd allows what the model forbids",
 }
+# how the last line counts these
+COUNTED = (("both",), ("BUG", "herd"), ("unseen", "model"))
 
 
 def lines(names: str, states: str, condition: str) -> str:
@@ -70,6 +72,16 @@ def lines(names: str, states: str, condition: str) -> str:
         found += f"{title}: {shown}  {WORDS[word]}{count}\n"
     form, model, log = condition.split()
     return f"{found}{title}: {form}: {model} in the model, {log} in the log\n"
+
+
+def machine(head: str, states: str, said: str, observed: str) -> str:
+    """A log of one test, as short as litmus7 writes it."""
+    return f"Test {head}\nHistogram ({states.count('>')} states)\n{states}{said}\n\nWitnesses\nObservation {observed}\n"
+
+
+def herd(head: str, states: str, said: str, observed: str) -> str:
+    """A log of one test, as short as herd7 writes it."""
+    return f"Test {head}\nStates {len(states.splitlines())}\n{states}{said}\nWitnesses\nObservation {observed}\n\n"
 
 
 SB_MACHINE = """Test SB Allowed
@@ -90,25 +102,8 @@ Observation SB Sometimes 34 106
 Time SB 0.44
 
 """
-SB_BOTH = """SB: 0:EAX=0; 1:EAX=0;  shown by both, 34 times
-SB: 0:EAX=0; 1:EAX=1;  shown by both, 52 times
-SB: 0:EAX=1; 1:EAX=0;  shown by both, 49 times
-SB: 0:EAX=1; 1:EAX=1;  shown by both, 5 times
-SB: exists: Ok in the model, Ok in the log
-"""
-R_MACHINE = """Test R Allowed
-Histogram (3 states)
-1     :>1:EAX=0; [y]=1;
-8     *>1:EAX=0; [y]=2;
-3     :>1:EAX=1; [y]=1;
-Ok
-Witnesses
-Positive: 8, Negative: 4
-Condition exists ([y]=2 /\\ 1:EAX=0) is validated
-Hash=8a9c0f9f3b1d6c4b6f6a6d3c0e6f7a11
-Observation R Sometimes 8 4
-Time R 0.10
-"""
+SB_BOTH = lines("SB: 0:EAX 1:EAX", "0 0 both 34, 0 1 both 52, 1 0 both 49, 1 1 both 5", "exists Ok Ok")
+R_MACHINE = machine("R Allowed", "1 :>1:EAX=0; [y]=1;\n8 *>1:EAX=0; [y]=2;\n3 :>1:EAX=1; [y]=1;\n", "Ok", "R Sometimes 8 4")
 R_BOTH = lines("R: 1:EAX [y]", "0 1 both 1, 0 2 both 8, 1 1 both 3, 1 2 unseen", "exists Ok Ok")
 FRAME = """%%%%%%%%%%%%%%%%%%%%%%%%%
 % Results for SB.litmus %
@@ -151,20 +146,7 @@ Hash=7dbd6b8e6dd4abc2ef3d48b0376fb2e3
 
 """
 SB_LISTED = lines("SB: 0:EAX 1:EAX", "0 0 both, 0 1 both, 1 0 both, 1 1 both", "exists Ok Ok")
-R_HERD = """Test R Allowed
-States 3
-1:EAX=0; y=1;
-1:EAX=0; y=2;
-1:EAX=1; y=1;
-Ok
-Witnesses
-Positive: 1 Negative: 2
-Condition exists (y=2 /\\ 1:EAX=0)
-Observation R Sometimes 1 2
-Time R 0.01
-Hash=8a9c0f9f3b1d6c4b6f6a6d3c0e6f7a11
-
-"""
+R_HERD = herd("R Allowed", "1:EAX=0; y=1;\n1:EAX=0; y=2;\n1:EAX=1; y=1;\n", "Ok", "R Sometimes 1 2")
 R_LISTED = lines("R: 1:EAX y", "0 1 both, 0 2 both, 1 1 both, 1 2 model", "exists Ok Ok")
 
 
@@ -177,14 +159,19 @@ class Case:
     status: int
     lines: str
     told: str = ""
-    tests: tuple[str, ...] = ("SB",)
+    # those that are compared, where nothing else is said
+    tests: tuple[str, ...] = ()
     model: str = BUFFERS
+    # how many tests the log has, where not all are compared
+    of: int | None = None
 
 
-def counted(both: int, log_alone: int = 0, model_alone: int = 0, tests: int = 1, of: int = 1) -> str:
-    """The last line."""
+def counted(said: str = "", of: int | None = None) -> str:
+    """What is said of tests, and the last line, which counts it, of so many tests of the log."""
+    both, log_alone, model_alone = (sum(said.count(f";  {WORDS[it]}") for it in words) for words in COUNTED)
+    tests = said.count(" in the log\n")
     states = f"{both} states shown by both, {log_alone} in the log alone, {model_alone} in the model alone"
-    return f"{tests} of {of} tests compared: {states}\n"
+    return f"{said}{tests} of {tests if of is None else of} tests compared: {states}\n"
 
 
 def cut(there: str) -> str:
@@ -192,7 +179,6 @@ def cut(there: str) -> str:
     return f"log:1: the log is cut off: of SB 4 states are announced, and {there} there\n"
 
 
-NOTHING = counted(0, tests=0, of=0)
 UNUSED = "compare: 1 listing is of no test of the log, the first SB.litmus\n"
 NO_TEST = "log:1: the log has no test\n"
 NO_STATES = "log:1: the log is cut off: SB has no states\n"
@@ -211,94 +197,77 @@ def changed(text: str, old: str, new: str) -> str:
     return text.replace(old, new)
 
 
-def machine(head: str, states: str, said: str, observed: str) -> str:
-    """A log of one test, as short as litmus7 writes it."""
-    return f"Test {head}\nHistogram ({states.count('>')} states)\n{states}{said}\n\nWitnesses\nObservation {observed}\n"
-
-
-def herd(head: str, states: str, said: str, observed: str) -> str:
-    """A log of one test, as short as herd7 writes it."""
-    return f"Test {head}\nStates {len(states.splitlines())}\n{states}{said}\nWitnesses\nObservation {observed}\n\n"
-
-
 MACHINES = [
-    Case("a machine with store buffers", SB_MACHINE, 0, SB_BOTH + counted(4)),
+    Case("a machine with store buffers", SB_MACHINE, 0, SB_BOTH),
     Case("a machine that does what the model forbids", SB_MACHINE, 1,
-         lines("SB: 0:EAX 1:EAX", "0 0 BUG 34, 0 1 both 52, 1 0 both 49, 1 1 both 5", "exists No Ok") + counted(3, 1),
-         model=IN_ORDER),
+         lines("SB: 0:EAX 1:EAX", "0 0 BUG 34, 0 1 both 52, 1 0 both 49, 1 1 both 5", "exists No Ok"), model=IN_ORDER),
     Case("a state that did not come",
          machine("SB Allowed", "9 :>0:EAX=1; 1:EAX=0;\n1 :>0:EAX=0; 1:EAX=1;\n", "No", "SB Never 0 10"), 0,
-         lines("SB: 0:EAX 1:EAX", "1 0 both 9, 0 1 both 1, 0 0 unseen, 1 1 unseen", "exists Ok No") + counted(2, 0, 2)),
-    Case("the listing, its assembler and what ran it", FRAME + SB_MACHINE + TRAILER, 0, SB_BOTH + counted(4)),
-    Case("values of locations", R_MACHINE, 0, R_BOTH + counted(3, 0, 1), tests=("R",)),
+         lines("SB: 0:EAX 1:EAX", "1 0 both 9, 0 1 both 1, 0 0 unseen, 1 1 unseen", "exists Ok No")),
+    Case("the listing, its assembler and what ran it", FRAME + SB_MACHINE + TRAILER, 0, SB_BOTH),
+    Case("values of locations", R_MACHINE, 0, R_BOTH),
     Case("values of locations that the model forbids", R_MACHINE, 1,
-         lines("R: 1:EAX [y]", "0 1 both 1, 0 2 BUG 8, 1 1 both 3, 1 2 unseen", "exists No Ok") + counted(2, 1, 1),
-         tests=("R",), model=IN_ORDER),
-    Case("two tests", SB_MACHINE + R_MACHINE, 0, SB_BOTH + R_BOTH + counted(7, 0, 1, 2, 2), tests=("SB", "R")),
-    Case("lines that end with CR and LF", SB_MACHINE.replace("\n", "\r\n"), 0, SB_BOTH + counted(4)),
+         lines("R: 1:EAX [y]", "0 1 both 1, 0 2 BUG 8, 1 1 both 3, 1 2 unseen", "exists No Ok"), model=IN_ORDER),
+    Case("two tests", SB_MACHINE + R_MACHINE, 0, SB_BOTH + R_BOTH),
+    Case("lines that end with CR and LF", SB_MACHINE.replace("\n", "\r\n"), 0, SB_BOTH),
     Case("numbers with 0x",
          machine("SB Allowed", "2 *>0:EAX=0x0; 1:EAX=0x0;\n3 :>0:EAX=0x1; 1:EAX=0x1;\n", "Ok", "SB Sometimes 2 3"), 0,
-         lines("SB: 0:EAX 1:EAX", "0 0 both 2, 1 1 both 3, 0 1 unseen, 1 0 unseen", "exists Ok Ok") + counted(2, 0, 2)),
+         lines("SB: 0:EAX 1:EAX", "0 0 both 2, 1 1 both 3, 0 1 unseen, 1 0 unseen", "exists Ok Ok")),
     Case("a value that nothing writes", machine("SB Allowed", "1 :>0:EAX=7; 1:EAX=1;\n", "No", "SB Never 0 1"), 1,
-         lines("SB: 0:EAX 1:EAX", "7 1 BUG 1, 0 0 unseen, 0 1 unseen, 1 0 unseen, 1 1 unseen", "exists Ok No") + counted(0, 1, 4)),
+         lines("SB: 0:EAX 1:EAX", "7 1 BUG 1, 0 0 unseen, 0 1 unseen, 1 0 unseen, 1 1 unseen", "exists Ok No")),
     Case("~exists", machine("none Forbidden", "6 :>1:EAX=0;\n4 :>1:EAX=1;\n", "Ok", "none Never 0 10"), 0,
-         lines("none: 1:EAX", "0 both 6, 1 both 4", "~exists Ok Ok") + counted(2), tests=("none",)),
+         lines("none: 1:EAX", "0 both 6, 1 both 4", "~exists Ok Ok")),
     Case("forall, and sides of a condition", machine("all Required", "6 *>1:EAX=0;\n4 *>1:EAX=1;\n", "Ok", "all Always 10 0"), 0,
-         lines("all: 1:EAX", "0 both 6, 1 both 4", "forall Ok Ok") + counted(2), tests=("all",)),
+         lines("all: 1:EAX", "0 both 6, 1 both 4", "forall Ok Ok")),
     Case("registers of X86_64",
          machine("wide Allowed", "2 *>0:rax=0; 1:rax=0;\n3 :>0:rax=0; 1:rax=1;\n", "Ok", "wide Sometimes 2 3"), 0,
-         lines("wide: 0:rax 1:rax", "0 0 both 2, 0 1 both 3, 1 0 unseen, 1 1 unseen", "exists Ok Ok") + counted(2, 0, 2),
-         tests=("wide",)),
+         lines("wide: 0:rax 1:rax", "0 0 both 2, 0 1 both 3, 1 0 unseen, 1 1 unseen", "exists Ok Ok")),
     Case("locked instructions, whose registers are not all in the states",
          machine("locked Allowed", "2 *>0:EBX=0; 1:EBX=0;\n", "Ok", "locked Always 2 0"), 1,
-         lines("locked: 0:EBX 1:EBX", "0 0 BUG 2, 0 1 unseen, 1 0 unseen, 1 1 unseen", "exists No Ok") + counted(0, 1, 3),
-         tests=("locked",)),
+         lines("locked: 0:EBX 1:EBX", "0 0 BUG 2, 0 1 unseen, 1 0 unseen, 1 1 unseen", "exists No Ok")),
     Case("locked instructions on a model that asks for none",
-         machine("locked Allowed", "2 *>0:EBX=0; 1:EBX=0;\n", "Ok", "locked Always 2 0"), 3, counted(0, tests=0),
+         machine("locked Allowed", "2 *>0:EBX=0; 1:EBX=0;\n", "Ok", "locked Always 2 0"), 3, "",
          "log:1: not compared: locked has locked instructions, and the model asks for no type Locked\n", tests=("locked",),
-         model=IN_ORDER),
+         model=IN_ORDER, of=1),
     Case("a test that comes twice", SB_MACHINE + SB_MACHINE, 0,
-         lines("SB: 0:EAX 1:EAX", "0 0 both 68, 0 1 both 104, 1 0 both 98, 1 1 both 10", "exists Ok Ok") + counted(4),
+         lines("SB: 0:EAX 1:EAX", "0 0 both 68, 0 1 both 104, 1 0 both 98, 1 1 both 10", "exists Ok Ok"),
          "log:18: SB comes again: its states are taken together with those of line 1\n"),
-    Case("a test that comes twice, with other variables", SB_MACHINE + SB_MACHINE.replace("0:EAX=", "[x]="), 3,
-         SB_BOTH + counted(4), "log:18: SB has other variables than at line 1, and is left out here\n"),
+    Case("a test that comes twice, with other variables", SB_MACHINE + SB_MACHINE.replace("0:EAX=", "[x]="), 3, SB_BOTH,
+         "log:18: SB has other variables than at line 1, and is left out here\n"),
     Case("a state that stands twice",
          machine("SB Allowed", "2 *>0:EAX=0; 1:EAX=0;\n1 *>0:EAX=0; 1:EAX=0;\n", "Ok", "SB Always 3 0"), 3,
-         lines("SB: 0:EAX 1:EAX", "0 0 both 3, 0 1 unseen, 1 0 unseen, 1 1 unseen", "exists Ok Ok") + counted(1, 0, 3),
+         lines("SB: 0:EAX 1:EAX", "0 0 both 3, 0 1 unseen, 1 0 unseen, 1 1 unseen", "exists Ok Ok"),
          "log:4: the state stands here a second time\n"),
-    Case("an empty log", "", 3, NOTHING, NO_TEST + UNUSED),
-    Case("blank lines", "\n \n\n", 3, NOTHING, NO_TEST + UNUSED),
-    Case("a frame without a test", FRAME, 3, NOTHING, NO_TEST + UNUSED),
-    Case("cut off behind the first line", "Test SB Allowed\n", 3, NOTHING, NO_STATES + UNUSED),
+    Case("an empty log", "", 3, "", NO_TEST + UNUSED),
+    Case("blank lines", "\n \n\n", 3, "", NO_TEST + UNUSED),
+    Case("a frame without a test", FRAME, 3, "", NO_TEST + UNUSED),
+    Case("cut off behind the first line", "Test SB Allowed\n", 3, "", NO_STATES + UNUSED),
     Case("cut off between states", up_to(SB_MACHINE, "49 "), 3,
-         lines("SB: 0:EAX 1:EAX", "0 0 both 34, 0 1 both 52, 1 0 unseen, 1 1 unseen", "exists Ok Ok") + counted(2, 0, 2),
-         cut("2 are")),
+         lines("SB: 0:EAX 1:EAX", "0 0 both 34, 0 1 both 52, 1 0 unseen, 1 1 unseen", "exists Ok Ok"), cut("2 are")),
     Case("cut off in a state", up_to(SB_MACHINE, "; 1:EAX=1;\n49"), 3,
-         lines("SB: 0:EAX 1:EAX", "0 0 both 34, 0 1 unseen, 1 0 unseen, 1 1 unseen", "exists Ok Ok") + counted(1, 0, 3),
+         lines("SB: 0:EAX 1:EAX", "0 0 both 34, 0 1 unseen, 1 0 unseen, 1 1 unseen", "exists Ok Ok"),
          "log:4: no line of a log: 52    :>0:EAX=0\n" + cut("1 is")),
-    Case("cut off behind the states", up_to(SB_MACHINE, "Witnesses"), 3, SB_BOTH + counted(4), NO_OBSERVATION),
-    Case("cut off in the counts", up_to(SB_MACHINE, "06\nTime"), 3, SB_BOTH + counted(4),
+    Case("cut off behind the states", up_to(SB_MACHINE, "Witnesses"), 3, SB_BOTH, NO_OBSERVATION),
+    Case("cut off in the counts", up_to(SB_MACHINE, "06\nTime"), 3, SB_BOTH,
          "log:15: 35 runs are counted here, and 140 in the states\n"),
     Case("cut off, and the model forbids what is left", up_to(SB_MACHINE, "52 "), 1,
-         lines("SB: 0:EAX 1:EAX", "0 0 BUG 34, 0 1 unseen, 1 0 unseen, 1 1 unseen", "exists No Ok") + counted(0, 1, 3),
-         cut("1 is"), model=IN_ORDER),
-    Case("cut off between two tests", up_to(SB_MACHINE, "Ok") + R_MACHINE, 3, SB_BOTH + R_BOTH + counted(7, 0, 1, 2, 2),
-         NO_OBSERVATION, tests=("SB", "R")),
-    Case("one state more than is announced", changed(SB_MACHINE, "(4 states)", "(3 states)"), 3, SB_BOTH + counted(4),
+         lines("SB: 0:EAX 1:EAX", "0 0 BUG 34, 0 1 unseen, 1 0 unseen, 1 1 unseen", "exists No Ok"), cut("1 is"), model=IN_ORDER),
+    Case("cut off between two tests", up_to(SB_MACHINE, "Ok") + R_MACHINE, 3, SB_BOTH + R_BOTH, NO_OBSERVATION),
+    Case("one state more than is announced", changed(SB_MACHINE, "(4 states)", "(3 states)"), 3, SB_BOTH,
          "log:6: 3 states are announced, and here is one more\n"),
-    Case("a line that no log has", changed(SB_MACHINE, "Ok\n", "Segmentation fault\nOk\n"), 3, SB_BOTH + counted(4),
+    Case("a line that no log has", changed(SB_MACHINE, "Ok\n", "Segmentation fault\nOk\n"), 3, SB_BOTH,
          "log:7: no line of a log: Segmentation fault\n"),
-    Case("a line that no log has, behind a test", SB_MACHINE + "make: *** [run] Error 1\n", 3, SB_BOTH + counted(4),
+    Case("a line that no log has, behind a test", SB_MACHINE + "make: *** [run] Error 1\n", 3, SB_BOTH,
          "log:18: no line of a log: make: *** [run] Error 1\n"),
     Case("a value that is longer than any of a log", changed(SB_MACHINE, "5     :>0:EAX=1;", f"5     :>0:EAX={'9' * 5000};"), 3,
-         lines("SB: 0:EAX 1:EAX", "0 0 both 34, 0 1 both 52, 1 0 both 49, 1 1 unseen", "exists Ok Ok") + counted(3, 0, 1),
+         lines("SB: 0:EAX 1:EAX", "0 0 both 34, 0 1 both 52, 1 0 both 49, 1 1 unseen", "exists Ok Ok"),
          f"log:6: no line of a log: 5     :>0:EAX={'9' * 46}\n" + cut("3 are")),
     Case("a count that is longer than any of a log", changed(SB_MACHINE, "Sometimes 34 106", f"Sometimes 34 {'9' * 5000}"), 3,
-         SB_BOTH + counted(4), f"log:15: no line of a log: Observation SB Sometimes 34 {'9' * 32}\n{NO_OBSERVATION}"),
+         SB_BOTH, f"log:15: no line of a log: Observation SB Sometimes 34 {'9' * 32}\n{NO_OBSERVATION}"),
     Case("a count that is lost", changed(SB_MACHINE, "5     :>", ""), 3,
-         lines("SB: 0:EAX 1:EAX", "0 0 both 34, 0 1 both 52, 1 0 both 49, 1 1 unseen", "exists Ok Ok") + counted(3, 0, 1),
+         lines("SB: 0:EAX 1:EAX", "0 0 both 34, 0 1 both 52, 1 0 both 49, 1 1 unseen", "exists Ok Ok"),
          "log:6: no line of a log: 0:EAX=1; 1:EAX=1;\n" + cut("3 are")),
-    Case("the first line of a test is lost", FRAME + changed(SB_MACHINE, "Test SB Allowed\n", ""), 3, NOTHING,
+    Case("the first line of a test is lost", FRAME + changed(SB_MACHINE, "Test SB Allowed\n", ""), 3, "",
          """log:18: no line of a log: Histogram (4 states)
 log:19: no line of a log: 34    *>0:EAX=0; 1:EAX=0;
 log:20: no line of a log: 52    :>0:EAX=0; 1:EAX=1;
@@ -306,105 +275,81 @@ log:21: no line of a log: 49    :>0:EAX=1; 1:EAX=0;
 log:22: no line of a log: 5     :>0:EAX=1; 1:EAX=1;
 log:31: no line of a log: Observation SB Sometimes 34 106
 """ + UNUSED),
-    Case("another test is observed", changed(SB_MACHINE, "Observation SB", "Observation MP"), 3, SB_BOTH + counted(4),
+    Case("another test is observed", changed(SB_MACHINE, "Observation SB", "Observation MP"), 3, SB_BOTH,
          "log:15: this is of MP, and the test is SB\n"),
-    Case("a test without a listing", SB_MACHINE + R_MACHINE, 3, SB_BOTH + counted(4, of=2),
-         "log:18: not compared: no listing that is read has the name R\n"),
+    Case("a test without a listing", SB_MACHINE + R_MACHINE, 3, SB_BOTH,
+         "log:18: not compared: no listing that is read has the name R\n", of=2),
     Case("a location that the listing has not",
-         SB_MACHINE.replace("1:EAX=0;", "1:EAX=0; z=0;").replace("1:EAX=1;", "1:EAX=1; z=0;"), 3, counted(0, tests=0),
-         "compare: not compared: SB: the listing has no location z\n"),
+         SB_MACHINE.replace("1:EAX=0;", "1:EAX=0; z=0;").replace("1:EAX=1;", "1:EAX=1; z=0;"), 3, "",
+         "compare: not compared: SB: the listing has no location z\n", of=1),
     Case("no run", "Test SB Allowed\nHistogram (0 states)\nNo\nWitnesses\nObservation SB Never 0 0\n", 0,
-         lines("SB: 0:EAX 1:EAX", "0 0 unseen, 0 1 unseen, 1 0 unseen, 1 1 unseen", "exists Ok No") + counted(0, 0, 4)),
-    Case("a listing of another condition", changed(SB_MACHINE, "Ok\n", "No\n"), 3, counted(0, tests=0),
-         "log:1: not compared: the condition of the listing SB is not met as the log says: is it another listing?\n"),
-    Case("what is no log", "".join(f"line {number}\n" for number in range(100)), 3, NOTHING,
+         lines("SB: 0:EAX 1:EAX", "0 0 unseen, 0 1 unseen, 1 0 unseen, 1 1 unseen", "exists Ok No")),
+    Case("a listing of another condition", changed(SB_MACHINE, "Ok\n", "No\n"), 3, "",
+         "log:1: not compared: the condition of the listing SB is not met as the log says: is it another listing?\n", of=1),
+    Case("what is no log", "".join(f"line {number}\n" for number in range(100)), 3, "",
          "".join(f"log:{number + 1}: no line of a log: line {number}\n" for number in range(20)) + UNUSED
          + "compare: faults of the log: 80 more\n"),
 ]
 
 HERD = [
-    Case("a model with store buffers", SB_HERD, 0, SB_LISTED + counted(4)),
+    Case("a model with store buffers", SB_HERD, 0, SB_LISTED),
     Case("a state that the model forbids", SB_HERD, 1,
-         lines("SB: 0:EAX 1:EAX", "0 0 herd, 0 1 both, 1 0 both, 1 1 both", "exists No Ok") + counted(3, 1), model=IN_ORDER),
+         lines("SB: 0:EAX 1:EAX", "0 0 herd, 0 1 both, 1 0 both, 1 1 both", "exists No Ok"), model=IN_ORDER),
     Case("a state that herd forbids",
          herd("SB Allowed", "0:EAX=0; 1:EAX=1;\n0:EAX=1; 1:EAX=0;\n0:EAX=1; 1:EAX=1;\n", "No", "SB Never 0 3"), 0,
-         lines("SB: 0:EAX 1:EAX", "0 1 both, 1 0 both, 1 1 both, 0 0 model", "exists Ok No") + counted(3, 0, 1)),
-    Case("values of locations", R_HERD, 0, R_LISTED + counted(3, 0, 1), tests=("R",)),
+         lines("SB: 0:EAX 1:EAX", "0 1 both, 1 0 both, 1 1 both, 0 0 model", "exists Ok No")),
+    Case("values of locations", R_HERD, 0, R_LISTED),
     Case("locations alone", "Test R Allowed\nStates 2\n[x]=1; y=1;\n[x]=1; y=2;\nOk\nWitnesses\nObservation R Sometimes 1 3\n", 3,
-         counted(0, tests=0),
-         "log:1: not compared: the condition of the listing R is not met as the log says: is it another listing?\n", tests=("R",)),
+         "", "log:1: not compared: the condition of the listing R is not met as the log says: is it another listing?\n",
+         tests=("R",), of=1),
     Case("a location that the condition does not name",
          herd("R Allowed", "1:EAX=0; x=1; y=2;\n1:EAX=1; x=1; y=1;\n1:EAX=1; x=0; y=2;\n", "Ok", "R Sometimes 1 2"), 1,
-         lines("R: 1:EAX x y", "0 1 2 both, 1 1 1 both, 1 0 2 herd, 0 1 1 model, 1 1 2 model", "exists Ok Ok") + counted(2, 1, 2),
-         tests=("R",)),
-    Case("two tests", SB_HERD + R_HERD, 0, SB_LISTED + R_LISTED + counted(7, 0, 1, 2, 2), tests=("SB", "R")),
-    Case("lines that end with CR and LF", SB_HERD.replace("\n", "\r\n"), 0, SB_LISTED + counted(4)),
-    Case("~exists", herd("none Forbidden", "1:EAX=0;\n1:EAX=1;\n", "Ok", "none Never 0 2"), 0,
-         lines("none: 1:EAX", "0 both, 1 both", "~exists Ok Ok") + counted(2), tests=("none",)),
+         lines("R: 1:EAX x y", "0 1 2 both, 1 1 1 both, 1 0 2 herd, 0 1 1 model, 1 1 2 model", "exists Ok Ok")),
     Case("forall, which the model does not meet", herd("all-new Required", "1:EAX=1;\n", "Ok", "all-new Always 1 0"), 0,
-         lines("all-new: 1:EAX", "1 both, 0 model", "forall No Ok") + counted(1, 0, 1), tests=("all-new",)),
-    Case("registers of X86_64",
-         SB_HERD.replace("Test SB", "Test wide").replace("Observation SB", "Observation wide").replace("EAX", "rax"), 0,
-         lines("wide: 0:rax 1:rax", "0 0 both, 0 1 both, 1 0 both, 1 1 both", "exists Ok Ok") + counted(4), tests=("wide",)),
+         lines("all-new: 1:EAX", "1 both, 0 model", "forall No Ok")),
     Case("locked instructions",
          herd("locked Allowed", "0:EBX=0; 1:EBX=1;\n0:EBX=1; 1:EBX=0;\n0:EBX=1; 1:EBX=1;\n", "No", "locked Never 0 3"), 0,
-         lines("locked: 0:EBX 1:EBX", "0 1 both, 1 0 both, 1 1 both", "exists No No") + counted(3), tests=("locked",)),
+         lines("locked: 0:EBX 1:EBX", "0 1 both, 1 0 both, 1 1 both", "exists No No")),
     Case("what the exchanges get",
          herd("locked Allowed", "0:EAX=0; 0:EBX=0; 1:EAX=0; 1:EBX=1;\n0:EAX=1; 0:EBX=1; 1:EAX=0; 1:EBX=1;\n", "No",
               "locked Never 0 2"), 1,
-         lines("locked: 0:EAX 0:EBX 1:EAX 1:EBX", "0 0 0 1 both, 1 1 0 1 herd, 0 1 0 0 model, 0 1 0 1 model", "exists No No")
-         + counted(1, 1, 2), tests=("locked",)),
+         lines("locked: 0:EAX 0:EBX 1:EAX 1:EBX", "0 0 0 1 both, 1 1 0 1 herd, 0 1 0 0 model, 0 1 0 1 model", "exists No No")),
     Case("a register that is loaded twice", herd("again Allowed", "1:EAX=0;\n1:EAX=1;\n", "Ok", "again Sometimes 1 2"), 0,
-         lines("again: 1:EAX", "0 both, 1 both", "exists Ok Ok") + counted(2), tests=("again",)),
+         lines("again: 1:EAX", "0 both, 1 both", "exists Ok Ok")),
     Case("a register that nothing loads",
          herd("none Forbidden", "0:EBX=0; 1:EAX=0;\n0:EBX=1; 1:EAX=1;\n", "Ok", "none Never 0 2"), 1,
-         lines("none: 0:EBX 1:EAX", "0 0 both, 1 1 herd, 0 1 model", "~exists Ok Ok") + counted(1, 1, 1), tests=("none",)),
-    Case("a test that comes twice", SB_HERD + SB_HERD, 0, SB_LISTED + counted(4),
-         "log:15: SB comes again: its states are taken together with those of line 1\n"),
-    Case("a test of both forms", SB_MACHINE + SB_HERD, 0, SB_BOTH + SB_LISTED + counted(8, tests=2, of=2)),
-    Case("a state that stands twice", changed(SB_HERD, "0:EAX=0; 1:EAX=1;\n", "0:EAX=0; 1:EAX=0;\n"), 3,
-         lines("SB: 0:EAX 1:EAX", "0 0 both, 1 0 both, 1 1 both, 0 1 model", "exists Ok Ok") + counted(3, 0, 1),
-         "log:4: the state stands here a second time\n"),
-    Case("a name with a control character", "Test SB\x1b Allowed\n", 3, NOTHING,
+         lines("none: 0:EBX 1:EAX", "0 0 both, 1 1 herd, 0 1 model", "~exists Ok Ok")),
+    Case("a test of both forms", SB_MACHINE + SB_HERD, 0, SB_BOTH + SB_LISTED),
+    Case("a name with a control character", "Test SB\x1b Allowed\n", 3, "",
          "log:1: no line of a log: $'Test SB\\u001b Allowed'\n" + UNUSED),
-    Case("NUL bytes", "a" + "\0" * 10, 3, NOTHING, "log:1: no line of a log: $'a" + "\\u0000" * 10 + "'\n" + UNUSED),
-    Case("cut off behind the first line", "Test SB Allowed", 3, NOTHING, NO_STATES + UNUSED),
+    Case("NUL bytes", "a" + "\0" * 10, 3, "", "log:1: no line of a log: $'a" + "\\u0000" * 10 + "'\n" + UNUSED),
     Case("cut off behind the number of states", up_to(SB_HERD, "0:EAX"), 3,
-         lines("SB: 0:EAX 1:EAX", "0 0 model, 0 1 model, 1 0 model, 1 1 model", "exists Ok No") + counted(0, 0, 4),
-         cut("0 are")),
+         lines("SB: 0:EAX 1:EAX", "0 0 model, 0 1 model, 1 0 model, 1 1 model", "exists Ok No"), cut("0 are")),
     Case("cut off in a state", up_to(SB_HERD, "1:EAX=1;\n0:EAX=1"), 3,
-         lines("SB: 0:EAX 1:EAX", "0 0 both, 0 1 model, 1 0 model, 1 1 model", "exists Ok Ok") + counted(1, 0, 3),
+         lines("SB: 0:EAX 1:EAX", "0 0 both, 0 1 model, 1 0 model, 1 1 model", "exists Ok Ok"),
          "log:4: the state has other variables than the first one\n" + cut("2 are")),
-    Case("cut off behind the states", up_to(SB_HERD, "Condition"), 3, SB_LISTED + counted(4), NO_OBSERVATION),
-    Case("cut off in the last line that counts", up_to(SB_HERD, "times 1"), 3, SB_LISTED + counted(4),
+    Case("cut off in the last line that counts", up_to(SB_HERD, "times 1"), 3, SB_LISTED,
          "log:11: no line of a log: Observation SB Some\n" + NO_OBSERVATION),
-    Case("cut off behind what counts", up_to(SB_HERD, "Hash"), 0, SB_LISTED + counted(4)),
+    Case("cut off behind what counts", up_to(SB_HERD, "Hash"), 0, SB_LISTED),
     Case("cut off between two tests", up_to(SB_HERD, "0:EAX=1; 1:EAX=0;") + R_HERD, 3,
-         lines("SB: 0:EAX 1:EAX", "0 0 both, 0 1 both, 1 0 model, 1 1 model", "exists Ok Ok") + R_LISTED + counted(5, 0, 3, 2, 2),
-         cut("2 are"), tests=("SB", "R")),
-    Case("one state more than is announced", changed(SB_HERD, "States 4", "States 3"), 3, SB_LISTED + counted(4),
-         "log:6: 3 states are announced, and here is one more\n"),
+         lines("SB: 0:EAX 1:EAX", "0 0 both, 0 1 both, 1 0 model, 1 1 model", "exists Ok Ok") + R_LISTED, cut("2 are")),
     Case("a line that no log has", changed(SB_HERD, "0:EAX=1; 1:EAX=0;\n", "0:EAX=1; 1:EAX\n"), 3,
-         lines("SB: 0:EAX 1:EAX", "0 0 both, 0 1 both, 1 1 both, 1 0 model", "exists Ok Ok") + counted(3, 0, 1),
+         lines("SB: 0:EAX 1:EAX", "0 0 both, 0 1 both, 1 1 both, 1 0 model", "exists Ok Ok"),
          "log:5: no line of a log: 0:EAX=1; 1:EAX\n" + cut("3 are")),
     Case("a count in a list", changed(SB_HERD, "0:EAX=1; 1:EAX=1;", "3 :>0:EAX=1; 1:EAX=1;"), 3,
-         lines("SB: 0:EAX 1:EAX", "0 0 both, 0 1 both, 1 0 both, 1 1 model", "exists Ok Ok") + counted(3, 0, 1),
+         lines("SB: 0:EAX 1:EAX", "0 0 both, 0 1 both, 1 0 both, 1 1 model", "exists Ok Ok"),
          "log:6: no line of a log: 3 :>0:EAX=1; 1:EAX=1;\n" + cut("3 are")),
-    Case("two numbers of states", changed(SB_HERD, "States 4\n", "States 4\nStates 4\n"), 3, SB_LISTED + counted(4),
+    Case("two numbers of states", changed(SB_HERD, "States 4\n", "States 4\nStates 4\n"), 3, SB_LISTED,
          "log:3: no line of a log: States 4\n"),
     Case("two numbers of states, and one state more",
-         changed(changed(SB_HERD, "States 4", "States 3"), "0:EAX=1; 1:EAX=1;", "States 3\n0:EAX=1; 1:EAX=1;"), 3,
-         SB_LISTED + counted(4), "log:6: no line of a log: States 3\nlog:7: 3 states are announced, and here is one more\n"),
+         changed(changed(SB_HERD, "States 4", "States 3"), "0:EAX=1; 1:EAX=1;", "States 3\n0:EAX=1; 1:EAX=1;"), 3, SB_LISTED,
+         "log:6: no line of a log: States 3\nlog:7: 3 states are announced, and here is one more\n"),
     Case("a variable that stands twice", herd("none Forbidden", "1:EAX=0; 1:EAX=0;\n", "Ok", "none Never 0 1"), 3,
-         lines("none: 1:EAX", "0 model, 1 model", "~exists Ok Ok") + counted(0, 0, 2), "log:3: a state has a variable twice\n",
-         tests=("none",)),
-    Case("another test is observed", changed(SB_HERD, "Observation SB", "Observation R"), 3, SB_LISTED + counted(4),
-         "log:11: this is of R, and the test is SB\n"),
-    Case("a thread that the listing has not", herd("SB Allowed", "0:EAX=0; 1:EAX=0; 2:EAX=0;\n", "Ok", "SB Always 1 0"), 3,
-         counted(0, tests=0), "compare: not compared: SB: the listing has no thread 2\n"),
-    Case("a test without a listing", SB_HERD, 3, counted(0, tests=0),
-         "log:1: not compared: no listing that is read has the name SB\n" + UNUSED.replace("SB", "R"),
-         tests=("R",)),
+         lines("none: 1:EAX", "0 model, 1 model", "~exists Ok Ok"), "log:3: a state has a variable twice\n"),
+    Case("a thread that the listing has not", herd("SB Allowed", "0:EAX=0; 1:EAX=0; 2:EAX=0;\n", "Ok", "SB Always 1 0"), 3, "",
+         "compare: not compared: SB: the listing has no thread 2\n", of=1),
+    Case("a test without a listing", SB_HERD, 3, "",
+         "log:1: not compared: no listing that is read has the name SB\n" + UNUSED.replace("SB", "R"), tests=("R",), of=1),
 ]
 
 
@@ -461,9 +406,10 @@ class Logs(Compared):
                     continue
                 write("log", it.log)
                 with self.case(name), redirect_stderr(io.StringIO()) as told:
-                    found, status = compare.compare(it.model, [f"{test}.litmus" for test in it.tests], "log")
+                    tests = it.tests or dict.fromkeys(re.findall("(?m)^(.*?): ", it.lines)) or ("SB",)
+                    found, status = compare.compare(it.model, [f"{test}.litmus" for test in tests], "log")
                     said = "".join(f"{line}\n" for line in found), told.getvalue(), status
-                    self.assertEqual(said, (it.lines, it.told, it.status))
+                    self.assertEqual(said, (counted(it.lines, it.of), it.told, it.status))
 
     def test_machine(self) -> None:
         paths = sorted(glob(f"{TOP}/examples/x86/*.litmus"))
@@ -506,7 +452,7 @@ pipecheck: these words are no command; how compare is called stands above
         write("log 2", SB_MACHINE)
         write("-m", read(BUFFERS))
         self.by_script("no log", [BUFFERS, "SB.litmus"], 2, "pipecheck: bad command line\n", form)
-        self.by_script("names with a dash or a blank", ["-m", "SB.litmus", "log 2"], 0, SB_BOTH + counted(4), "")
+        self.by_script("names with a dash or a blank", ["-m", "SB.litmus", "log 2"], 0, counted(SB_BOTH), "")
         self.by_script("a file that is not there", [BUFFERS, "gone.litmus", "log"], 4, "",
                        "pipecheck: a file could not be read\npipecheck: gone.litmus is not there\n")
         self.by_script("a refused model", ["bad.uspec", "SB.litmus", "log"], 3, "", "bad.uspec:2:12: arity: the model is refused\n")
@@ -514,7 +460,7 @@ pipecheck: these words are no command; how compare is called stands above
     def test_python(self) -> None:
         write("bad.litmus", LISTINGS["SB"].replace("MOV EAX,[y]", "ADD EAX,$1"))
         write("other.litmus", LISTINGS["SB"])
-        none = counted(0, tests=0)
+        none = counted(of=1)
         refused = "bad.litmus:5:2: syntax: the listing is refused; pipecheck test86 says what to do\n"
         self.by_python("a refused listing", [BUFFERS, "bad.litmus", "log"], 3, none,
                        f"{refused}log:1: not compared: no listing that is read has the name SB\n")
@@ -523,7 +469,7 @@ pipecheck: these words are no command; how compare is called stands above
         told = "".join(f"many:{line}: no line of a log: x\n" for line in range(1, 21))
         self.by_python("a refused model, and more faults of the log than are told", ["bad.uspec", "SB.litmus", "many"], 3, "",
                        f"bad.uspec:2:12: arity: the model is refused\n{told}compare: faults of the log: 2 more\n")
-        self.by_python("two listings of one name", [BUFFERS, "SB.litmus", "other.litmus", "log"], 3, SB_LISTED + counted(4),
+        self.by_python("two listings of one name", [BUFFERS, "SB.litmus", "other.litmus", "log"], 3, counted(SB_LISTED),
                        "compare: other.litmus has the name of SB.litmus: SB\n")
         for name, status, said, checker in (
             ("a program that is refused memory", 7, "a sweep of it has no answer, and the status 7", self.stub("seven", "exit 7")),

@@ -29,16 +29,13 @@ from tests.suite_cases import CORR, EARLY, GOOD, MP, SB, SC, TUTORIAL, SuiteCase
 
 from tools.ending import SIGNALS as RECEIVED, Interrupted
 from tools.texts.memory_models import memory_model_of
-from tools.texts.quoting import quoted
-from tools.suite import kept
-from tools.suite.beside import lint_lines
+from tools.suite import keeping
 from tools.suite.calling import Calls, side_by_side
 from tools.suite.files import File, model_file, test_file
-from tools.suite.keeping import Folder, State, write_anew
+from tools.suite.keeping import Folder, Kept, State, write_anew
 from tools.suite.pairs import Found
-from tools.suite.programs import command_of
-from tools.suite.refusing import Refusal
-from tools.suite.tables import table_of_models
+from tools.suite.running import lint_lines
+from tools.suite.telling import table_of_models
 
 PATTERN = "examples/patterns/MP.pattern"
 BAD_ROW = f"{PATTERN}: tutorial-early: shown though tso does not allow it: 1 0"
@@ -123,23 +120,12 @@ class Words(SuiteCases):
             ("PIPECHECK with a substitution", "$(touch called)", r"no checker: \$\(touch called\)"),
             ("PIPECHECK with one quote", "'", r"PIPECHECK is no command: No closing quotation: \'"),
             ("PIPECHECK is a blank", " ", r"PIPECHECK is no command: \ "),
+            (r"PIPECHECK \'\' has no words", "''", r"PIPECHECK is no command: \'\'"),
+            ("the words of PIPECHECK a '' $HOME * `b` $(c) ; d", "a '' $HOME * `b` $(c) ; d",
+             r"no checker: a '' \$HOME \* \`b\` \$\(c\) \; d"),
             ("a command that is no checker", "true", "no checker: true"),
         ):
             self.refuses(name, line, SC, PIPECHECK=words)
-
-    def test_commands(self) -> None:
-        place = self.put("a b", "")
-        for value, wanted in (
-            (place, [place]),
-            (f"'{place}' -x", [place, "-x"]),
-            (f"{self.work}/a\\ b", [place]),
-            ("python3 tools/second/main.py", ["python3", "tools/second/main.py"]),
-            ("a '' $HOME * `b` $(c) ; d", ["a", "", "$HOME", "*", "`b`", "$(c)", ";", "d"]),
-        ):
-            self.same(f"the words of PIPECHECK {value.replace(self.work, '..')}", command_of(value), wanted)
-        for value in ("'", " ", "''"):
-            with self.case(f"PIPECHECK {quoted(value)} has no words"):
-                self.assertRaisesRegex(Refusal, "^suite: PIPECHECK is no command: ", command_of, value)
 
 
 class Checkers(SuiteCases):
@@ -173,8 +159,8 @@ class Checkers(SuiteCases):
         self.lint_lines = no_lint
         axiom = 'Axiom "a": forall microop "i", forall microop "j", ProgramOrder i j => AddEdge ((i, S), (j, S), "").\n'
         self.put("many.uspec", '% Memory model: tso\nStageName 0 "S".\n' + 3_000 * axiom)
-        self.table("a check under the limit of memory", 2, tabled("many", "two status:7", "1 faults"), "WORK/many.uspec",
-                   "examples/two.test", PIPECHECK_MEMORY="6")
+        self.rows("a check under the limit of memory", 2, ["WORK/many.uspec", "examples/two.test"], "two status:7",
+                  PIPECHECK_MEMORY="6")
         said = "PIPECHECK_MEMORY is 1 MiB, and the program takes more to start"
         self.refuses("a limit of memory that the program cannot start in", said, SC, PIPECHECK_MEMORY="1")
         said = "pipecheck: PIPECHECK_MEMORY is a number of MiB, or none, and not much\n"
@@ -268,10 +254,9 @@ class Machines(SuiteCases):
         ))
         liar = self.script("liar", """\
 case $1 in "") exit 2 ;; check) echo observable; echo test unstated ;; verify) echo verified observable ;; esac""")
-        self.table("a machine that is late", 0,
-                   tabled("sc-inorder", "large observable", "1 unstated",
-                          "not compared with a machine within the limit of time: 1 test, the first WORK/large.test"), SC,
-                   "WORK/large.test", PIPECHECK=liar, SUITE_SECONDS="5")
+        self.rows("a machine that is late", 0, [SC, "WORK/large.test"], "large observable",
+                  "not compared with a machine within the limit of time: 1 test, the first WORK/large.test", PIPECHECK=liar,
+                  SUITE_SECONDS="5")
 
     def test_environment(self) -> None:
         """What the suite starts of Python has nothing of the environment."""
@@ -316,15 +301,12 @@ Microop 0 0 0 1 (Read (VA 0 0) (PA 0 0) (Data Any)).
             ("gives an answer that is none", "its answer is none", "os._exit(0)"),
         ):
             self.machine(f"import os\ndef outcomes(test: object) -> object:\n    return {fails}\n")
-            self.table(f"a machine that {name}", 2,
-                       tabled("tutorial-early", "MP BUG, MP.pattern machine, mine machine", "1 BUG, 2 faults",
-                              f"{PATTERN}: the machine of tso failed: {reason}",
-                              f"WORK/own/mine.test: tutorial-early says observable, and the machine of tso failed: {reason}"),
-                       EARLY, PATTERN, "WORK/own", MP)
+            self.rows(f"a machine that {name}", 2, [EARLY, PATTERN, "WORK/own", MP], "MP BUG, MP.pattern machine, mine machine",
+                      f"{PATTERN}: the machine of tso failed: {reason}",
+                      f"WORK/own/mine.test: tutorial-early says observable, and the machine of tso failed: {reason}")
         shutil.rmtree(f"{self.top}/tools/agree/machines")
-        self.table("a copy without machines", 0,
-                   tabled("tutorial", "mine unobservable", "1 unstated",
-                          "not compared with machines: there are none in WORK/copy/tools/agree/machines"), TUTORIAL, "WORK/own")
+        self.rows("a copy without machines", 0, [TUTORIAL, "WORK/own"], "mine unobservable",
+                  "not compared with machines: there are none in WORK/copy/tools/agree/machines")
 
     def test_several(self) -> None:
         """A machine runs one test after another in one process as long as it does not fail, and the clock has its time."""
@@ -360,8 +342,7 @@ class Folders(SuiteCases):
 
     def test_unwritten(self) -> None:
         self.put("kept/sc-inorder/MP.test.certificate.part/x", "")
-        self.writes("a certificate that cannot be written", self.called(SC), 2,
-                    tabled("sc-inorder", "MP unwritten, SB ok", "1 ok, 1 faults"))
+        self.rows("a certificate that cannot be written", 2, [SC], "MP unwritten, SB ok")
         shutil.rmtree(f"{self.work}/kept")
         os.makedirs(f"{self.work}/kept/cells")
         said = "suite: WORK/kept/cells cannot be written: Is a directory\n"
@@ -600,22 +581,17 @@ class Parts(SuiteCases):
         """What a model names, and why it names nothing."""
         none = "the model names no memory model"
         inside = "a memory model is named inside another comment"
-        twice = "a memory model is named a second time"
         for text, wanted in (
             ("% Memory model: tso\n", "tso"),
             ("% MEMORY MODEL:\tx86-TSO \r\n", "x86-tso"),
             ("%Memory model:tso", "tso"),
             ('StageName 0 "S". % Memory model: tso', "tso"),
-            ("", none),
             ("% Memory model: tso, for now\n", none),
             ("% the memory model: tso\n", none),
             ("// Memory model: tso\n", none),
             ('Axiom "% Memory model: tso": True.', none),
-            ("% Memory model: tso\n% memory model: tso\n", twice),
-            ("(* % Memory model: tso *)", inside),
-            ("(*\n% Memory model: tso\n*)\n% Memory model: sc\n", inside),
-            ("// % Memory model: tso", inside),
             ("%% Memory model: tso", inside),
+            ("(*\n% Memory model: tso\n*)\n% Memory model: sc\n", inside),
             ("% such as % Memory model: tso\n", inside),
             ("% such as `% Memory model: NAME`\n% Memory model: tso\n", "tso"),
         ):
@@ -682,12 +658,12 @@ class Parts(SuiteCases):
         store = f"{self.work}/store"
         for name in ("mine", "0" * 64 + ".part", "0" * 64 + "." + "0" * 32 + ".part"):
             os.utime(self.put(f"store/{name}", text), (0, 0))
-        verdicts = kept.Kept(store, "the program")
+        verdicts = Kept(store, "the program")
         for age, test in enumerate(tests):
             verdicts.keep(model, test, found, io.BytesIO(text))
             os.utime(verdicts.place(model, test), (1000 - age, 1000 - age))
         self.same("a verdict is taken", verdicts.found(model, tests[2]), (found, text))
-        with replaced(kept, "MOST_BYTES", 2500):
+        with replaced(keeping, "MOST_BYTES", 2500):
             verdicts.shorten()
         left = {os.path.basename(verdicts.place(model, test)) for test in (tests[0], tests[2])}
         name = "the one that was not taken for longest goes, with what is half written"

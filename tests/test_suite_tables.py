@@ -44,53 +44,49 @@ class OwnTests(SuiteCases):
         self.copy("tests", MP)
         self.put("tests/broken.test", BROKEN)
         self.put("axiom.uspec", "Axiom\n")
-        self.table("a refused test and a refused model beside others", 2,
-                   tabled("sc-inorder axiom", "MP ok model:syntax, broken test:syntax model:syntax", "1 ok, 3 faults",
-                          "WORK/tests/broken.test:1:16: syntax: no test can continue with this token",
-                          "WORK/axiom.uspec:2:1: syntax: no model can continue with this token"), SC, "WORK/axiom.uspec")
+        self.rows("a refused test and a refused model beside others", 2, [SC, "WORK/axiom.uspec"],
+                  "MP ok model:syntax, broken test:syntax model:syntax",
+                  "WORK/tests/broken.test:1:16: syntax: no test can continue with this token",
+                  "WORK/axiom.uspec:2:1: syntax: no model can continue with this token")
         for name in "ab":
             self.put(f"refused/{name}.litmus", read("examples/x86/SB.litmus").replace("\nexists", "\nforall"))
         forall = (
             "left-out: a test states one outcome: write a listing with ~exists for each that must not come; beside a log, "
             "compare answers forall"
         )
-        self.table("what to do about a refused listing", 2,
-                   tabled("sc-inorder tutorial-early", "a.litmus test:syntax test:syntax, b.litmus test:syntax test:syntax",
-                          "4 faults", "WORK/refused/a.litmus:10:1: syntax: no test can continue with this token",
-                          f"WORK/refused/a.litmus:10:1: {forall}",
-                          "WORK/refused/b.litmus:10:1: syntax: no test can continue with this token",
-                          f"WORK/refused/b.litmus:10:1: {forall}"), SC, EARLY, SUITE_TESTS="WORK/refused")
+        self.rows("what to do about a refused listing", 2, [SC, EARLY],
+                  "a.litmus test:syntax test:syntax, b.litmus test:syntax test:syntax",
+                  "WORK/refused/a.litmus:10:1: syntax: no test can continue with this token",
+                  f"WORK/refused/a.litmus:10:1: {forall}",
+                  "WORK/refused/b.litmus:10:1: syntax: no test can continue with this token",
+                  f"WORK/refused/b.litmus:10:1: {forall}", SUITE_TESTS="WORK/refused")
 
     def test_stated(self) -> None:
         for state in ("Forbidden", "Permitted"):
             self.put(f"tests/{state}.test", f"{UNSTATED_MP}{state}.\n")
         self.put("tests/unstated.test", UNSTATED_MP)
-        self.table("where the table has no row the test decides", 1,
-                   tabled("sc-inorder tutorial-early",
-                          "Forbidden ok BUG, Permitted stricter ok, unstated unobservable observable",
-                          "2 ok, 1 BUG, 1 stricter, 2 unstated",
-                          "WORK/tests/Permitted.test: the test says permitted, and the machine of sc forbidden",
-                          f"WORK/tests/Permitted.test: the test says permitted, and {TSO} forbidden",
-                          f"WORK/tests/unstated.test: tutorial-early says observable, and {TSO} unobservable"), SC, EARLY)
+        self.rows("where the table has no row the test decides", 1, [SC, EARLY],
+                  "Forbidden ok BUG, Permitted stricter ok, unstated unobservable observable",
+                  "WORK/tests/Permitted.test: the test says permitted, and the machine of sc forbidden",
+                  f"WORK/tests/Permitted.test: the test says permitted, and {TSO} forbidden",
+                  f"WORK/tests/unstated.test: tutorial-early says observable, and {TSO} unobservable")
         self.put("nameless.uspec", without_first_line(EARLY))
         line = (
             "WORK/nameless.uspec:1:1: unnamed: the model names no memory model; known are NAMES, named once by a comment "
             "% Memory model: NAME"
         )
-        self.table("without a memory model the word of a test of one's own decides", 1,
-                   tabled("nameless", "Forbidden BUG, Permitted ok", "1 ok, 1 BUG", line), "WORK/nameless.uspec",
-                   "WORK/tests/Forbidden.test", "WORK/tests/Permitted.test")
-        self.table("without a memory model the word of a shipped test does not", 2,
-                   tabled("nameless", "MP unnamed, Permitted ok", "1 ok, 1 faults", line), "WORK/nameless.uspec",
-                   "WORK/tests/Permitted.test", MP)
+        self.rows("without a memory model the word of a test of one's own decides", 1,
+                  ["WORK/nameless.uspec", "WORK/tests/Forbidden.test", "WORK/tests/Permitted.test"], "Forbidden BUG, Permitted ok",
+                  line)
+        self.rows("without a memory model the word of a shipped test does not", 2,
+                  ["WORK/nameless.uspec", "WORK/tests/Permitted.test", MP], "MP unnamed, Permitted ok", line)
 
     def test_memory_models(self) -> None:
         self.put("tests/unstated.test", UNSTATED_MP)
-        self.table("no expectation is no fault", 0,
-                   tabled("tutorial-early", "unstated observable", "1 unstated",
-                          f"WORK/tests/unstated.test: tutorial-early says observable, and {TSO} unobservable"), EARLY)
+        self.rows("no expectation is no fault", 0, [EARLY], "unstated observable",
+                  f"WORK/tests/unstated.test: tutorial-early says observable, and {TSO} unobservable")
         table = self.put("table.tsv", "memory model\ttest\tallowed\tsource\nTSO\tunstated\tno\tmine\n")
-        self.table("a table of one's own", 1, tabled("tutorial-early", "unstated BUG", "1 BUG"), EARLY, SUITE_TABLE=table)
+        self.rows("a table of one's own", 1, [EARLY], "unstated BUG", SUITE_TABLE=table)
         self.refuses("a table that is not there", "the table WORK/gone cannot be read", EARLY, SUITE_TABLE="WORK/gone")
         self.put("maybe.tsv", "memory model\ttest\tallowed\nTSO\tunstated\tmaybe\n")
         line = r"the table WORK/maybe.tsv has a row without yes or no: $'TSO\tunstated\tmaybe'"
@@ -98,15 +94,15 @@ class OwnTests(SuiteCases):
         self.put("nameless.uspec", without_first_line(EARLY))
         for end, shown in ((" ", " "), ("\r", r"\r"), (" \t\r", r" \t\r")):
             self.put("mine.uspec", f"% Memory Model: TSO{end}\n{without_first_line(EARLY)}")
-            self.table(f"a memory model in capitals, and '{shown}' after it", 1, tabled("mine", "unstated BUG", "1 BUG"),
-                       "WORK/mine.uspec", SUITE_TABLE=table)
+            self.rows(f"a memory model in capitals, and '{shown}' after it", 1, ["WORK/mine.uspec"], "unstated BUG",
+                      SUITE_TABLE=table)
         known = self.called("WORK/nameless.uspec", SUITE_TABLE=table).out.partition("known are ")[2].partition(", named")[0]
         for name in ("nmca", "pso", "sc", "tlb", "tso", "weak"):
             self.same(f"the memory models that are known have {name}", name in known.replace(" and ", ", ").split(", "))
         for name, place, sentence, head in UNNAMED:
             self.put("mine.uspec", f"{head}\n{without_first_line(EARLY)}")
             line = f"WORK/mine.uspec:{place}: unnamed: {sentence}; known are NAMES, named once by a comment % Memory model: NAME"
-            self.table(name, 2, tabled("mine", "unstated unnamed", "1 faults", line), "WORK/mine.uspec", SUITE_TABLE=table)
+            self.rows(name, 2, ["WORK/mine.uspec"], "unstated unnamed", line, SUITE_TABLE=table)
 
     def test_names_of_shipped_ones(self) -> None:
         """A row of the table of memory models is for the shipped test, and not for another one of its name."""
@@ -114,15 +110,12 @@ class OwnTests(SuiteCases):
         self.put("named/SB.litmus", read("examples/x86/SB.litmus").replace("\nexists", "\n~exists"))
         self.copy("named", MP)
         self.put("named/LB.test", read(MP).replace("(Data 0)", "(Data 1)"))
-        self.table("tests of one's own with the names of shipped ones", 1,
-                   tabled("tutorial", "LB BUG, MP ok, SB BUG, SB.litmus BUG", "1 ok, 3 BUG",
-                          f"WORK/named/LB.test: the test says forbidden, and {TSO} permitted",
-                          f"WORK/named/SB.litmus: the test says forbidden, and {TSO} permitted",
-                          f"WORK/named/SB.test: the test says forbidden, and {TSO} permitted"), TUTORIAL,
-                   SUITE_TESTS="WORK/named")
-        self.table("tests with the names of shipped ones go by the rows of a table that is named", 1,
-                   tabled("tutorial", "LB BUG, MP ok, SB ok, SB.litmus ok", "3 ok, 1 BUG"), TUTORIAL, SUITE_TESTS="WORK/named",
-                   SUITE_TABLE="examples/memory-models.tsv")
+        self.rows("tests of one's own with the names of shipped ones", 1, [TUTORIAL], "LB BUG, MP ok, SB BUG, SB.litmus BUG",
+                  f"WORK/named/LB.test: the test says forbidden, and {TSO} permitted",
+                  f"WORK/named/SB.litmus: the test says forbidden, and {TSO} permitted",
+                  f"WORK/named/SB.test: the test says forbidden, and {TSO} permitted", SUITE_TESTS="WORK/named")
+        self.rows("tests with the names of shipped ones go by the rows of a table that is named", 1, [TUTORIAL],
+                  "LB BUG, MP ok, SB ok, SB.litmus ok", SUITE_TESTS="WORK/named", SUITE_TABLE="examples/memory-models.tsv")
 
 
 class Words(SuiteCases):
@@ -130,21 +123,19 @@ class Words(SuiteCases):
 
     def test_options(self) -> None:
         self.copy("tests", MP, SB)
-        self.writes("--differ shows the tests on which models differ", self.called("--differ", TUTORIAL, EARLY), 1,
-                    tabled("tutorial tutorial-early", "MP ok BUG", "3 ok, 1 BUG"))
+        self.rows("--differ shows the tests on which models differ", 1, ["--differ", TUTORIAL, EARLY], "MP ok BUG",
+                  counts="3 ok, 1 BUG")
         self.same("a certificate has the whole name of its test", self.is_kept("tutorial-early/MP.test"))
         kept = "tutorial\tMP\tok\ntutorial\tSB\tok\ntutorial-early\tMP\tBUG\ntutorial-early\tSB\tok\n"
         self.same("the rows of a table are kept", read(f"{self.work}/kept/cells"), kept)
-        self.table("--bad shows the tests that are not ok", 1, tabled("tutorial-early tutorial", "MP BUG ok", "3 ok, 1 BUG"),
-                   "--bad", EARLY, TUTORIAL)
-        self.table("--bad shows no test where all are ok", 0, tabled("tutorial", "", "2 ok"), "--bad", TUTORIAL)
+        self.rows("--bad shows the tests that are not ok", 1, ["--bad", EARLY, TUTORIAL], "MP BUG ok", counts="3 ok, 1 BUG")
+        self.rows("--bad shows no test where all are ok", 0, ["--bad", TUTORIAL], "", counts="2 ok")
         twice = (SC, f"{TOP}/{SC}", "WORK/tests", "WORK/tests/../tests/MP.test")
         self.table("a file that is named twice is taken once", 0, GOOD, *twice)
         self.put("tests/typo.test", read(MP).replace("(Data 0)", "(Data 7)"))
         said = "unwritten: the read gets 7, which is not the value of PA 0 0 at the start, and nothing writes it there"
-        self.table("what lint says comes once, for all models and tests", 1,
-                   tabled("sc-inorder tutorial-early", "MP ok BUG, SB ok ok, typo ok ok", "5 ok, 1 BUG",
-                          f"WORK/tests/typo.test:7:47: {said}"), SC, EARLY)
+        self.rows("what lint says comes once, for all models and tests", 1, [SC, EARLY], "MP ok BUG, SB ok ok, typo ok ok",
+                  f"WORK/tests/typo.test:7:47: {said}")
 
     def is_kept(self, pair: str) -> bool:
         """Whether there is a certificate of a pair."""
@@ -156,11 +147,10 @@ class Words(SuiteCases):
         self.put("both/mine.litmus", listing)
         self.put("both/never.litmus", listing.replace("\nexists", "\n~exists"))
         self.put("both/open.litmus", listing.replace(" /\\ 1:EAX=0", ""))
-        self.writes("tests and listings in one folder", self.called(TUTORIAL, SUITE_TESTS="WORK/both"), 2,
-                    tabled("tutorial", "SB ok, SB.litmus ok, mine.litmus observable, never.litmus BUG, open.litmus test:x86-open",
-                           "2 ok, 1 BUG, 1 unstated, 1 faults",
-                           f"WORK/both/never.litmus: the test says forbidden, and {TSO} permitted",
-                           "WORK/both/open.litmus:9:20: x86-open: the condition gives this register no value"))
+        self.rows("tests and listings in one folder", 2, [TUTORIAL],
+                  "SB ok, SB.litmus ok, mine.litmus observable, never.litmus BUG, open.litmus test:x86-open",
+                  f"WORK/both/never.litmus: the test says forbidden, and {TSO} permitted",
+                  "WORK/both/open.litmus:9:20: x86-open: the condition gives this register no value", SUITE_TESTS="WORK/both")
         self.same("the certificate of a listing has the whole name of it", self.is_kept("tutorial/SB.litmus"))
         self.same("the certificate of a listing stands beside that of the test", self.is_kept("tutorial/SB.test"))
         self.same("nothing is kept of a refused listing", self.is_kept("tutorial/open.litmus"), False)
@@ -179,25 +169,21 @@ class Words(SuiteCases):
         self.table("such words behind --, beside a folder of tests that no word names", 1, table, "--", first, *rest)
         bad = "".join(it for it in table.splitlines(keepends=True) if not it.endswith(" ok\n"))
         self.table("an option among such words", 1, bad, first, "--bad", *rest)
-        self.table("a test before its model", 0, tabled("sc-inorder", "MP ok", "1 ok"), MP, SC)
+        self.rows("a test before its model", 0, [MP, SC], "MP ok")
 
     def test_what_machines_see(self) -> None:
         """Bytes that are no ASCII, values at the start, addresses that no micro-op names, memory models of one's own."""
         self.put("latin.pattern", b"% by M\303\274ller\n" + read("examples/patterns/MP.pattern").encode("ascii"))
-        self.table("a pattern with a comment that is not ASCII", 1,
-                   tabled("tutorial-early", "latin.pattern BUG", "1 BUG",
-                          "WORK/latin.pattern: tutorial-early: shown though tso does not allow it: 1 0"), "WORK/latin.pattern",
-                   EARLY)
+        self.rows("a pattern with a comment that is not ASCII", 1, ["WORK/latin.pattern", EARLY], "latin.pattern BUG",
+                  "WORK/latin.pattern: tutorial-early: shown though tso does not allow it: 1 0")
         self.put("untouched.pattern", """\
 Litmus "f".
 Microop 0 0 0 0 (Write (VA 0 0) (PA 0 0) (Data 1)).
 Microop 1 0 0 0 (Read (VA 0 0) (PA 0 0) (Data Any)).
 Final (PA 9 0) 0.
 """)
-        self.table("a final value of an address that no micro-op names", 0,
-                   tabled("sc-inorder", "untouched.pattern ok", "1 ok",
-                          "WORK/untouched.pattern:4:1: nobody's: no micro-op is at PA 9 0, so that no axiom can see this"),
-                   "WORK/untouched.pattern", SC)
+        self.rows("a final value of an address that no micro-op names", 0, ["WORK/untouched.pattern", SC], "untouched.pattern ok",
+                  "WORK/untouched.pattern:4:1: nobody's: no micro-op is at PA 9 0, so that no axiom can see this")
         # the machines take the rest of the first line for a comment, as of the longer test below, whose reads then get what
         # nothing writes; nothing is said of that
         self.put("percent.test", """\
@@ -205,29 +191,26 @@ Litmus "100%". Init (PA 0 0) 5.
 Microop 0 0 0 0 (Read (VA 0 0) (PA 0 0) (Data 5)).
 Permitted.
 """)
-        self.table("a value at the start that the machines do not read", 0, tabled("sc-inorder", "percent ok", "1 ok"),
-                   "WORK/percent.test", SC)
+        self.rows("a value at the start that the machines do not read", 0, ["WORK/percent.test", SC], "percent ok")
         self.put("large.test", """\
 Litmus "100%". Microop 0 0 0 0 (Write (VA 0 0) (PA 0 0) (Data 1)). Microop 1 0 0 0 (Write (VA 1 0) (PA 1 0) (Data 1)).
 Microop 2 1 1 0 (Read (VA 1 0) (PA 1 0) (Data 1)). Microop 3 1 1 0 (Read (VA 0 0) (PA 0 0) (Data 1)). Permitted.
 """)
-        self.table("a test that the machines read otherwise than the program", 0, tabled("tutorial-early", "large ok", "1 ok"),
-                   "WORK/large.test", EARLY)
+        self.rows("a test that the machines read otherwise than the program", 0, ["WORK/large.test", EARLY], "large ok")
         self.put("table.tsv", "mine\tMP\tno\n")
         self.put("mine.uspec", "% Memory model: mine\n" + without_first_line(EARLY))
         pattern = "examples/patterns/MP.pattern"
-        self.table("a pattern whose memory model has rows and no machine", 1,
-                   tabled("mine", "MP BUG, MP.pattern swept, SB BUG", "2 BUG, 1 unstated"), "WORK/mine.uspec", pattern, MP, SB,
-                   SUITE_TABLE="WORK/table.tsv")
+        self.rows("a pattern whose memory model has rows and no machine", 1, ["WORK/mine.uspec", pattern, MP, SB],
+                  "MP BUG, MP.pattern swept, SB BUG", SUITE_TABLE="WORK/table.tsv")
 
     def test_locked(self) -> None:
         """A model that asks for the type of locked instructions, and one that does not."""
         said = "type Locked: no axiom of examples/models/tso-ooo.uspec asks for it, here and in 7 more places"
-        self.table("a model without locked instructions takes no test that has some", 0,
-                   tabled("tso-buffer tso-ooo", "SB+fences ok ok, SB+xchgs ok not_taken, SB+xchgs.pattern ok not_taken",
-                          "4 ok, 2 not taken", f"examples/locked/SB+xchgs.test:4:23: not-asked: {said}"), BUFFER,
-                   "examples/models/tso-ooo.uspec", "examples/locked/SB+xchgs.test", "examples/patterns/SB+xchgs.pattern",
-                   "examples/tests/SB+fences.test")
+        self.rows("a model without locked instructions takes no test that has some", 0,
+                  [BUFFER, "examples/models/tso-ooo.uspec", "examples/locked/SB+xchgs.test", "examples/patterns/SB+xchgs.pattern",
+                   "examples/tests/SB+fences.test"],
+                  "SB+fences ok ok, SB+xchgs ok not_taken, SB+xchgs.pattern ok not_taken",
+                  f"examples/locked/SB+xchgs.test:4:23: not-asked: {said}")
         buggy = (f"examples/buggy/tso-buffer-{it}.uspec" for it in ("newest-alone", "merges-older"))
         self.table("two store buffers, each with a test that alone tells it", 1,
                    tabled("tso-buffer tso-buffer-newest-alone tso-buffer-merges-older",
@@ -247,7 +230,7 @@ class Beside(SuiteCases):
 
     def test_status(self) -> None:
         """The status parts what is lost from what is too much."""
-        self.table("what is lost alone", 3, tabled("strict", "MP ok, SB stricter", "1 ok, 1 stricter"), "WORK/strict.uspec")
+        self.rows("what is lost alone", 3, ["WORK/strict.uspec"], "MP ok, SB stricter")
         self.table("what is lost, and too much beside it", 1, tabled(*STRICT_TABLE), "WORK/strict.uspec", EARLY)
 
     def test_baselines(self) -> None:
@@ -262,9 +245,8 @@ class Beside(SuiteCases):
                           "WORK/broken.test:1:16: syntax: no test can continue with this token", "1 new BUG: tutorial-early CoRR",
                           "2 new test:syntax: strict broken, tutorial-early broken"), "--baseline", cells, *both, "WORK/tests",
                    CORR, "WORK/broken.test")
-        self.table("a BUG is new", 1,
-                   tabled("tutorial-early", "CoRR BUG, MP BUG", "2 BUG", "1 new BUG: tutorial-early CoRR",
-                          "2 gone: model strict, test SB"), EARLY, MP, CORR, "--baseline", cells)
+        self.rows("a BUG is new", 1, [EARLY, MP, CORR, "--baseline", cells], "CoRR BUG, MP BUG", "1 new BUG: tutorial-early CoRR",
+                  "2 gone: model strict, test SB")
         write(cells, read(cells).replace("stricter", "ok").replace("strict\tMP\tok", "strict\tMP\tBUG"))
         text = tabled(*STRICT_TABLE, "1 new stricter: strict SB", "1 gone: strict MP (BUG)")
         self.table("what was ok and is lost is new, and a BUG that is mended is gone", 3, text, "--baseline", cells, *both)

@@ -16,9 +16,8 @@ from random import Random
 
 from tests.cases import TOP, Cases, call, pipecheck, program, run, tool_entry, without_proofs, write
 
-from tools.listings.beyond import Notes
-from tools.listings.test86 import test_of
-from tools.listings.writing import test_of_herd
+from tools.listings.reading import Notes
+from tools.listings.test86 import test_of, test_of_herd
 from tools.second.cases import read_case
 from tools.second.listings import read_listing
 from tools.second.tokens import Fault

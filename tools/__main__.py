@@ -19,7 +19,7 @@ TOOLS = {
     "mend": "tools.mend.main",
     "renew": "tools.pages.renew",
     "second": "tools.second.main",
-    "suite": "tools.suite.call",
+    "suite": "tools.suite.main",
     "table": "tools.agree.table",
     "telling": "tools.telling.main",
     "test86": "tools.listings.test86",

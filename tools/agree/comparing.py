@@ -26,7 +26,7 @@ from tools.second.tokens import Fault
 from tools.standing import standing
 from tools.suite.allowing import MACHINE, Machines
 from tools.suite.programs import command_of, held
-from tools.suite.refusing import Refusal
+from tools.suite.telling import Refusal
 from tools.telling.files import sentence
 from tools.texts.contents import Read, Unreadable, contents, read_within
 from tools.texts.memory_models import memory_model_of

@@ -21,9 +21,9 @@ from tools.agree.programs import Program, named, random_program, smallest
 from tools.agree.small_programs import Family, Shape
 from tools.agree.working import Counts, Unusable, Workers, tell
 from tools.second.patterns import MOST_ROWS
-from tools.suite.counting import Progress as Meter
 from tools.suite.files import digest_of
 from tools.suite.keeping import write_anew
+from tools.suite.telling import Progress as Meter
 from tools.texts.quoting import shown
 
 # how often what is done is kept

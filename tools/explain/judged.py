@@ -24,8 +24,7 @@ from tools.second.standard_output import FAILED, UNREAD, UNWRITTEN, status_of
 from tools.second.tokens import Fault
 from tools.suite.calling import Calls, limited, memory_limit, side_by_side
 from tools.suite.programs import command_of
-from tools.suite.refusing import Refusal
-from tools.suite.telling import tell
+from tools.suite.telling import Refusal, tell
 from tools.telling.files import unreadable
 from tools.telling.refusals import place_of, refusal_of, told
 from tools.texts.answers import AnswerRefused, is_answer, read_answer

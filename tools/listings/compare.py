@@ -19,22 +19,17 @@ from tools import TOP
 from tools.ending import SIGNALS
 from tools.lint.asked import Asked
 from tools.lint.lines import line_of
-from tools.listings.asking import MOST_SWEEPS, Sweep, Swept, Unasked, swept
-from tools.listings.beyond import Notes
-from tools.listings.comparing import Comparison
+from tools.listings.comparing import MOST_SWEEPS, Comparison, Sweep, Swept, Unasked, swept
 from tools.listings.logs import Log, Result
 from tools.listings.programs import LOCKED, Program
-from tools.second.models import Model
+from tools.listings.reading import Notes
 from tools.second.scopes import read_model
 from tools.second.standard_output import FAILED, UNREAD, status_of
 from tools.second.tokens import Fault
-from tools.suite.calling import Calls, side_by_side
-from tools.suite.counting import Progress
-from tools.suite.main import ENDING
+from tools.suite.calling import ENDING, Calls, side_by_side
 from tools.suite.pairs import Checker
 from tools.suite.programs import checker_of
-from tools.suite.refusing import Refusal
-from tools.suite.telling import tell
+from tools.suite.telling import Refusal, tell
 from tools.telling.files import unreadable
 from tools.texts.contents import Unreadable, contents, read_within
 from tools.texts.quoting import shown
@@ -74,13 +69,17 @@ def compare(model_path: str, listing_paths: Sequence[str], log_path: str) -> tup
     listings = [(path, contents(path)) for path in listing_paths]
     log_text = contents(log_path, LOG_LIMIT)
     answer = Answer()
-    model = read_or_tell(answer, model_path, model_text)
+    asked = None
+    try:
+        asked = Asked(read_within(read_model, model_text)).types
+    except Fault as fault:
+        line = line_of(model_path, model_text, fault.place, f"{fault.word}: the model is refused")
+        answer.tell("a refused model", line, REFUSED)
     programs = read_listings(answer, listings)
     results = read_log(answer, log_path, log_text)
-    if model is None:
+    if asked is None:
         answer.tell_rest()
         return [], answer.problem
-    asked = Asked(model).types
     found = [joined(answer, log_path, result, programs, asked) for result in results]
     tell_unused(answer, programs, results)
     with SIGNALS.temporary_folder() as folder:
@@ -94,16 +93,6 @@ def compare(model_path: str, listing_paths: Sequence[str], log_path: str) -> tup
     said = f"{both} states shown by both, {log_alone} in the log alone, {model_alone} in the model alone{checker.said}"
     lines = [line for comparison in done for line in comparison.lines()]
     return [*lines, f"{len(done)} of {len(results)} tests compared: {said}"], SOME if log_alone else answer.problem
-
-
-def read_or_tell(answer: Answer, path: str, text: bytes) -> Model | None:
-    """The model; None where it is refused, which is told."""
-    try:
-        return read_within(read_model, text)
-    except Fault as fault:
-        line = line_of(path, text, fault.place, f"{fault.word}: the model is refused")
-        answer.tell("a refused model", line, REFUSED)
-        return None
 
 
 def read_listings(answer: Answer, listings: Sequence[tuple[str, bytes]]) -> dict[str, tuple[str, Program]]:
@@ -169,7 +158,7 @@ def ask(answer: Answer, comparisons: Sequence[Comparison], checker: Checker, mod
     waiting: list[tuple[Comparison, Sweep]] = []
     for comparison in comparisons:
         try:
-            waiting += [(comparison, sweep) for sweep in comparison.question.sweeps()]
+            waiting += [(comparison, sweep) for sweep in comparison.sweeps()]
             done.append(comparison)
         except Unasked as problem:
             line = f"compare: not compared: {comparison.result.name}: {problem}"
@@ -178,36 +167,23 @@ def ask(answer: Answer, comparisons: Sequence[Comparison], checker: Checker, mod
             run(waiting, checker, model)
             waiting = []
     run(waiting, checker, model)
-    return [comparison for comparison in done if is_whole(answer, comparison)]
+    for comparison in done:
+        if comparison.failed is not None:
+            why = f"a sweep of it has no answer, and the status {comparison.failed}"
+            status = comparison.failed if comparison.failed in (REFUSED, MEMORY) else FAILED
+            answer.tell("tests that are not compared", f"compare: not compared: {comparison.result.name}: {why}", status)
+    return [comparison for comparison in done if comparison.failed is None]
 
 
 def run(waiting: Sequence[tuple[Comparison, Sweep]], checker: Checker, model: str) -> None:
     """Runs sweeps side by side, and notes what each shows."""
-    progress = Progress(len(waiting))
 
     def take(place: int, found: Swept) -> None:
         comparison, sweep = waiting[place]
-        if isinstance(found, int):
-            comparison.failed = found
-        else:
-            comparison.shown.update(comparison.question.states(sweep, found))
-        progress.step()
+        comparison.take(sweep, found)
 
     tasks = [partial(swept, checker, model, comparison.program, sweep) for comparison, sweep in waiting]
-    try:
-        side_by_side(checker.calls, len(os.sched_getaffinity(0)), tasks, take)
-    finally:
-        progress.end()
-
-
-def is_whole(answer: Answer, comparison: Comparison) -> bool:
-    """Whether all sweeps of a test have an answer. That one has none is told."""
-    if comparison.failed is None:
-        return True
-    why = f"a sweep of it has no answer, and the status {comparison.failed}"
-    status = comparison.failed if comparison.failed in (REFUSED, MEMORY) else FAILED
-    answer.tell("tests that are not compared", f"compare: not compared: {comparison.result.name}: {why}", status)
-    return False
+    side_by_side(checker.calls, len(os.sched_getaffinity(0)), tasks, take, is_long=True)
 
 
 def main(model: str, *paths: str) -> int:

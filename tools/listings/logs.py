@@ -3,7 +3,7 @@ writes them."""
 import re
 from dataclasses import dataclass, field
 
-from tools.listings.conditions import Variable
+from tools.listings.reading import Variable
 from tools.texts.quoting import shown
 
 # how much of a line is told

@@ -1,12 +1,11 @@
 """What a listing says: micro-ops with all reads open, what the registers hold at the end, and a condition."""
 from dataclasses import replace
-from typing import NamedTuple
+from typing import Mapping, NamedTuple
 
-from tools.listings.beyond import Beyond, Notes
-from tools.listings.conditions import Variable
-from tools.listings.reading import Instruction, read_written
+from tools.listings.reading import Beyond, HerdReader, Instruction, Notes, Variable
 from tools.second.cases import GREATEST_CORE, MOST_OPS, Location, Op
 from tools.second.tokens import Fault, Token
+from tools.texts.writing_tests import op_text, printable, value_line, written
 
 LOCKED = "Locked"
 
@@ -22,7 +21,7 @@ class Program:
     """What the bytes of a listing say, which are judged in their order up to the first fault. A read has no value: it is open."""
 
     def __init__(self, data: bytes, notes: Notes) -> None:
-        self.written = written = read_written(data, notes)
+        self.written = written = HerdReader(data, notes).written()
         self.condition = written.condition
         self.notes = notes
         # by their names, and numbered as they are named first
@@ -72,6 +71,34 @@ class Program:
         """What is written to a location, each value once, in test order."""
         values = (op.value for op in self.ops.values() if op.access == "Write" and op.pa == location)
         return list(dict.fromkeys(value for value in values if isinstance(value, int)))
+
+    def choices(self, number: int) -> list[int]:
+        """What a read may get: the value at the start, and what is written there."""
+        location = self.ops[number].pa
+        assert isinstance(location, Location)
+        return list(dict.fromkeys([self.initial.get(location, 0), *self.writes_to(location)]))
+
+    def value(self, variable: Variable, reads: Mapping[int, int], finals: Mapping[Location, int]) -> int:
+        """What a variable has at the end, where the reads get these values."""
+        if variable.thread is None:
+            location = self.locations[variable.name]
+            return finals.get(location, self.initial.get(location, 0))
+        held = self.registers.get(variable, 0)
+        return reads[held.op] if isinstance(held, Loaded) else held
+
+    def lines(self, reads: Mapping[int, int], finals: Mapping[Location, int]) -> list[tuple[str, str]]:
+        """The items of a test or of a pattern, each with a comment. These reads get these values, and the others are open."""
+        lines = [value_line("Init", location, value) for location, value in self.initial.items()]
+        for number, op in self.ops.items():
+            text = printable(self.texts[number])
+            if number in reads:
+                op, text = replace(op, value=reads[number]), f"{text} = {reads[number]}"
+            lines.append((op_text(op), text))
+        return [*lines, *(value_line("Final", location, value) for location, value in finals.items())]
+
+    def pattern(self, reads: Mapping[int, int], finals: Mapping[Location, int]) -> str:
+        """A pattern whose reads are open, but for those that get these values, with these values at the end."""
+        return written(self.written.title, [], [(line, "") for line, _ in self.lines(reads, finals)])
 
     def location(self, name: str) -> Location:
         return self.locations.setdefault(name, Location(len(self.locations), 0, name))

@@ -1,9 +1,10 @@
 """Herd's listings for X86 and X86_64 as they are written: bytes to threads of instructions, and a condition."""
 import re
 from dataclasses import dataclass, replace
+from enum import Enum
+from typing import Callable, Iterable, Mapping, NamedTuple, Sequence
 
-from tools.listings.beyond import Beyond, Notes
-from tools.listings.conditions import BINDING, CONSTANTS, NEGATIONS, SIDES, Condition, Equation, Variable
+from tools.lint.slips import counted
 from tools.second.listings import BLANKS, ListingReader
 from tools.second.tokens import Fault, Token, tokens
 
@@ -22,6 +23,113 @@ MOVE = re.compile("MOV[LQ]?", re.IGNORECASE)
 EXCHANGE = re.compile("XCHG[LQ]?", re.IGNORECASE)
 # registers that have a number, and parts of them; and others
 PART = re.compile("(R[0-9]+)[DWB]?|[ER]([A-D]X|[SD]I|[SB]P)")
+
+
+class Beyond(Enum):
+    """What is read of a listing though `check86` refuses it, and what becomes of it."""
+
+    ARCHITECTURE = "X86_64 is read as X86"
+    HEADER = "a comment in the header is kept as a comment"
+    TYPE = "a type is left out, since all values are numbers"
+    UNSET = "a location without a value is 0 at the start"
+    START = "the value of a register at the start is left out, but for what is stored of it"
+    SPELLING = "another spelling of MOV or MFENCE is read as these"
+    CONSTANT = "a number in a register is no micro-op, but for what is stored of it"
+    STORED = "what is stored of a register is the number that it holds"
+    EXCHANGE = "XCHG is read as a locked read and a locked write of one instruction"
+    UNLOADED = "a register that no instruction loads is left out of the condition, since it holds this value"
+    LOCATIONS = "locations are left out, since a test states one outcome"
+
+
+class Notes:
+    """What is read of one listing beyond `check86`, each with the places where it stands."""
+
+    def __init__(self) -> None:
+        self.places: dict[Beyond, list[int]] = {}
+
+    def note(self, what: Beyond, at: int) -> None:
+        self.places.setdefault(what, []).append(at)
+
+    def lines(self) -> list[tuple[int, str]]:
+        """The first place of each, with what is said of it, in the order of the text."""
+        found = []
+        for what, places in self.places.items():
+            rest = f", here and in {counted(len(places) - 1, 'more place')}" if places[1:] else ""
+            found.append((places[0], what.value + rest))
+        return sorted(found)
+
+
+class Variable(NamedTuple):
+    """A register of a thread, or a location where there is no thread."""
+
+    thread: int | None
+    name: str
+
+    def __str__(self) -> str:
+        return self.name if self.thread is None else f"{self.thread}:{self.name}"
+
+
+class Equation(NamedTuple):
+    """A variable has a value. The token is where a fault of it stands."""
+
+    variable: Variable
+    value: int
+    token: Token
+
+
+# the operators by their words: how strongly each binds, and of those with two sides what they say
+BINDING = {"not": 4, "~": 4, "/\\": 3, "\\/": 2, "=>": 1}
+SIDES: dict[str, Callable[[bool, bool], bool]] = {
+    "/\\": lambda left, right: left and right,
+    "\\/": lambda left, right: left or right,
+    "=>": lambda left, right: not left or right,
+}
+NEGATIONS = ("not", "~")
+CONSTANTS = {"true": True, "false": False}
+
+
+@dataclass(frozen=True)
+class Condition:
+    """`exists`, `~exists` or `forall`, and a formula: equations, constants and operators, each behind what it is of."""
+
+    quantifier: str
+    formula: tuple[Equation | Token, ...]
+    token: Token
+
+    @property
+    def variables(self) -> list[Variable]:
+        """Those that it names, each once."""
+        return list(dict.fromkeys(part.variable for part in self.formula if isinstance(part, Equation)))
+
+    def equations(self) -> list[Equation]:
+        """The equations of a condition that states one outcome, which has no other operator than that all hold."""
+        if self.quantifier == "forall":
+            raise Fault("syntax", self.token.at)
+        others = [part.at for part in self.formula if isinstance(part, Token) and part.piece != "/\\"]
+        if others:
+            raise Fault("syntax", min(others))
+        return [part for part in self.formula if isinstance(part, Equation)]
+
+    def is_met(self, variables: Sequence[Variable], states: Iterable[tuple[int, ...]]) -> bool:
+        """Whether it holds of these states of these variables as all that come up."""
+        truths = (self.holds(dict(zip(variables, state))) for state in states)
+        if self.quantifier == "forall":
+            return all(truths)
+        return any(truths) == (self.quantifier == "exists")
+
+    def holds(self, state: Mapping[Variable, int]) -> bool:
+        known: list[bool] = []
+        for part in self.formula:
+            if isinstance(part, Equation):
+                known.append(state[part.variable] == part.value)
+            elif part.piece in CONSTANTS:
+                known.append(CONSTANTS[part.piece])
+            elif part.piece in NEGATIONS:
+                known.append(not known.pop())
+            else:
+                right = known.pop()
+                known.append(SIDES[part.piece](known.pop(), right))
+        return known.pop()
 
 
 @dataclass(frozen=True)
@@ -49,12 +157,6 @@ class Written:
     # the cells of each line, and the `;` after them
     rows: tuple[tuple[tuple[Instruction | None, ...], Token], ...]
     condition: Condition
-
-
-def read_written(data: bytes, notes: Notes) -> Written:
-    """The listing that the bytes say, or their first fault. What `check86` does not read is noted."""
-    is_wide, title, start = behind_header(data, notes)
-    return HerdReader(tokens(data, PIECE, start), is_wide, notes).written(title, start)
 
 
 def behind_header(data: bytes, notes: Notes) -> tuple[bool, str, int]:
@@ -85,11 +187,11 @@ def behind_header(data: bytes, notes: Notes) -> tuple[bool, str, int]:
 
 
 class HerdReader(ListingReader):
-    """Reads what stands after the header."""
+    """Reads the listing that the bytes say, or their first fault. What `check86` does not read is noted."""
 
-    def __init__(self, all_tokens: list[Token], is_wide: bool, notes: Notes) -> None:
-        super().__init__(all_tokens)
-        self.is_wide = is_wide
+    def __init__(self, data: bytes, notes: Notes) -> None:
+        self.is_wide, self.title, self.start = behind_header(data, notes)
+        super().__init__(tokens(data, PIECE, self.start))
         self.notes = notes
 
     @property
@@ -101,7 +203,7 @@ class HerdReader(ListingReader):
         """Whether the token behind the next one is one of these symbols."""
         return self.later.kind == "symbol" and self.later.piece in pieces
 
-    def written(self, title: str, start: int) -> Written:
+    def written(self) -> Written:
         starts = self.within("{", "}", self.start_value)
         head, _ = self.cells(lambda: self.expect_kind("name"))
         rows = []
@@ -113,7 +215,7 @@ class HerdReader(ListingReader):
             self.within("[", "]", self.variable)
         condition = self.condition()
         self.expect_kind("end")
-        return Written(self.is_wide, title, start, tuple(starts), head, tuple(rows), condition)
+        return Written(self.is_wide, self.title, self.start, tuple(starts), head, tuple(rows), condition)
 
     # the first block
 

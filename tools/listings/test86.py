@@ -11,8 +11,9 @@ import sys
 
 from tools import TOP
 from tools.lint.lines import line_of
-from tools.listings.beyond import Notes
-from tools.listings.writing import test_of_herd
+from tools.listings.programs import Loaded, Program
+from tools.listings.reading import Beyond, Notes
+from tools.second.cases import Location
 from tools.second.standard_output import UNREAD, status_of
 from tools.second.tokens import Fault
 from tools.suite.telling import tell
@@ -20,7 +21,8 @@ from tools.telling.files import unreadable
 from tools.telling.refusals import listing_lines
 from tools.texts.contents import Unreadable, contents, read_within
 from tools.texts.naming import line_and_column
-from tools.texts.writing_tests import test_of_listing
+from tools.texts.writing_tests import notes as comments
+from tools.texts.writing_tests import test_of_listing, within_limit
 
 
 def test_of(data: bytes, notes: Notes) -> str:
@@ -35,6 +37,47 @@ def test_of(data: bytes, notes: Notes) -> str:
             return test_of_herd(data, notes)
         except Fault as other:
             raise other if notes.places else fault from None
+
+
+def test_of_herd(data: bytes, notes: Notes) -> str:
+    """The text of the test that a listing says, or the listing's first fault. What is read of it beyond `check86` is
+    noted."""
+    program = Program(data, notes)
+    if program.reloads:
+        raise Fault("x86-reload", program.reloads[0].at)
+    lines = program.lines(*outcome_of(program, notes))
+    if program.condition.quantifier == "~exists":
+        lines.append(("Forbidden.", ""))
+    above = (line.removeprefix("(*").removesuffix("*)").strip() for line in comments(data, program.written.start))
+    return within_limit(program.written.title, filter(None, above), lines)
+
+
+def outcome_of(program: Program, notes: Notes) -> tuple[dict[int, int], dict[Location, int]]:
+    """The one outcome that the condition states, or its first fault: what the reads get, by their numbers, and the values at the
+    end."""
+    reads: dict[int, int] = {}
+    finals: dict[Location, int] = {}
+    for variable, value, token in program.condition.equations():
+        held = program.registers.get(variable, 0)
+        if variable.thread is None:
+            location = program.locations[variable.name]
+            if location in finals:
+                raise Fault("again-final", token.at)
+            finals[location] = value
+        elif isinstance(held, Loaded):
+            # a register that was loaded has one value
+            if held.op in reads:
+                raise Fault("x86-again", token.at)
+            reads[held.op] = value
+        elif held == value and variable.thread < len(program.written.head):
+            notes.note(Beyond.UNLOADED, token.at)
+        else:
+            raise Fault("x86-unloaded", token.at)
+    loaded = (held for held in program.registers.values() if isinstance(held, Loaded))
+    unknown = [held.token.at for held in loaded if held.op not in reads]
+    if unknown:
+        raise Fault("x86-open", min(unknown))
+    return reads, finals
 
 
 def main(path: str) -> int:

@@ -24,7 +24,7 @@ from tools.suite.allowing import Machines
 from tools.suite.calling import Calls, side_by_side
 from tools.suite.pairs import Checker
 from tools.suite.programs import checker_of
-from tools.suite.refusing import Refusal
+from tools.suite.telling import Refusal
 from tools.texts.address_names import case_with_names
 from tools.texts.contents import Unreadable, contents
 from tools.texts.memory_models import memory_model_of

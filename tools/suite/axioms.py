@@ -10,13 +10,11 @@ from tools.second.cores import without
 from tools.second.scopes import read_model
 from tools.second.tokens import Fault
 from tools.suite.calling import side_by_side
-from tools.suite.counting import Progress
 from tools.suite.files import Copies, File, digest_of, in_order
-from tools.suite.kept import Kept
+from tools.suite.keeping import Kept
 from tools.suite.pairs import TIME, Checker, Found
-from tools.suite.refusing import Refusal
 from tools.suite.running import checked
-from tools.suite.tables import aligned
+from tools.suite.telling import Refusal, aligned
 from tools.texts.answers import cut_text
 
 NEEDED = "untested or not needed"
@@ -48,11 +46,7 @@ def answers_of(
         return found
 
     tasks = [partial(found, model, test) for model in models for test in tests]
-    progress = Progress(len(tasks))
-    try:
-        return side_by_side(checker.calls, jobs, tasks, lambda _, __: progress.step())
-    finally:
-        progress.end()
+    return side_by_side(checker.calls, jobs, tasks, is_long=True)
 
 
 def run_axioms(

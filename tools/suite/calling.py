@@ -15,7 +15,7 @@ from contextlib import suppress
 from typing import IO, Callable, Sequence, TypeVar
 
 from tools.ending import PATIENCE, SIGNALS
-from tools.suite.refusing import Refusal
+from tools.suite.telling import Progress, Refusal
 from tools.texts.quoting import quoted
 
 # What the limits need is done by a shell that becomes the program. Where a limit of file size is passed, a write fails,
@@ -24,6 +24,11 @@ LIMITED = 'trap "" XFSZ; ulimit -S -t "$0" && ulimit -S -v "$1" || exit 125; shi
 MOST_DIGITS = 11
 # Python as the suite starts it: no variable of the environment, and nothing that is installed beside it, changes it
 PYTHON = (sys.executable, "-E", "-S", "-B")
+# the signals that end a process without a fault of its own
+ENDING = (
+    signal.SIGINT, signal.SIGTERM, signal.SIGHUP, signal.SIGQUIT, signal.SIGUSR1, signal.SIGUSR2, signal.SIGALRM,
+    signal.SIGVTALRM, signal.SIGPROF, signal.SIGXCPU,
+)
 # how long what cleans up after itself may take to end
 GRACE = 10.0
 
@@ -149,10 +154,11 @@ def end_group(process: Process, number: signal.Signals) -> None:
 
 
 def side_by_side(
-    calls: Calls, jobs: int, tasks: Sequence[Callable[[], Answer]], tell: Callable[[int, Answer], None] = lambda _, __: None
+    calls: Calls, jobs: int, tasks: Sequence[Callable[[], Answer]], tell: Callable[[int, Answer], None] = lambda _, __: None,
+    is_long: bool = False,
 ) -> list[Answer]:
-    """The answers of tasks, at most so many of which run at once. Each is told with its number as it comes. Where a
-    signal or a failure comes, the calls of the others end."""
+    """The answers of tasks, at most so many of which run at once. Each is told with its number as it comes, and where it takes long
+    a terminal has how many there are. Where a signal or a failure comes, the calls of the others end."""
     answers: dict[int, Answer] = {}
     failures: list[BaseException] = []
     # by their numbers
@@ -175,6 +181,7 @@ def side_by_side(
             ended.put(place)
 
     threads = [threading.Thread(target=work) for _ in range(min(jobs, len(tasks)))]
+    progress = Progress(len(tasks), is_long)
     try:
         start(threads)
         for _ in tasks:
@@ -182,6 +189,7 @@ def side_by_side(
             if place not in answers:
                 raise failures[0]
             tell(place, answers[place])
+            progress.step()
     except BaseException:
         calls.stop()
         join(threads, GRACE)
@@ -189,6 +197,7 @@ def side_by_side(
         raise
     finally:
         join(threads, None)
+        progress.end()
     return [answers[place] for place in range(len(tasks))]
 
 

@@ -1,4 +1,5 @@
-"""The folder of a suite: certificates, the rows of the last table, and what an interrupted suite has got so far.
+"""The folder of a suite: certificates, the rows of the last table, and what an interrupted suite has got so far; reports; and the
+folder of verdicts that are kept over suites.
 
 Each file is written under another name first and then takes the place of the old one: so no link is followed, and what
 stood before stands until the new one is whole.
@@ -6,16 +7,16 @@ stood before stands until the new one is whole.
 import fcntl
 import json
 import os
+import re
 import stat
 from contextlib import contextmanager, suppress
 from typing import IO, Iterator, Mapping
 
 from tools.ending import SIGNALS
 from tools.suite.files import CELLS, PART, File, digest_of
-from tools.suite.pairs import Found, verdict_found
-from tools.suite.refusing import Refusal
-from tools.suite.telling import tell
-from tools.texts.quoting import shown
+from tools.suite.pairs import BUG, GOOD, STRICTER, TIME, Found, found_in, verdict_found
+from tools.suite.telling import Refusal, tell
+from tools.texts.quoting import quoted, shown
 
 CERTIFICATE, ROWS, ANSWER = ".certificate", ".rows", ".answer"
 # other files of such a folder may end in .part, too
@@ -23,6 +24,15 @@ PARTS = (CERTIFICATE + PART, ROWS + PART, ANSWER + PART)
 # no model has a name that begins with a dot
 LOCK = ".lock"
 STATE = ".state"
+# how much stays of verdicts that are kept over suites
+MOST_BYTES = 1 << 30
+# what is written there; nothing else in that folder is touched
+ENTRY = re.compile(r"[0-9a-f]{64}(\.[0-9a-f]{32}\.part)?")
+FORMAT = "1"
+# by the names of model and test
+Cells = Mapping[tuple[str, str], str]
+# how what is new is told, by these words first
+FIRST = (BUG, STRICTER, TIME)
 
 
 @contextmanager
@@ -44,6 +54,30 @@ def write_anew(place: str, text: bytes) -> None:
         file.write(text)
         file.flush()
         os.replace(file.name, place)
+
+
+def judge_place(option: str, path: str) -> None:
+    """Refuses a place that a report cannot be written to, before anything runs."""
+    if os.path.exists(path) and not os.path.isfile(path):
+        is_writable = not os.path.isdir(path) and os.access(path, os.W_OK)
+    else:
+        folder = os.path.dirname(os.path.realpath(path))
+        is_writable = os.path.isdir(folder) and os.access(folder, os.W_OK)
+    if not is_writable:
+        raise Refusal(f"{option}: {shown(path)} cannot be written")
+
+
+def write_report(path: str, text: bytes) -> None:
+    """Writes a report whole: a file has its former text until then. What is no file, as a pipe, gets it as it comes."""
+    try:
+        is_file = stat.S_ISREG(os.stat(path).st_mode)
+    except FileNotFoundError:
+        is_file = True
+    if is_file:
+        write_anew(os.path.realpath(path), text)
+    else:
+        with open(path, "wb") as file:
+            file.write(text)
 
 
 class Folder:
@@ -90,10 +124,61 @@ class Folder:
         ending = ROWS if test.is_pattern else ANSWER if test.is_query else CERTIFICATE
         return os.path.join(self.path, model.name, test.base + ending)
 
-    def write_cells(self, cells: Mapping[tuple[str, str], str]) -> None:
+    def write_cells(self, cells: Cells) -> None:
         """Keeps the rows of a table: model, test and cell."""
         text = "".join("\t".join((*pair, cell)) + "\n" for pair, cell in cells.items())
         write_anew(self.cells, os.fsencode(text))
+
+
+class Baseline:
+    """The cells of an earlier suite, which the file `cells` of its folder has; none without a path."""
+
+    def __init__(self, path: str | None) -> None:
+        self.path = path
+        self.cells: dict[tuple[str, str], str] = {}
+        if path is None:
+            return
+        try:
+            with open(path, encoding="utf-8", errors="surrogateescape", newline="\n") as file:
+                lines = file.read().split("\n")
+        except OSError as error:
+            raise Refusal(f"the baseline {shown(path)} cannot be read: {error.strerror}") from error
+        if lines.pop():
+            raise Refusal(f"the baseline {shown(path)} ends in the midst of a line")
+        for line in lines:
+            row = line.split("\t")
+            if len(row) != 3 or "" in row:
+                raise Refusal(f"the baseline {shown(path)} has a line that is no model, test and cell: {quoted(line)}")
+            self.cells[row[0], row[1]] = row[2]
+
+    def has(self, pair: tuple[str, str], cell: str) -> bool:
+        return self.cells.get(pair) == cell
+
+    def new(self, cells: Cells) -> dict[tuple[str, str], str]:
+        """The pairs that are BUG, stricter, late or a fault, and were not the same before."""
+        return {pair: cell for pair, cell in cells.items() if cell not in GOOD and not self.has(pair, cell)}
+
+    def lines(self, cells: Cells) -> list[str]:
+        """What is new, a line for each word of a cell, and what is gone."""
+        if self.path is None:
+            return []
+        pairs: dict[str, list[str]] = {}
+        for (model, test), cell in self.new(cells).items():
+            pairs.setdefault(cell, []).append(f"{model} {test}")
+        order = [*(cell for cell in FIRST if cell in pairs), *sorted(cell for cell in pairs if cell not in FIRST)]
+        lines = [f"{len(pairs[cell])} new {cell}: {', '.join(pairs[cell])}" for cell in order]
+        lines = lines or [f"nothing is new beside {shown(self.path)}"]
+        gone = [*self.gone(cells)]
+        return [*lines, f"{len(gone)} gone: {', '.join(gone)}"] if gone else lines
+
+    def gone(self, cells: Cells) -> Iterator[str]:
+        """The pairs that were not good and are now; and the models and the tests that are not in this suite any more."""
+        for pair, cell in self.cells.items():
+            if cell not in GOOD and cells.get(pair) in GOOD:
+                yield f"{' '.join(pair)} ({cell})"
+        for place, kind in enumerate(("model", "test")):
+            left = {pair[place] for pair in cells}
+            yield from (f"{kind} {name}" for name in dict.fromkeys(pair[place] for pair in self.cells) if name not in left)
 
 
 class State:
@@ -123,27 +208,26 @@ class State:
     def found(self, model: File, test: File) -> Found | None:
         """The verdict of a pair, where it is known for these bytes and the certificate of then is there."""
         known = self.pairs.get(self.key(model, test))
-        if known is None or "" in (model.digest, test.digest):
+        if known is None or "" in (model.digest, test.digest) or self.pair(model, test) != known:
             return None
-        found, pair = self.pair(model, test)
-        return found if pair == known and found.verdict else None
+        return Found(known["verdict"], known["stated"]) if known["verdict"] else None
 
     def note(self, model: File, test: File, found: Found) -> None:
         """Notes a verdict whose certificate is kept."""
-        kept, pair = self.pair(model, test)
-        if self.program != "" and kept.verdict == found.verdict != "":
+        pair = self.pair(model, test)
+        if self.program != "" and pair["verdict"] == found.verdict != "":
             self.pairs[self.key(model, test)] = pair
 
     def key(self, model: File, test: File) -> str:
         return f"{model.name}/{test.base}"
 
-    def pair(self, model: File, test: File) -> tuple[Found, dict[str, str]]:
-        """What the certificate of a pair says, and that with all that it comes from."""
+    def pair(self, model: File, test: File) -> dict[str, str]:
+        """What the certificate of a pair says, with all that this comes from."""
         certificate = None
         with suppress(OSError):
             certificate = contents_of_any_length(self.folder.place(model, test))
         found = verdict_found(certificate or b"")
-        return found, {
+        return {
             "model": model.digest,
             "test": test.digest,
             "words": f"{test.kind.check} {test.kind.verify}",
@@ -166,6 +250,98 @@ class State:
         """A suite that is done leaves nothing to go on from."""
         with suppress(OSError):
             os.unlink(self.place)
+
+
+class Kept:
+    """Verdicts that are kept over suites, in a folder that many suites may read and write at once. Without a path nothing is kept.
+
+    An entry is a file by the hash of all that a verdict comes from: program, model, test and the words of the call. Its first line
+    has the hash of the rest, which is what the program wrote. An entry that is spoilt is none, and is made anew.
+    """
+
+    def __init__(self, path: str, program: str) -> None:
+        self.path = path
+        # the hash of the program; empty where its bytes are not known, and then nothing is kept
+        self.program = program if path else ""
+        self.taken: set[str] = set()
+        if not path:
+            return
+        if not program:
+            tell(f"suite: nothing is kept in {shown(path)}: PIPECHECK is not one binary")
+        try:
+            os.makedirs(path, exist_ok=True)
+        except OSError as error:
+            raise Refusal(f"the folder {shown(path)} cannot be made: {error.strerror}") from error
+        if not os.access(path, os.R_OK | os.W_OK | os.X_OK):
+            raise Refusal(f"the folder {shown(path)} cannot be written")
+
+    def knows(self, model: File, test: File) -> bool:
+        """Whether all bytes are known that a verdict comes from."""
+        return "" not in (self.program, model.digest, test.digest)
+
+    def place(self, model: File, test: File) -> str:
+        origin = (FORMAT, self.program, model.digest, test.digest, f"{test.kind.check} {test.kind.verify}")
+        return os.path.join(self.path, digest_of("\n".join(origin).encode("ascii")))
+
+    def found(self, model: File, test: File) -> tuple[Found, bytes] | None:
+        """The verdict of a pair with the program's text, where it is kept."""
+        if not self.knows(model, test):
+            return None
+        place = self.place(model, test)
+        try:
+            head, _, text = contents_of_any_length(place).partition(b"\n")
+            is_whole = json.loads(head)["digest"] == digest_of(text)
+        except (OSError, ValueError, KeyError, TypeError, RecursionError):
+            return None
+        found = found_in(test, text)
+        if not is_whole or not found.verdict:
+            return None
+        # what is taken stays longest
+        with suppress(OSError):
+            os.utime(place)
+        self.taken.add(place)
+        return found, text
+
+    def keep(self, model: File, test: File, found: Found, said: IO[bytes]) -> None:
+        """Keeps a verdict with what the program said. Where that fails the program is asked again the next time."""
+        if not self.knows(model, test):
+            return
+        said.seek(0)
+        text = said.read()
+        place = self.place(model, test)
+        head = json.dumps({"stated": found.stated, "digest": digest_of(text)}).encode("ascii")
+        part = f"{place}.{os.urandom(16).hex()}{PART}"
+        try:
+            with open(part, "xb") as file:
+                file.write(head + b"\n" + text)
+            os.replace(part, place)
+        except OSError:
+            with suppress(OSError):
+                os.unlink(part)
+
+    def tell_taken(self) -> None:
+        if self.taken:
+            tell(f"suite: {len(self.taken)} pairs stand from {shown(self.path)}")
+
+    def shorten(self) -> None:
+        """Removes what was not taken for longest, until the rest is no more than so much."""
+        entries = sorted(self.entries())
+        length = sum(size for _, _, size in entries)
+        for _, path, size in entries:
+            if length <= MOST_BYTES:
+                return
+            with suppress(OSError):
+                os.unlink(path)
+            length -= size
+
+    def entries(self) -> Iterator[tuple[float, str, int]]:
+        """Of each entry, and of what a suite that was ended by force left of one: when it was last taken, its path and its size."""
+        with suppress(OSError), os.scandir(self.path) as entries:
+            for entry in entries:
+                if ENTRY.fullmatch(entry.name):
+                    with suppress(OSError):
+                        status = entry.stat(follow_symlinks=False)
+                        yield status.st_mtime, entry.path, status.st_size
 
 
 def contents_of_any_length(place: str) -> bytes:

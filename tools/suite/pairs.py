@@ -3,6 +3,7 @@ import os
 import re
 import tempfile
 from dataclasses import dataclass
+from functools import lru_cache
 from typing import IO
 
 from tools.suite.calling import Calls
@@ -13,7 +14,7 @@ OBSERVABLE, UNOBSERVABLE = "observable", "unobservable"
 VERDICTS = (OBSERVABLE, UNOBSERVABLE)
 SWEPT, ASKED = "swept", "asked"
 OK, BUG, STRICTER, TIME, UNNAMED, FAULT = "ok", "BUG", "stricter", "time", "unnamed", "fault"
-NOT_TAKEN = "not taken"
+NOT_TAKEN, LOCKED = "not taken", "Locked"
 # cells that are no bug, nothing lost and no fault
 GOOD = (OK, OBSERVABLE, UNOBSERVABLE, SWEPT, NOT_TAKEN)
 CERTIFICATE, UNREADABLE, UNWRITTEN, MACHINE = "certificate", "unreadable", "unwritten", "machine"
@@ -23,6 +24,9 @@ STATED = re.compile(r"test (?:(unstated)|(permitted|forbidden): (?:ok|BUG|strict
 SUMMARY = re.compile(rb"sweep [0-9]+")
 # the lines that are looked at are short
 HEAD = 4096
+
+# what reads tests and models is imported where one has to be read, which few calls need: it takes as long as all the rest
+# pylint: disable=import-outside-toplevel
 
 
 @dataclass(frozen=True)
@@ -59,8 +63,6 @@ class Checker:
 
     def answered(self, model: str, query: File, test: str, path: str, out: IO[bytes]) -> Found:
         """Asks the query at this path of a model on its test. Each certificate is judged in the model that it is of."""
-        # what few calls need, and what takes as long to import as all the rest
-        # pylint: disable=import-outside-toplevel
         from tools.texts.answers import AnswerRefused, read_answer
         from tools.explain.files import parts_of
         from tools.second.scopes import read_model
@@ -177,3 +179,38 @@ def cell_of_rows(found: Found, allowed: frozenset[str]) -> str:
 def kind_of(cell: str) -> str:
     """A cell without the answer in its brackets."""
     return BUG if cell.startswith(f"{BUG} (") else cell
+
+
+def takes(model: File, test: File) -> bool:
+    """Whether the axioms of a model ask for the type of locked micro-ops, where a test has some: else the model does not know what
+    these mean. Of a file with a fault the fault is told, and not this."""
+    return not has_locked(test) or asks_for_locked(model)
+
+
+@lru_cache(None)
+def has_locked(test: File) -> bool:
+    """Whether a test has micro-ops of locked instructions, or that of a query."""
+    if test.asked_of is not None:
+        return has_locked(test.asked_of)
+    if test.text is None or LOCKED.encode("ascii") not in test.text:
+        return False
+    from tools.second.listings import read_file_items
+    from tools.second.tokens import Fault
+
+    try:
+        case, _ = read_file_items(test.path, test.text)
+    except Fault:
+        return False
+    return any(LOCKED in op.types for op in case.ops)
+
+
+@lru_cache(None)
+def asks_for_locked(model: File) -> bool:
+    from tools.lint.asked import Asked
+    from tools.second.scopes import read_model
+    from tools.second.tokens import Fault
+
+    try:
+        return LOCKED in Asked(read_model(model.text or b"")).types
+    except Fault:
+        return True

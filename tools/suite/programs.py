@@ -10,7 +10,7 @@ from tools import standing
 from tools.suite.calling import Calls, memory_limit, side_by_side
 from tools.suite.files import digest_of
 from tools.suite.pairs import Checker
-from tools.suite.refusing import Refusal
+from tools.suite.telling import Refusal
 from tools.texts.quoting import quoted, shown
 
 # the status of the program without words

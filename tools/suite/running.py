@@ -1,25 +1,20 @@
 """The run of a suite: all pairs, side by side, and then the table with what stands below it."""
 import os
+import tempfile
 import time
 from collections import defaultdict
 from contextlib import suppress
 from dataclasses import dataclass
 from functools import partial
-from typing import Iterator, Mapping, Sequence
+from typing import Iterator, Sequence
 
-from tools.suite.allowing import Machines, Rows, line_of_unnamed
-from tools.suite.beside import lint_lines
-from tools.suite.calling import side_by_side
-from tools.suite.counting import Progress
+from tools.suite.allowing import Answer, Judges, Machines, Rows, line_of_unnamed
+from tools.suite.calling import PYTHON, Calls, side_by_side
 from tools.suite.files import Copies, File, in_order
-from tools.suite.keeping import State, new_file, write_anew
-from tools.suite.kept import Kept
-from tools.suite.machines import Answer, Judges
+from tools.suite.keeping import Kept, State, new_file, write_anew
 from tools.suite.pairs import BUG, FAULT, FORBIDDEN, MACHINE, NOT_TAKEN, OBSERVABLE, OK, PERMITTED, SWEPT, TIME, UNNAMED
-from tools.suite.pairs import UNOBSERVABLE, UNSTATED, UNWRITTEN, Checker, Found, cell_of, cell_of_rows
-from tools.suite.tables import table_of_models
-from tools.suite.taking import takes
-from tools.suite.telling import tell
+from tools.suite.pairs import UNOBSERVABLE, UNSTATED, UNWRITTEN, Checker, Found, cell_of, cell_of_rows, takes
+from tools.suite.telling import table_of_models, tell
 from tools.suite.words import Words
 from tools.texts.memory_models import memory_model_of
 from tools.texts.quoting import shown
@@ -28,18 +23,12 @@ from tools.texts.quoting import shown
 SECONDS_OF_STATE = 2.0
 # how the cell of a refused test begins; where a model is refused nothing is known of the test
 REFUSED = "test:"
+# how long lint may take, where a call may not take longer
+LINT_SECONDS = 60.0
+# the statuses of lint that come with all its lines
+LINTED = (0, 1, 3, 4)
 
 Pair = tuple[File, File]
-
-
-@dataclass(frozen=True)
-class Result:
-    """What a suite found: its cells, the lines of its table and those below, and how long it took."""
-
-    cells: dict[tuple[str, str], str]
-    table: list[str]
-    below: list[str]
-    seconds: float
 
 
 def checked(checker: Checker, kept: Kept, copies: Copies, model: File, test: File, place: str) -> Found:
@@ -65,6 +54,20 @@ def checked(checker: Checker, kept: Kept, copies: Copies, model: File, test: Fil
     return found
 
 
+def lint_lines(top: str, tests: Sequence[File], calls: Calls, seconds: float, model: File) -> list[str]:
+    """What lint says of a model and the tests. A call has so many seconds, or as many as lint may take."""
+    command = [*PYTHON, os.path.join(top, "tools"), "lint", model.path, *(test.path for test in tests)]
+    with tempfile.TemporaryFile() as out:
+        try:
+            status = calls.status(command, None, max(LINT_SECONDS, seconds), out)
+        except OSError:
+            # more tests than one call takes
+            status = None
+        out.seek(0)
+        said = os.fsdecode(out.read()).split("\n")[:-1]
+    return said if status in LINTED else [*said, f"not linted: {shown(model.path)}"]
+
+
 @dataclass
 class Suite:
     """All models on all tests."""
@@ -87,16 +90,20 @@ class Suite:
         self.found: dict[Pair, Found] = {}
         # by memory model and test
         self.answers: defaultdict[tuple[str, File], Answer] = defaultdict(Answer)
+        # what is found of them all: the cells by the names of model and test, the lines below their table, and how long it took
+        self.cells: dict[tuple[str, str], str] = {}
+        self.below: list[str] = []
+        self.seconds = 0.0
 
-    def run(self, jobs: int, seconds: float, width: int | None) -> Result:
+    def run(self, jobs: int, seconds: float) -> None:
         begun = time.monotonic()
         self.check_pairs(jobs)
         self.ask_machines(jobs, seconds)
         calls = self.checker.calls
         lint = [partial(lint_lines, self.top, self.words.tests, calls, seconds, model) for model in self.words.models]
-        below = self.lines_below(side_by_side(calls, jobs, lint))
-        cells = {(model.name, test.name): self.cell(model, test) for model, test in self.pairs}
-        return Result(cells, self.table(cells, width), below, time.monotonic() - begun)
+        self.below = self.lines_below(side_by_side(calls, jobs, lint))
+        self.cells = {(model.name, test.name): self.cell(model, test) for model, test in self.pairs}
+        self.seconds = time.monotonic() - begun
 
     # what is found
 
@@ -109,14 +116,12 @@ class Suite:
         if self.found:
             tell(f"suite: {len(self.found)} pairs stand from a suite that was interrupted")
         pairs = [pair for pair in self.pairs if pair not in self.found]
-        progress = Progress(len(pairs))
         written = time.monotonic()
 
         def step(place: int, found: Found) -> None:
             nonlocal written
             self.found[pairs[place]] = found
             self.state.note(*pairs[place], found)
-            progress.step()
             # an end by force says nothing before
             if time.monotonic() - written >= SECONDS_OF_STATE:
                 self.state.write()
@@ -124,13 +129,11 @@ class Suite:
 
         tasks = [partial(checked, self.checker, self.kept, self.copies, *pair, self.state.folder.place(*pair)) for pair in pairs]
         try:
-            side_by_side(self.checker.calls, jobs, tasks, step)
+            side_by_side(self.checker.calls, jobs, tasks, step, is_long=True)
         except BaseException:
-            progress.end()
             if self.state.write():
                 tell(f"suite: {len(self.state.pairs)} pairs are kept, and the next suite goes on from there")
             raise
-        progress.end()
         self.kept.tell_taken()
 
     def ask_machines(self, jobs: int, seconds: float) -> None:
@@ -239,12 +242,12 @@ class Suite:
             elif found.stated == UNSTATED and found.verdict != verdict:
                 yield f"{shown(test.path)}: {model.name} says {found.verdict}, and the machine of {name} {verdict}"
 
-    def table(self, cells: Mapping[tuple[str, str], str], width: int | None) -> list[str]:
+    def table(self, width: int | None) -> list[str]:
         """The table, with the rows that the options ask for."""
         models = [model.name for model in self.words.models]
         rows = []
         for test in in_order(self.words.tests):
-            row = [cells[model, test.name] for model in models]
+            row = [self.cells[model, test.name] for model in models]
             is_shown = "--differ" not in self.words.options or len(set(row)) > 1
             if is_shown and not ("--bad" in self.words.options and set(row) == {OK}):
                 rows.append([test.name, *row])

@@ -1,10 +1,17 @@
-"""What the suite writes: its table to standard output, and the rest to standard error."""
+"""What the suite writes: its table to standard output, and the rest to standard error. Tables have columns of their width with two
+blanks between, and lines without blanks at their ends."""
 import io
 import os
+import shutil
 import sys
 from typing import Sequence
 
-from tools.suite.refusing import Refusal
+
+class Refusal(Exception):
+    """There is no table; the line says why, and who says so."""
+
+    def __init__(self, sentence: str, teller: str = "suite") -> None:
+        super().__init__(f"{teller}: {sentence}")
 
 
 class Unread(Exception):
@@ -53,3 +60,44 @@ def tell(text: str, end: str = "\n") -> None:
 def close(number: int) -> None:
     """Nothing more is written to a stream when Python ends."""
     os.dup2(os.open(os.devnull, os.O_WRONLY), number)
+
+
+class Progress:
+    """How many of so many are done, on a terminal that shows what is said."""
+
+    def __init__(self, count: int, is_shown: bool = True) -> None:
+        self.count = count
+        self.done = 0
+        self.is_shown = is_shown and sys.stderr is not None and sys.stderr.isatty()
+
+    def step(self) -> None:
+        self.done += 1
+        if self.is_shown:
+            tell(f"\r{self.done} of {self.count}", end="")
+
+    def end(self) -> None:
+        """The line is empty again."""
+        if self.is_shown:
+            tell(f"\r{'':20}\r", end="")
+
+
+def aligned(rows: Sequence[Sequence[str]]) -> list[str]:
+    widths = [max(map(len, column)) for column in zip(*rows)]
+    return ["  ".join(cell.ljust(width) for cell, width in zip(row, widths)).rstrip(" ") for row in rows]
+
+
+def table_of_models(models: Sequence[str], rows: Sequence[Sequence[str]], width: int | None) -> list[str]:
+    """A row for each test with the cells of the models. Where the lines are wider than the terminal the models have
+    numbers, and a key stands above."""
+    lines = aligned([["test", *models], *rows])
+    if width is None or max(map(len, lines)) <= width:
+        return lines
+    numbers = [str(number) for number in range(1, len(models) + 1)]
+    return aligned(list(zip(numbers, models))) + aligned([["test", *numbers], *rows])
+
+
+def width_of_terminal() -> int | None:
+    """How many columns the terminal has that the table goes to; None where it goes to something else."""
+    if sys.stdout is None or not sys.stdout.isatty():
+        return None
+    return shutil.get_terminal_size((0, 0)).columns or None

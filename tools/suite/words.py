@@ -7,7 +7,7 @@ from typing import Mapping, Sequence
 from tools.suite.files import (
     KINDS, MODEL_ENDING, File, ending_of, is_row, is_test, judge_distinct, judge_present, model_file, test_file
 )
-from tools.suite.refusing import Refusal
+from tools.suite.telling import Refusal
 from tools.texts.quoting import quoted, shown
 
 SECONDS = re.compile(r"[0-9]{1,9}(\.[0-9]+)?", re.ASCII)
@@ -109,18 +109,19 @@ def files_in(folder: str, endings: Sequence[str]) -> list[str]:
 
 def number_of_seconds(environ: Mapping[str, str]) -> float:
     """The limit of one call."""
-    value = environ.get("SUITE_SECONDS") or "20"
-    if SECONDS.fullmatch(value) is None or float(value) == 0:
-        raise Refusal(f"SUITE_SECONDS is a number above 0, and not {quoted(value)}")
-    return float(value)
+    return number_in(environ, "SUITE_SECONDS", SECONDS, "20", "a number above 0")
 
 
 def number_of_jobs(environ: Mapping[str, str]) -> int:
     """How many calls run side by side."""
-    value = environ.get("SUITE_JOBS") or str(len(os.sched_getaffinity(0)))
-    if JOBS.fullmatch(value) is None or int(value) == 0:
-        raise Refusal(f"SUITE_JOBS is a number from 1 to 9999, and not {quoted(value)}")
-    return int(value)
+    return int(number_in(environ, "SUITE_JOBS", JOBS, str(len(os.sched_getaffinity(0))), "a number from 1 to 9999"))
+
+
+def number_in(environ: Mapping[str, str], name: str, form: re.Pattern[str], default: str, kind: str) -> float:
+    value = environ.get(name) or default
+    if form.fullmatch(value) is None or float(value) == 0:
+        raise Refusal(f"{name} is {kind}, and not {quoted(value)}")
+    return float(value)
 
 
 def folder_of(environ: Mapping[str, str], top: str) -> str:
