@@ -1,9 +1,9 @@
 """Edges whose absence is asked for, which no order between the two nodes also meets."""
 from typing import Iterator, NamedTuple
 
-from tools.lint.formulas import below
 from tools.lint.slips import Slip, owner
 from tools.second.models import Binary, Edges, Expand, Formula, Model, Not, Quantified, Static, Word
+from tools.second.scopes import below
 
 # the shipped test on which 'no write stands between' and 'each write is before or behind both' differ
 BETWEEN_TEST = "examples/tests/SB+fences+old.test"

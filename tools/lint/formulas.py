@@ -1,26 +1,9 @@
-"""What kinds of slips share: what stands in a formula, how it is written, and what its form alone decides."""
+"""What kinds of slips share: the names in a formula, how it is written, and what its form alone decides."""
 from dataclasses import fields, is_dataclass
-from typing import Iterator
 
-from tools.second.models import Arg, Binary, Edges, Expand, Formula, Macro, NodeTerm, Nodes, Not, Number, Quantified, Static, Word
+from tools.second.models import Arg, Binary, Expand, Formula, Macro, NodeTerm, Not, Number, Quantified, Static, Word
 from tools.second.predicates import PLAIN, PREDICATES
-from tools.second.scopes import parts
-
-
-def below(formula: Formula) -> Iterator[Formula]:
-    """A formula and what stands in it, from left to right, macros not followed."""
-    waiting = [formula]
-    while waiting:
-        here = waiting.pop()
-        yield here
-        waiting += reversed(parts(here))
-
-
-def nodes_of(formula: Formula) -> list[NodeTerm]:
-    """The nodes of a list, as they stand in it."""
-    if isinstance(formula, Edges):
-        return [node for edge in formula.members for node in (edge.start, edge.end)]
-    return list(formula.members) if isinstance(formula, Nodes) else []
+from tools.second.scopes import nodes_of
 
 
 def names_of(formula: Formula) -> frozenset[str]:

@@ -1,9 +1,10 @@
 """Predicates of virtual addresses where the others are of physical ones."""
 from typing import Iterator
 
-from tools.lint.formulas import below, written
+from tools.lint.formulas import written
 from tools.lint.slips import Slip, counted, owner
 from tools.second.models import Formula, Model, Static
+from tools.second.scopes import below
 
 # the predicate of physical addresses that says the same as one of virtual addresses
 PHYSICAL = {"SameVirtualAddress": "SamePhysicalAddress", "SameVirtualTag": "SamePhysicalTag"}

@@ -12,12 +12,9 @@ from tools.lint.places import ANY, OWN, Place, Places
 from tools.lint.slips import Slip, TestFile
 from tools.lint.truth import OutOfSteps, Steps, Walk
 from tools.second.cases import Case, Op
-from tools.second.meaning import Environment, value
-from tools.second.guards import Guards
+from tools.second.meaning import Environment, Guards, Node, value
 from tools.second.models import Axiom, Binary, EdgeTerm, Expand, Formula, Model, NodeTerm, Nodes, Not, Quantified, Static
 from tools.texts.quoting import shown
-
-Node = tuple[int, int, int]
 
 # A model that needs more steps over all tests is not looked at further.
 STEPS = 1_500_000
@@ -29,10 +26,9 @@ class FreeNodes:
     def __init__(self, path: str, model: Model, axioms: list[Axiom], from_outside: dict[str, frozenset[str]]) -> None:
         self.path = path
         self.axioms = axioms
-        self.macros = model.macros
-        self.stages = {stage.name.name: stage.number.value for stage in model.stages}
+        self.model = model
         self.from_outside = from_outside
-        places = Places(self.macros, from_outside)
+        places = Places(model.macros, from_outside)
         self.places = [places.of(axiom.body, {}) for axiom in axioms]
         self.guards = Guards()
         self.steps = Steps(STEPS)
@@ -107,9 +103,9 @@ def either(left: Use, right: Use) -> Use:
 class NodeUses(Walk):
     """The uses of nodes by a model in one test. A node is known by a number, and by the term that named it first."""
 
-    def __init__(self, model: FreeNodes, case: Case, steps: Steps) -> None:
-        super().__init__(model.guards, case, steps)
-        self.model = model
+    def __init__(self, of_model: FreeNodes, case: Case, steps: Steps) -> None:
+        super().__init__(of_model.model, of_model.guards, case, steps)
+        self.of_model = of_model
         self.numbers: dict[Node, int] = {}
         self.terms: list[NodeTerm] = []
         # expansions of one macro with the same values
@@ -120,7 +116,7 @@ class NodeUses(Walk):
         whole = Use()
         # places whose nodes are given
         full: set[Place] = set()
-        for axiom, places in zip(self.model.axioms, self.model.places):
+        for axiom, places in zip(self.of_model.axioms, self.of_model.places):
             full |= {place for place in places - full if self.is_full(place, whole.given)}
             # what names no other nodes makes none free, and one that the test makes True or False asks for no node
             use = True if places <= full else self.use(axiom.body, {}, True, False)
@@ -132,7 +128,7 @@ class NodeUses(Walk):
 
     def is_full(self, place: Place, given: int) -> bool:
         """Whether each node at a place is among those that are given."""
-        stage = self.model.stages[place.stage]
+        stage = self.stages[place.stage]
         for number, op in enumerate(self.case.ops):
             cores = [op.core] if place.core == OWN else self.case.cores if place.core == ANY else [place.core]
             nodes = [(number, core, stage) for core in cores] if op.access == place.access else []
@@ -144,7 +140,7 @@ class NodeUses(Walk):
         """The use of a formula, or of its denial where it is not wanted; its truth where the test decides it. A premise
         ends at `~`."""
         if isinstance(formula, Static):
-            return self.holds(formula, env) is wanted
+            return self.is_so(formula, env) is wanted
         self.steps.take()
         if isinstance(formula, Not):
             return self.use(formula.operand, env, not wanted, False)
@@ -166,13 +162,11 @@ class NodeUses(Walk):
 
     def expansion(self, formula: Expand, env: Environment, wanted: bool, in_premise: bool) -> Use | bool:
         """The use of a macro's body, found once for the same values."""
-        macro = self.model.macros[formula.macro.name]
         values = tuple(value(arg, env) for arg in formula.args)
-        outside = tuple((name, env[name]) for name in sorted(self.model.from_outside[formula.macro.name]))
+        outside = tuple((name, env[name]) for name in sorted(self.of_model.from_outside[formula.macro.name]))
         key = (formula.macro.name, wanted, in_premise, values, outside)
         if key not in self.known:
-            bound = {parameter.name: number for parameter, number in zip(macro.parameters, values)}
-            self.known[key] = self.use(macro.body, {**env, **bound}, wanted, in_premise)
+            self.known[key] = self.use(*self.body_of(formula, env), wanted, in_premise)
         return self.known[key]
 
     def node_use(self, term: NodeTerm, env: Environment, wanted: bool, in_premise: bool) -> Use:
@@ -191,9 +185,7 @@ class NodeUses(Walk):
 
     def bit_of(self, term: NodeTerm, env: Environment) -> int:
         """The bit of the node that a term names."""
-        op = env[term.op.name]
-        core = self.case.ops[op].core if term.core is None else value(term.core, env)
-        node = op, core, self.model.stages[term.stage.name]
+        node = self.node(term, env)
         if node not in self.numbers:
             self.numbers[node] = len(self.terms)
             self.terms.append(term)

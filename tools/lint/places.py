@@ -1,9 +1,8 @@
 """Which nodes an axiom may name, in any test: by their stage, their core, and the access of their micro-op."""
 from typing import NamedTuple
 
-from tools.lint.formulas import nodes_of
 from tools.second.models import Binary, Expand, Formula, Macro, Not, Number, Quantified, Static, Word
-from tools.second.scopes import parts
+from tools.second.scopes import nodes_of, parts
 
 ALL = frozenset({"Read", "Write", "Fence"})
 # for the core of a place: that of the micro-op; each core of the test

@@ -2,9 +2,10 @@
 from collections import defaultdict
 from typing import Iterable, Iterator
 
-from tools.lint.formulas import below, nodes_of, written
+from tools.lint.formulas import written
 from tools.lint.slips import Slip, counted
 from tools.second.models import Formula, Model, NodeTerm, Number
+from tools.second.scopes import below, nodes_of
 
 # where a stage stands so often on one core, and once on another, this one may be a slip
 MANY = 3

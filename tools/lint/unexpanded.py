@@ -2,12 +2,11 @@
 from typing import Iterator
 
 from tools.lint.asked import Asked
-from tools.lint.formulas import nodes_of
 from tools.lint.slips import Slip
 from tools.second.cases import GREATEST_CORE
 from tools.second.models import Arg, Expand, Formula, Model, Number, Quantified, Static
 from tools.second.predicates import CORE, MICROOP, PLAIN, PREDICATES
-from tools.second.scopes import parts
+from tools.second.scopes import nodes_of, parts
 
 # the sorts of names; what a parameter stands for is not known
 Scope = dict[str, str | None]

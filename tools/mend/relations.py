@@ -8,9 +8,9 @@ from tools.lint.asked import Asked
 from tools.mend.worlds import Edge
 from tools.second.cases import Case
 from tools.second.meaning import Node
-from tools.second.models import Axiom, Edges, Formula, Macro, Model, NodeTerm, Nodes, Number
+from tools.second.models import Model, Number
 from tools.second.predicates import MICROOP, PREDICATES
-from tools.second.scopes import parts
+from tools.second.scopes import below, nodes_of
 
 # the micro-ops of an edge, as variables, and the core of the other one
 FIRST, SECOND, CORE = "i", "j", "c"
@@ -98,10 +98,9 @@ class Relations:
         self.asked = Asked(model)
         # of each stage the cores at which the model names nodes of it
         self.cores: dict[str, set[int]] = {}
-        for item in model.items:
-            for node in nodes_of(item):
-                core = node.core.value if isinstance(node.core, Number) else OWN if node.core is None else OTHERS
-                self.cores.setdefault(node.stage.name, set()).add(core)
+        for node in (node for item in model.items for part in below(item.body) for node in nodes_of(part)):
+            core = node.core.value if isinstance(node.core, Number) else OWN if node.core is None else OTHERS
+            self.cores.setdefault(node.stage.name, set()).add(core)
         self.stages = {stage.number.value: stage.name.name for stage in model.stages}
 
     def of(self, edge: Edge, case: Case | None = None) -> Relation | None:
@@ -151,16 +150,3 @@ class Relations:
         if first != second and Premise("SamePhysicalAddress", (FIRST, SECOND)).holds(case, first, second):
             same = Premise("SameData", (FIRST, SECOND))
             yield same if same.holds(case, first, second) else Premise("SameData", (FIRST, SECOND), False)
-
-
-def nodes_of(item: Axiom | Macro) -> Iterator[NodeTerm]:
-    """The nodes that an axiom or a macro names itself."""
-    waiting: list[Formula] = [item.body]
-    while waiting:
-        formula = waiting.pop()
-        waiting += parts(formula)
-        if isinstance(formula, Nodes):
-            yield from formula.members
-        elif isinstance(formula, Edges):
-            for edge in formula.members:
-                yield from (edge.start, edge.end)

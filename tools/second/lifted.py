@@ -12,7 +12,7 @@ from typing import Union
 from tools.second.cases import Case
 from tools.second.grounding import Literal
 from tools.second.judging import judge_body, judge_header, lines_of, second_line
-from tools.second.meaning import Environment, Meaning, Node, holds
+from tools.second.meaning import Environment, Meaning, Node
 from tools.second.models import Binary, Edges, Expand, Formula, Model, Nodes, Not, Quantified, Static
 from tools.second.positions import is_decimal
 
@@ -159,7 +159,7 @@ class LiftedJudge(Meaning):
     def is_false(self, fact: Said) -> bool:
         """No member is left of which the fact could be right, or a predicate is otherwise."""
         if isinstance(fact.formula, Static):
-            return holds(self.case, fact.formula, fact.env) is not fact.holds
+            return self.is_so(fact.formula, fact.env) is not fact.holds
         count = self.members(fact)
         return count is not None and fact.start >= count
 

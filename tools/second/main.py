@@ -25,10 +25,9 @@ import sys
 from functools import partial
 from typing import Any, Callable, TextIO, TypeVar
 
-from tools.second.answering import Graph, Step, answer
+from tools.second.answering import Graph, Step, answer, shortened
 from tools.second.cases import Case, read_case
 from tools.second.cores import minimal_set, with_axioms, without
-from tools.second.dimacs import dimacs
 from tools.second.grounding import ground
 from tools.second.judging import Refused as CertificateRefused
 from tools.second.judging import VERSION_2, judge, second_line
@@ -41,8 +40,7 @@ from tools.second.positions import Clash, Positions
 from tools.second.queries import InModel, read_query, with_axiom
 from tools.second.scopes import read_model
 from tools.second.searching import is_observable
-from tools.second.shortening import shortened
-from tools.second.smtlib import smtlib
+from tools.second.solvers import dimacs, smtlib
 from tools.second.standard_output import status_of
 from tools.second.tokens import Fault
 

@@ -1,6 +1,7 @@
 """Tokens to a written model, by the grammar of docs/language.md."""
 import re
 from dataclasses import dataclass
+from functools import cached_property
 from typing import Union
 
 from tools.second.tokens import Fault, Reader, Token
@@ -141,7 +142,7 @@ class Model:
     def axioms(self) -> list[Axiom]:
         return [item for item in self.items if isinstance(item, Axiom)]
 
-    @property
+    @cached_property
     def macros(self) -> dict[str, Macro]:
         return {item.name.name: item for item in self.items if isinstance(item, Macro)}
 

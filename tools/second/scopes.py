@@ -3,6 +3,8 @@
 A name in a macro's body that is neither a parameter nor bound in the body has the binding in force where the macro
 is expanded. So names are judged in the axioms, with each macro followed into its body.
 """
+from typing import Iterator
+
 from tools.second.cases import GREATEST_CORE
 from tools.second.models import Arg, Axiom, Binary, Edges, Expand, Formula, Macro, Model, ModelReader, NodeTerm, Nodes, Not
 from tools.second.models import Number, Quantified, Static
@@ -52,6 +54,27 @@ def parts(formula: Formula) -> list[Formula]:
     return []
 
 
+def below(formula: Formula, macros: dict[str, Macro] | None = None, expanded: set[str] | None = None) -> Iterator[Formula]:
+    """A formula and what stands in it, from left to right. Of these macros those that it expands are followed, each once,
+    where it is none of those that are said to be expanded, which are more then."""
+    waiting = [formula]
+    expanded = set() if expanded is None else expanded
+    while waiting:
+        here = waiting.pop()
+        yield here
+        waiting += reversed(parts(here))
+        if macros is not None and isinstance(here, Expand) and here.macro.name not in expanded:
+            expanded.add(here.macro.name)
+            waiting.append(macros[here.macro.name].body)
+
+
+def nodes_of(formula: Formula) -> list[NodeTerm]:
+    """The nodes of a list, as they stand in it."""
+    if isinstance(formula, Edges):
+        return [node for edge in formula.members for node in (edge.start, edge.end)]
+    return list(formula.members) if isinstance(formula, Nodes) else []
+
+
 def judge_macros(model: Model) -> None:
     """Each macro's name is new, so are its parameters, and expansions fit. A macro names earlier ones alone."""
     macros = [item for item in model.items if isinstance(item, Macro)]
@@ -75,14 +98,13 @@ def judge_macros(model: Model) -> None:
 
 def judge_expansions(formula: Formula, macros: dict[str, Macro]) -> None:
     """Each expansion in the formula is of one of these macros, with as many arguments as it has parameters."""
-    if isinstance(formula, Expand):
-        macro = macros.get(formula.macro.name)
-        if macro is None:
-            raise Fault("macro-unknown", formula.macro.at)
-        if len(formula.args) != len(macro.parameters):
-            raise Fault("macro-arguments", formula.macro.at)
-    for part in parts(formula):
-        judge_expansions(part, macros)
+    for part in below(formula):
+        if isinstance(part, Expand):
+            macro = macros.get(part.macro.name)
+            if macro is None:
+                raise Fault("macro-unknown", part.macro.at)
+            if len(part.args) != len(macro.parameters):
+                raise Fault("macro-arguments", part.macro.at)
 
 
 def judge_sizes(model: Model) -> None:
@@ -135,14 +157,9 @@ class NameJudge:
             self.expansion(formula, scope)
         elif isinstance(formula, Static):
             self.static(formula, scope)
-        elif isinstance(formula, Nodes):
-            for node in formula.members:
-                self.node(node, scope)
-        elif isinstance(formula, Edges):
-            for edge in formula.members:
-                self.node(edge.start, scope)
-                self.node(edge.end, scope)
         else:
+            for node in nodes_of(formula):
+                self.node(node, scope)
             for part in parts(formula):
                 self.formula(part, scope)
 
