@@ -12,15 +12,14 @@ from tools.lint.edges import edge_slips, query_edge_slips
 from tools.lint.formulas import Constants
 from tools.lint.idle import Idle
 from tools.lint.made import ENTRY_PREDICATES, made_tests
-from tools.lint.mixed import mixed_slips
 from tools.lint.nodes import FreeNodes
-from tools.lint.order import fence_slips, order_slips, thread_slips
+from tools.lint.of_tests import (
+    address_slips, fence_slips, initial_write_slips, order_slips, page_slips, thread_slips, value_slips
+)
 from tools.lint.parts import Parts
 from tools.lint.slips import QueryFile, Slip, TestFile, allowed, counted, grouped, unless_meant
-from tools.lint.stages import query_stage_slips, stage_slips
-from tools.lint.titles import constant_slips, swallowed_slips, title_slips
 from tools.lint.unexpanded import unexpanded_slips
-from tools.lint.values import address_slips, initial_write_slips, page_slips, value_slips
+from tools.lint.words import constant_slips, mixed_slips, query_stage_slips, stage_slips, swallowed_slips, title_slips
 from tools.second.listings import read_file_items
 from tools.second.models import Axiom, Model
 from tools.second.queries import read_query
