@@ -18,8 +18,9 @@ from tools.lint.of_tests import (
 )
 from tools.lint.parts import Parts
 from tools.lint.slips import QueryFile, Slip, TestFile, allowed, counted, grouped, unless_meant
-from tools.lint.unexpanded import unexpanded_slips
-from tools.lint.words import constant_slips, mixed_slips, query_stage_slips, stage_slips, swallowed_slips, title_slips
+from tools.lint.words import (
+    constant_slips, mixed_slips, query_stage_slips, stage_slips, swallowed_slips, title_slips, unexpanded_slips
+)
 from tools.second.listings import read_file_items
 from tools.second.models import Axiom, Model
 from tools.second.queries import read_query

@@ -1,14 +1,17 @@
 """Words in a model that a reader of it would take for others: axioms that constants decide, two of one title, and ones that a
-comment swallows; predicates of virtual addresses where the others are of physical ones; and stages that no axiom names, and ones
-whose place is named in two ways, or once as nowhere else."""
+comment swallows; predicates of virtual addresses where the others are of physical ones; stages that no axiom names, and ones
+whose place is named in two ways, or once as nowhere else; and macros that nothing expands, with their name faults, which no
+refusal tells."""
 import re
 from collections import defaultdict
 from typing import Iterable, Iterator
 
+from tools.lint.asked import Asked
 from tools.lint.formulas import Constants, written
 from tools.lint.slips import Slip, counted, owner, word_of
 from tools.second.models import Formula, Model, NodeTerm, Number, Static
-from tools.second.scopes import below, nodes_of
+from tools.second.scopes import NameJudge, Scope, below, nodes_of
+from tools.second.tokens import Fault
 from tools.texts.memory_models import comments
 from tools.texts.naming import line_and_column
 
@@ -143,3 +146,24 @@ def two_places(path: str, here: list[NodeTerm], others: list[NodeTerm]) -> Slip:
     there = f"{written(others[0])} in {counted(len(others), 'place')}"
     sentence = f"{written(here[0])} here{more}, and {there}: where the core is another, these are two nodes"
     return Slip(path, stage.at, "two-places", stage.name, sentence)
+
+
+class MacroJudge(NameJudge):
+    """Judges the names of a macro by itself: what it expands is judged there, and no number of variables is too many."""
+
+    def body(self, formula: Formula, scope: Scope) -> Iterator[Fault]:
+        return iter(())
+
+    def too_many(self, scope: Scope, at: int) -> Iterator[Fault]:
+        return iter(())
+
+
+def unexpanded_slips(path: str, model: Model, asked: Asked) -> Iterator[Slip]:
+    """The macros that no axiom and no query expands, each with its name faults behind it."""
+    judge = MacroJudge(model)
+    for name, macro in model.macros.items():
+        if name not in asked.expanded:
+            yield Slip(path, macro.name.at, "unexpanded", name, f"no axiom expands macro {name}")
+            for fault in judge.faults(macro.body, tuple((parameter.name, None) for parameter in macro.parameters)):
+                sentence = f"in macro {name}, which no axiom expands: {fault.said}"
+                yield Slip(path, fault.place, fault.word, name, sentence)

@@ -12,10 +12,9 @@ from typing import Iterator
 
 from tools import TOP
 from tools.ending import SIGNALS
-from tools.mend.asking import Questions, Unanswered, answer_of
+from tools.mend.asking import Questions, SuiteTests, Unanswered, is_shown
 from tools.mend.copies import Outcome, free_name, program_of
 from tools.mend.orders import Found, Search
-from tools.mend.suite_tests import SuiteTests
 from tools.mend.telling import MOST_CHOICES, MOST_SHOWN, MOST_STRONGER, TITLE, Telling
 from tools.second.listings import ENDING
 from tools.second.scopes import read_model
@@ -33,8 +32,8 @@ from tools.texts.wrapping import width_of_output, within
 
 # how long one call of the program may take, in seconds
 SECONDS = 60.0
-# of `check`, and those of a call without an answer that stand for themselves
-SHOWN, NOT_SHOWN, REFUSED, NO_MEMORY = 0, 1, 3, 7
+# of a call without an answer, those that stand for themselves
+REFUSED, NO_MEMORY = 3, 7
 
 
 class Said(Exception):
@@ -48,14 +47,13 @@ class Said(Exception):
 
 def checked(checker: Checker, model_path: str, test_path: str) -> None:
     """Has the program check the files; what is no verdict, and that nothing is to mend, is all that is said."""
-    word = "check86" if test_path.endswith(ENDING) else "check"
     try:
-        said = answer_of(checker, word, model_path, test_path, statuses=(SHOWN, NOT_SHOWN))
+        is_there = is_shown(checker, "check86" if test_path.endswith(ENDING) else "check", model_path, test_path)
     except Unanswered as unanswered:
         if unanswered.status in (REFUSED, NO_MEMORY):
             raise Said(unanswered.status, unanswered.said.decode("ascii", "replace")) from unanswered
         raise
-    if said.startswith(b"unobservable"):
+    if not is_there:
         raise Said(1, "The model does not show this outcome: there is nothing to mend. `core` says what forbids it.\n")
 
 
