@@ -11,9 +11,8 @@ from tools.second.lifted import LIFTED
 from tools.second.models import Axiom, Model
 from tools.second.queries import read_query
 from tools.second.scopes import read_model
-from tools.texts.address_names import case_with_names
 from tools.texts.answers import Answer, Asked, Core, Part, is_answer, model_of, read_answer
-from tools.texts.naming import Names, line_and_column
+from tools.texts.naming import Names, case_with_names, line_and_column
 from tools.texts.origins import TracedPositions
 from tools.texts.quoting import shown
 from tools.texts.wrapping import width_of_output, within

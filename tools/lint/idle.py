@@ -26,7 +26,7 @@ class Idle:
         self.guards = Guards()
         self.axioms = axioms
         # most axioms are not looked at again for each test
-        self.by_form = ByForm(model.macros)
+        self.by_form = ByForm(model.macros, False)
         self.steps = {True: Steps(STEPS), False: Steps(STEPS)}
 
     def truths(self, cases: list[Case], steps: Steps) -> list[Truth]:

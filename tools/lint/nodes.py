@@ -229,9 +229,7 @@ class NodeUses(Walk):
             return joined(formula.universal is wanted, bodies)
         if isinstance(formula, Expand):
             return self.expansion(formula, env, wanted, in_premise)
-        if isinstance(formula, Nodes):
-            return joined(wanted, (self.node_use(term, env, wanted, in_premise) for term in formula.members))
-        return joined(wanted, (self.edge_use(edge, env, wanted) for edge in formula.members))
+        return joined(wanted, (self.use_of(member, env, wanted, in_premise) for member in formula.members))
 
     def expansion(self, formula: Expand, env: Environment, wanted: bool, in_premise: bool) -> Use | bool:
         """The use of a macro's body, found once for the same values."""
@@ -242,19 +240,15 @@ class NodeUses(Walk):
             self.known[key] = self.use(*self.body_of(formula, env), wanted, in_premise)
         return self.known[key]
 
-    def node_use(self, term: NodeTerm, env: Environment, wanted: bool, in_premise: bool) -> Use:
-        """The use of one node."""
-        bit = self.bit_of(term, env)
+    def use_of(self, member: NodeTerm | EdgeTerm, env: Environment, wanted: bool, in_premise: bool) -> Use:
+        """The use of one node, or of one edge, whose absence denies none of its nodes."""
+        if isinstance(member, EdgeTerm):
+            bits = self.bit_of(member.start, env) | self.bit_of(member.end, env)
+            return Use(given=bits, asked=bits) if wanted else Use(asked=bits, is_positive=False)
+        bit = self.bit_of(member, env)
         if wanted:
             return Use(given=bit, asked=bit)
-        if in_premise:
-            return Use(asked=bit, bare=bit, is_positive=False)
-        return Use(asked=bit, denied=bit, is_positive=False)
-
-    def edge_use(self, edge: EdgeTerm, env: Environment, wanted: bool) -> Use:
-        """The use of one edge. The absence of an edge denies none of its nodes."""
-        bits = self.bit_of(edge.start, env) | self.bit_of(edge.end, env)
-        return Use(given=bits, asked=bits) if wanted else Use(asked=bits, is_positive=False)
+        return Use(asked=bit, bare=bit, is_positive=False) if in_premise else Use(asked=bit, denied=bit, is_positive=False)
 
     def bit_of(self, term: NodeTerm, env: Environment) -> int:
         """The bit of the node that a term names."""

@@ -104,3 +104,6 @@ def page_slips(test: TestFile) -> Iterator[Slip]:
             if known != item.op.pa and EntryAddress(item.op.va.tag) not in spoken:
                 sentence = f"VA {item.op.va.tag} {item.op.va.index} stands beside {known} in an earlier micro-op"
                 yield Slip(test.path, item.pa_at, "two-pages", "", sentence)
+
+
+OF_TEST = order_slips, thread_slips, fence_slips, value_slips, initial_write_slips, address_slips, page_slips

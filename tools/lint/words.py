@@ -7,7 +7,7 @@ from collections import defaultdict
 from typing import Iterable, Iterator
 
 from tools.lint.asked import Asked
-from tools.lint.formulas import Constants, written
+from tools.lint.formulas import ByForm, written
 from tools.lint.slips import Slip, counted, owner, word_of
 from tools.second.models import Formula, Model, NodeTerm, Number, Static
 from tools.second.scopes import NameJudge, Scope, below, nodes_of
@@ -26,10 +26,10 @@ MANY = 3
 Mentions = tuple[list[NodeTerm], list[NodeTerm]]
 
 
-def constant_slips(path: str, model: Model, constants: Constants) -> Iterator[Slip]:
+def constant_slips(path: str, model: Model, constants: ByForm) -> Iterator[Slip]:
     """Axioms that are one and the same of every test."""
     for axiom in model.axioms:
-        truth = constants.of(axiom.body)
+        truth = constants.truth(axiom.body)
         if truth is not None:
             sentence = f'axiom "{axiom.title}" is {truth} of every test by its constants alone'
             yield Slip(path, axiom.at, "constant", word_of(axiom.title), sentence)
@@ -90,7 +90,7 @@ def address_predicates(formula: Formula) -> list[Static]:
 
 def pair_of(formula: Static) -> frozenset[str]:
     """The names of the two micro-ops."""
-    return frozenset(map(written, formula.args))
+    return frozenset(written(arg) for arg in formula.args)
 
 
 def mentions_in(formulas: Iterable[Formula]) -> defaultdict[str, Mentions]:

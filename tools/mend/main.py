@@ -24,10 +24,9 @@ from tools.suite.calling import Calls, side_by_side
 from tools.suite.pairs import Checker
 from tools.suite.programs import checker_of
 from tools.suite.refusing import Refusal
-from tools.texts.address_names import case_with_names
 from tools.texts.contents import Unreadable, contents
 from tools.texts.memory_models import memory_model_of
-from tools.texts.naming import Names
+from tools.texts.naming import Names, case_with_names
 from tools.texts.wrapping import width_of_output, within
 
 # how long one call of the program may take, in seconds
