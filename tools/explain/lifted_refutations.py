@@ -2,7 +2,7 @@
 from dataclasses import dataclass, replace
 from typing import Iterator, Sequence
 
-from tools.explain.branches import Branches, Waiting
+from tools.explain.branches import Branches
 from tools.explain.clashes import clash_heading, clash_reason
 from tools.lint.formulas import written
 from tools.second.cases import Case
@@ -95,7 +95,7 @@ class LiftedRefutation(Branches[Noted]):
         closed = closed_side(leaves)
         if closed is None:
             yield f"{self.indent()}{step}: {self.origin(above)}"
-            yield from self.open_branches(step, left, right, len(self.facts))
+            yield from self.open_branches(step, left, right, f"split {len(self.facts)}", len(self.facts))
             return
         reason = self.reason(sides[closed][0], leaves[closed])
         other, other_at = sides[1 - closed]
@@ -107,9 +107,6 @@ class LiftedRefutation(Branches[Noted]):
 
     def take_back(self, mark: int) -> None:
         del self.facts[mark:]
-
-    def split_of(self, waiting: Waiting[Noted]) -> str:
-        return f"split {waiting.mark}"
 
     def sides(self, above: Noted) -> tuple[Noted, Noted]:
         """Both sides of a fact."""

@@ -3,7 +3,7 @@ from dataclasses import dataclass
 from itertools import islice
 from typing import Iterator
 
-from tools.explain.branches import Branches, Waiting
+from tools.explain.branches import Branches
 from tools.explain.clashes import clash_heading, clash_reason, is_long
 from tools.second.judging import VERSION_2
 from tools.second.positions import Clash, Leaf, Signed
@@ -67,7 +67,8 @@ class Refutation(Branches[Side]):
             self.here = left_at
         else:
             yield f"{self.indent()}{step}: {self.names.origin(self.origin_of(step))}"
-            yield from self.open_branches(step, left, right, len(self.facts))
+            position, is_denied = right[-1]
+            yield from self.open_branches(step, left, right, f"split {'~' if is_denied else ''}{position}", len(self.facts))
 
     def closed_side(self, left_at: int, right_at: int) -> str | None:
         """The side of a split that is closed by its first step. Where both are it is the one that is closed by fewer
@@ -106,10 +107,6 @@ class Refutation(Branches[Side]):
             yield f"{self.indent()}{word}: {clash_heading(self.names, word, facts)}"
         yield from (f"{self.indent()}  {self.fact_line(fact)}" for fact in facts)
         yield from self.next_branch()
-
-    def split_of(self, waiting: Waiting[Side]) -> str:
-        position, is_denied = waiting.side[-1]
-        return f"split {'~' if is_denied else ''}{position}"
 
     def origin_of(self, step: str) -> Origin | None:
         """Where the position that a step splits comes from."""

@@ -34,7 +34,7 @@ class Walk(Meaning):
 
     def is_so(self, formula: Static, env: Environment) -> bool:
         self.steps.take()
-        return super().is_so(formula, env)
+        return Meaning.is_so(self, formula, env)
 
 
 class Truth(Walk):

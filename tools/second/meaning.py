@@ -78,8 +78,9 @@ class Meaning:
     def is_so(self, formula: Static, env: Environment) -> bool:
         """Whether a predicate of the table holds."""
         takes, row = PREDICATES[formula.predicate.name]
-        plain = (arg.name if kind == PLAIN and isinstance(arg, Word) else value(arg, env) for kind, arg in zip(takes, formula.args))
-        return row(self.case, *plain)
+        args = zip(takes, formula.args)
+        values = [it.value if isinstance(it, Number) else it.name if kind == PLAIN else env[it.name] for kind, it in args]
+        return row(self.case, *values)
 
     def values(self, formula: Quantified) -> range:
         """What the variable of a quantifier may be."""
