@@ -555,19 +555,16 @@ class Slips(Cases):
     """What lint says of small files."""
 
     def test_slips(self) -> None:
-        of_right = (ORDERS, IDLE, NODES, NAMES, PLACES, ARROWS, EDGES, COUNTS, QUERIES, PARTS, TEXTS, ADDRESSES, OF_TESTS, MORE)
+        of_right = (
+            ORDERS, IDLE, NODES, NAMES, PLACES, ARROWS, EDGES, COUNTS, QUERIES, PARTS, NEW_PREDICATES, TEXTS, ADDRESSES, OF_TESTS, MORE
+        )
+        # predicates of which lint has no words of its own, and is told by the table what they say
+        PREDICATES["OtherCore"] = of_pair(lambda i, j: i.core != j.core)
+        PREDICATES["Titled"] = (MICROOP,), lambda case, i: bool(case.title)
         for base, table in [*((RIGHT, it) for it in of_right), ("", WHOLE)]:
             for row in [*table, *map(as_meant, (it for it in table if it.meant is not None))]:
                 if self.is_wanted(row.name):
                     self.judge_row(row, base)
-
-    def test_new_predicates(self) -> None:
-        """Predicates of which lint has no words of its own, and is told by the table what they say."""
-        PREDICATES["OtherCore"] = of_pair(lambda i, j: i.core != j.core)
-        PREDICATES["Titled"] = (MICROOP,), lambda case, i: bool(case.title)
-        for row in NEW_PREDICATES:
-            if self.is_wanted(row.name):
-                self.judge_row(row, RIGHT)
 
     def test_what_is_given(self) -> None:
         with replaced(linting_nodes, "STEPS", 2_000):

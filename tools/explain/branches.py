@@ -14,12 +14,13 @@ Side = TypeVar("Side")
 
 @dataclass(frozen=True)
 class Waiting(Generic[Side]):
-    """A right side whose left one is open: where its branch begins, its name, what it asserts, how many facts stand before
-    it, the level of the split."""
+    """A right side whose left one is open: where its branch begins, its name, what it asserts, the step that splits that, how
+    many facts stand before it, the level of the split."""
 
     step: int
     name: str
     side: Side
+    split: str
     mark: int
     level: int
 
@@ -56,10 +57,6 @@ class Branches(ABC, Generic[Side]):
     def take_back(self, mark: int) -> None:
         """Forgets the facts of the present branch behind so many."""
 
-    @abstractmethod
-    def split_of(self, waiting: Waiting[Side]) -> str:
-        """The step that splits what a side asserts."""
-
     def under(self, heading: str) -> Iterator[str]:
         """What closes many branches, a heading, and the steps."""
         said = list(self.walk())
@@ -72,10 +69,11 @@ class Branches(ABC, Generic[Side]):
         """What stands before a line."""
         return indent(self.level, self.width)
 
-    def open_branches(self, step: str, left: Side, right: Side, mark: int) -> Iterator[str]:
-        """Goes on with the left side of the present step, which splits, and has the right one wait."""
+    def open_branches(self, step: str, left: Side, right: Side, split: str, mark: int) -> Iterator[str]:
+        """Goes on with the left side of the present step, which splits, and has the right one wait, with the step that splits
+        it in turn."""
         right_at = self.ends[self.here + 1]
-        self.waiting.append(Waiting(right_at, f"right of {step}", right, mark, self.level))
+        self.waiting.append(Waiting(right_at, f"right of {step}", right, split, mark, self.level))
         yield from self.begin(f"left of {step}", left)
         self.level += 1
         self.here += 1
@@ -90,5 +88,5 @@ class Branches(ABC, Generic[Side]):
         self.level, self.here = waiting.level, waiting.step
         yield from self.begin(waiting.name, waiting.side)
         # what splits the right side itself goes on with the choices of one formula
-        if self.steps[self.here] != self.split_of(waiting):
+        if self.steps[self.here] != waiting.split:
             self.level += 1

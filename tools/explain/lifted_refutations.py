@@ -2,12 +2,13 @@
 from dataclasses import dataclass, replace
 from typing import Iterator, Sequence
 
-from tools.explain.branches import Branches, Waiting
+from tools.explain.branches import Branches
 from tools.explain.clashes import clash_heading, clash_reason
+from tools.lint.formulas import written
 from tools.second.cases import Case
 from tools.second.grounding import Literal
 from tools.second.lifted import ADDING, Fact, LiftedJudge, Said
-from tools.second.models import Arg, Binary, Edges, Expand, Formula, Model, NodeTerm, Nodes, Not, Number, Quantified, Static
+from tools.second.models import Binary, Edges, Expand, Formula, Model, NodeTerm, Nodes, Not, Number, Quantified, Static
 from tools.texts.naming import Fact as NamedFact
 from tools.texts.naming import Names
 from tools.texts.origins import Origin, Taken, first_place
@@ -94,7 +95,7 @@ class LiftedRefutation(Branches[Noted]):
         closed = closed_side(leaves)
         if closed is None:
             yield f"{self.indent()}{step}: {self.origin(above)}"
-            yield from self.open_branches(step, left, right, len(self.facts))
+            yield from self.open_branches(step, left, right, f"split {len(self.facts)}", len(self.facts))
             return
         reason = self.reason(sides[closed][0], leaves[closed])
         other, other_at = sides[1 - closed]
@@ -106,9 +107,6 @@ class LiftedRefutation(Branches[Noted]):
 
     def take_back(self, mark: int) -> None:
         del self.facts[mark:]
-
-    def split_of(self, waiting: Waiting[Noted]) -> str:
-        return f"split {waiting.mark}"
 
     def sides(self, above: Noted) -> tuple[Noted, Noted]:
         """Both sides of a fact."""
@@ -216,7 +214,7 @@ class LiftedRefutation(Branches[Noted]):
             origin = replace(origin, taken=(*origin.taken, taken))
         elif isinstance(formula, Expand):
             parameters = [parameter.name for parameter in self.rules.macros[formula.macro.name].parameters]
-            values = {**values, **dict(zip(parameters, [self.arg(arg, above) for arg in formula.args]))}
+            values = {**values, **dict(zip(parameters, [written(arg, values) for arg in formula.args]))}
             origin = replace(origin, macro=formula.macro.name)
         return Noted(part, values, above.axiom, replace(origin, at=first_place(part.formula)))
 
@@ -265,18 +263,13 @@ class LiftedRefutation(Branches[Noted]):
         label = f'"{origin.label}" ' if origin.label else ""
         return f"{label}from axiom {noted.axiom}{given}{macro}"
 
-    def arg(self, arg: Arg, noted: Noted) -> str:
-        """An argument: a core, or a variable by its value where it has one."""
-        return str(arg.value) if isinstance(arg, Number) else noted.values.get(arg.name, arg.name)
-
     def term(self, term: NodeTerm, noted: Noted) -> str:
         """A node where its variables have values, and otherwise its term."""
         assert isinstance(noted.fact, Said)
         names = [term.op.name] + ([] if term.core is None or isinstance(term.core, Number) else [term.core.name])
         if all(name in noted.values for name in names):
             return self.names.node(self.rules.node(term, noted.fact.env))
-        stage = term.stage.name if term.core is None else f"({self.arg(term.core, noted)}, {term.stage.name})"
-        return f"({self.arg(term.op, noted)}, {stage})"
+        return written(term, noted.values)
 
     def formula(self, formula: Formula, noted: Noted, level: int = 0, is_last: bool = True) -> str:
         """A formula with the values of its variables in place of them, in brackets where something looser stands
@@ -293,10 +286,8 @@ class LiftedRefutation(Branches[Noted]):
                 hidden = replace(noted, values={one: value for one, value in noted.values.items() if one != name})
                 text = words + self.formula(body, hidden)
                 return text if is_last else f"({text})"
-            case Expand(_, macro, args):
-                return " ".join(["ExpandMacro", macro.name, *(self.arg(arg, noted) for arg in args)])
-            case Static(predicate, args):
-                return " ".join([predicate.name, *(self.arg(arg, noted) for arg in args)])
+            case Expand() | Static():
+                return written(formula, noted.values)
             case Nodes(members):
                 parts = [f"{self.term(term, noted)} is there" for term in members[:MOST_MEMBERS]]
             case Edges(members):

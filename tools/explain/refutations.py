@@ -1,11 +1,12 @@
 """A refutation in the words of the model. The text has to be one that a judge accepted."""
 from dataclasses import dataclass
+from itertools import islice
 from typing import Iterator
 
-from tools.explain.branches import Branches, Waiting
+from tools.explain.branches import Branches
 from tools.explain.clashes import clash_heading, clash_reason, is_long
 from tools.second.judging import VERSION_2
-from tools.second.positions import Inner, Leaf, Signed
+from tools.second.positions import Clash, Leaf, Signed
 from tools.texts.naming import Fact, Names
 from tools.texts.origins import Origin, TracedPositions
 from tools.texts.wrapping import GAP
@@ -30,8 +31,8 @@ class Refutation(Branches[Side]):
     """The lines of a refutation. What is asserted on the present branch is kept with what asserted it."""
 
     def __init__(self, names: Names, positions: TracedPositions, lines: list[str], width: int) -> None:
-        self.has_signs = lines[:1] == [VERSION_2]
-        super().__init__(names, lines[1:] if self.has_signs else lines, width)
+        self.version = 2 if lines[:1] == [VERSION_2] else 1
+        super().__init__(names, lines[self.version - 1 :], width)
         self.positions = positions
         # the facts in the order in which they came
         self.facts: dict[Fact, Source] = {}
@@ -55,7 +56,7 @@ class Refutation(Branches[Side]):
     def split(self) -> Iterator[str]:
         """A split: one line where a side of it closes at once."""
         step = self.steps[self.here]
-        left, right = self.sides_of(step.split(" ")[1])
+        left, right = self.positions.sides(choice_of(step), self.version)
         left_at, right_at = self.here + 1, self.ends[self.here + 1]
         closed = self.closed_side(left_at, right_at)
         if closed == "left":
@@ -66,7 +67,8 @@ class Refutation(Branches[Side]):
             self.here = left_at
         else:
             yield f"{self.indent()}{step}: {self.names.origin(self.origin_of(step))}"
-            yield from self.open_branches(step, left, right, len(self.facts))
+            position, is_denied = right[-1]
+            yield from self.open_branches(step, left, right, f"split {'~' if is_denied else ''}{position}", len(self.facts))
 
     def closed_side(self, left_at: int, right_at: int) -> str | None:
         """The side of a split that is closed by its first step. Where both are it is the one that is closed by fewer
@@ -106,35 +108,18 @@ class Refutation(Branches[Side]):
         yield from (f"{self.indent()}  {self.fact_line(fact)}" for fact in facts)
         yield from self.next_branch()
 
-    def split_of(self, waiting: Waiting[Side]) -> str:
-        position, is_denied = waiting.side[-1]
-        return f"split {'~' if is_denied else ''}{position}"
-
     def origin_of(self, step: str) -> Origin | None:
         """Where the position that a step splits comes from."""
-        return self.positions.origins[int(step.split(" ")[1].lstrip("~"))]
-
-    def sides_of(self, word: str) -> tuple[Side, Side]:
-        """The left and the right side of a split. In version 2 the right one has, too, that the left one is false."""
-        is_denied = word.startswith("~")
-        row = self.positions.rows[int(word.lstrip("~"))]
-        assert isinstance(row, Inner)
-        not_left = [(row.left, not is_denied)] if self.has_signs else []
-        return [(row.left, is_denied)], [*not_left, (row.right, is_denied)]
+        return self.positions.origins[choice_of(step)[0]]
 
     # the facts of the present branch
 
     def add(self, side: Side, name: str) -> None:
         """Asserts what a side of this name asserts."""
-        waiting = side[::-1]
-        while waiting:
-            here, is_denied = waiting.pop()
+        for here, is_denied in self.positions.members(side):
             row = self.positions.rows[here]
             if isinstance(row, Leaf):
-                fact = self.fact(row, is_denied)
-                self.facts.setdefault(fact, Source(here, name))
-            elif row.is_disjunction is is_denied:
-                waiting += [(row.right, is_denied), (row.left, is_denied)]
+                self.facts.setdefault(self.fact(row, is_denied), Source(here, name))
 
     def take_back(self, mark: int) -> None:
         while len(self.facts) > mark:
@@ -147,13 +132,12 @@ class Refutation(Branches[Side]):
 
     def clash(self, word: str, written: list[str]) -> list[Fact]:
         """The facts that close a branch; the denied one of a path and of an absent node last."""
-        nodes = [node for node in map(self.names.nodes.read, written) if node is not None]
+        facts = [self.fact(it, False) for it in Clash(word, list(map(self.positions.words.index, written))).literals]
         if word == "absent":
-            there = next(fact for fact in self.facts if fact[2] and nodes[0] in fact[:2])
-            return [there, (nodes[0], None, False)]
-        chain = nodes + nodes[:1] if word == "cycle" else nodes
-        edges: list[Fact] = [(start, end, True) for start, end in zip(chain, chain[1:])]
-        return edges if word == "cycle" else [*edges, (nodes[0], nodes[-1], False)]
+            # an edge of the node says that it is there, too
+            there = next(fact for fact in self.facts if fact[2] and facts[0][0] in fact[:2])
+            return [there, facts[0]]
+        return facts
 
     def unknown(self, side: Side) -> Side:
         """What of a side is no fact of the present branch; all of it where nothing else is."""
@@ -176,20 +160,13 @@ class Refutation(Branches[Side]):
         if isinstance(row, Leaf):
             return self.names.fact(self.fact(row, is_denied))
         is_or = row.is_disjunction is not is_denied
-        parts: list[str] = []
-        waiting = [row.right, row.left]
-        while waiting:
-            here = waiting.pop()
-            member = self.positions.rows[here]
-            if len(parts) == MOST_PARTS:
-                return (" or " if is_or else " and ").join(parts) + ", and more of this kind"
-            if isinstance(member, Leaf):
-                parts.append(self.names.fact(self.fact(member, is_denied)))
-            elif (member.is_disjunction is not is_denied) is is_or:
-                waiting += [member.right, member.left]
-            else:
-                parts.append(f"({self.said(here, is_denied)})")
-        return (" or " if is_or else " and ").join(parts)
+        members = self.positions.members([(position, is_denied)], is_or)
+        parts = [
+            self.said(*it) if isinstance(self.positions.rows[it[0]], Leaf) else f"({self.said(*it)})"
+            for it in islice(members, MOST_PARTS)
+        ]
+        more = ", and more of this kind" if next(members, None) is not None else ""
+        return (" or " if is_or else " and ").join(parts) + more
 
     def source(self, fact: Fact) -> str:
         """Where a fact of the present branch comes from."""
@@ -218,3 +195,9 @@ class Refutation(Branches[Side]):
     def fact_line(self, fact: Fact) -> str:
         """A fact with where it comes from."""
         return f"{self.names.fact(fact)}{GAP}{self.source(fact)}"
+
+
+def choice_of(step: str) -> Signed:
+    """The choice that a step splits."""
+    word = step.removeprefix("split ")
+    return int(word.lstrip("~")), word.startswith("~")

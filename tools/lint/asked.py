@@ -3,8 +3,8 @@ from typing import Iterator, Sequence
 
 from tools.lint.slips import Meant, Slip, TestFile, allowed, unless_meant
 from tools.second.cases import DependencyItem, Entry, OpItem, ValueItem
-from tools.second.models import Expand, Formula, Model, Number, Static
-from tools.second.scopes import parts
+from tools.second.models import Formula, Model, Number, Static
+from tools.second.scopes import below
 from tools.texts.quoting import shown
 
 
@@ -32,14 +32,8 @@ class Asked:
 
     def follow(self, formula: Formula) -> None:
         """Takes in a formula; each macro is followed once."""
-        waiting = [formula]
-        while waiting:
-            part = waiting.pop()
-            waiting += reversed(parts(part))
-            if isinstance(part, Expand) and part.macro.name not in self.expanded:
-                self.expanded.add(part.macro.name)
-                waiting.append(self.macros[part.macro.name].body)
-            elif isinstance(part, Static):
+        for part in below(formula, self.macros, self.expanded):
+            if isinstance(part, Static):
                 self.predicates.add(part.predicate.name)
                 for name, table in (("AccessType", self.types), ("HasDependency", self.kinds)):
                     if part.predicate.name == name and not isinstance(part.args[0], Number):

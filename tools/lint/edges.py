@@ -1,9 +1,9 @@
 """Edges whose absence is asked for, which no order between the two nodes also meets."""
 from typing import Iterator, NamedTuple
 
-from tools.lint.formulas import below
 from tools.lint.slips import Slip, owner
 from tools.second.models import Binary, Edges, Expand, Formula, Model, Not, Quantified, Static, Word
+from tools.second.scopes import below
 
 # the shipped test on which 'no write stands between' and 'each write is before or behind both' differ
 BETWEEN_TEST = "examples/tests/SB+fences+old.test"
@@ -21,18 +21,19 @@ class Denied(NamedTuple):
     end: str = ""
 
 
-def edge_slips(path: str, model: Model) -> Iterator[Slip]:
-    """The places of such edges in axioms, macros followed. Their name is that of the macro, or the axiom's title."""
+def edge_slips(path: str, model: Model, query: Formula | None = None) -> Iterator[Slip]:
+    """The places of such edges in axioms, macros followed: their name is that of the macro, or the axiom's title. Of a query those in
+    its own text: what its macros ask for stands in the model, and is not told again."""
     denials = Denials(model)
-    denied = frozenset[Denied]().union(*(denials.of(axiom.body, True) for axiom in model.axioms))
-    for item in model.items:
-        yield from denials.slips(path, item.body, owner(item), denied)
-
-
-def query_edge_slips(path: str, model: Model, formula: Formula) -> Iterator[Slip]:
-    """The places of such edges in a query. What its macros ask for stands in the model, and is not told again."""
-    denials = Denials(model)
-    yield from denials.slips(path, formula, "query", denials.of(formula, True))
+    asked, texts = [axiom.body for axiom in model.axioms], [(item.body, owner(item)) for item in model.items]
+    if query is not None:
+        asked, texts = [query], [(query, "query")]
+    lists = {one.edges for formula in asked for one in denials.of(formula, True)}
+    for formula, name in texts:
+        for part in below(formula):
+            if isinstance(part, Edges) and id(part) in lists:
+                sentence = f"{ABSENCE}, {BETWEEN}" if id(part) in denials.between else ABSENCE
+                yield Slip(path, part.at, "no-order", name, sentence)
 
 
 class Denials:
@@ -43,14 +44,6 @@ class Denials:
         self.known: dict[tuple[str, bool], frozenset[Denied]] = {}
         # lists of which several say that no write stands between two nodes
         self.between: set[int | None] = set()
-
-    def slips(self, path: str, formula: Formula, name: str, denied: frozenset[Denied]) -> Iterator[Slip]:
-        """A line for each place in a text, macros not followed."""
-        lists = {one.edges for one in denied}
-        for part in below(formula):
-            if isinstance(part, Edges) and id(part) in lists:
-                sentence = f"{ABSENCE}, {BETWEEN}" if id(part) in self.between else ABSENCE
-                yield Slip(path, part.at, "no-order", name, sentence)
 
     def of(self, formula: Formula, wanted: bool) -> frozenset[Denied]:
         """What a formula denies."""

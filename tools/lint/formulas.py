@@ -1,26 +1,10 @@
-"""What kinds of slips share: what stands in a formula, how it is written, and what its form alone decides."""
+"""What kinds of slips share: the names in a formula, how it is written, and what its form alone decides."""
 from dataclasses import fields, is_dataclass
-from typing import Iterator
+from typing import Mapping
 
-from tools.second.models import Arg, Binary, Edges, Expand, Formula, Macro, NodeTerm, Nodes, Not, Number, Quantified, Static, Word
+from tools.second.models import Arg, Binary, Expand, Formula, Macro, NodeTerm, Not, Number, Quantified, Static, Word
 from tools.second.predicates import PLAIN, PREDICATES
-from tools.second.scopes import parts
-
-
-def below(formula: Formula) -> Iterator[Formula]:
-    """A formula and what stands in it, from left to right, macros not followed."""
-    waiting = [formula]
-    while waiting:
-        here = waiting.pop()
-        yield here
-        waiting += reversed(parts(here))
-
-
-def nodes_of(formula: Formula) -> list[NodeTerm]:
-    """The nodes of a list, as they stand in it."""
-    if isinstance(formula, Edges):
-        return [node for edge in formula.members for node in (edge.start, edge.end)]
-    return list(formula.members) if isinstance(formula, Nodes) else []
+from tools.second.scopes import nodes_of
 
 
 def names_of(formula: Formula) -> frozenset[str]:
@@ -45,36 +29,41 @@ def shape(part: object) -> object:
     return type(part), *(shape(getattr(part, field.name)) for field in fields(part) if field.name not in ("at", "label"))
 
 
-def written(part: Arg | NodeTerm | Static | Expand) -> str:
-    """A part of a formula as it stands in the text."""
+def written(part: Arg | NodeTerm | Static | Expand, values: Mapping[str, str] | None = None) -> str:
+    """A part of a formula as it stands in the text, with these values in place of variables."""
     match part:
         case Number(value):
             return str(value)
         case Word(name):
-            return name
+            return (values or {}).get(name, name)
         case NodeTerm(op, None, stage):
-            return f"({op.name}, {stage.name})"
+            return f"({written(op, values)}, {stage.name})"
         case NodeTerm(op, Number() | Word() as core, stage):
-            return f"({op.name}, ({written(core)}, {stage.name}))"
+            return f"({written(op, values)}, ({written(core, values)}, {stage.name}))"
         case Static(predicate, args):
-            return " ".join(map(written, (predicate, *args)))
+            return " ".join([predicate.name, *(written(arg, values) for arg in args)])
         case Expand(_, macro, args):
-            return " ".join(["ExpandMacro", *map(written, (macro, *args))])
+            return " ".join(["ExpandMacro", macro.name, *(written(arg, values) for arg in args)])
     raise AssertionError(f"no part of a formula: {part}")
 
 
 class ByForm:
-    """What the form of a formula decides, whatever nodes and edges a world has: here, whether some test with a micro-op may
-    decide it."""
+    """What the form of a formula decides, whatever nodes and edges a world has: what True, False and empty lists decide alone, in
+    every test; or whether some test with a micro-op may decide it."""
 
-    def __init__(self, macros: dict[str, Macro]) -> None:
+    def __init__(self, macros: dict[str, Macro], of_every_test: bool) -> None:
         self.macros = macros
+        self.of_every_test = of_every_test
         self.known: dict[tuple[str, bool], bool] = {}
+
+    def truth(self, formula: Formula) -> bool | None:
+        """The truth of a formula; None where its form does not decide it."""
+        return next((truth for truth in (True, False) if self.is_sure(formula, truth)), None)
 
     def is_sure(self, formula: Formula, wanted: bool) -> bool:
         """Whether it is true, or false where it is not wanted."""
         if isinstance(formula, Static):
-            return self.is_static_sure(formula, wanted)
+            return not self.of_every_test or formula.predicate.name == str(wanted)
         if isinstance(formula, Not):
             return self.is_sure(formula.operand, not wanted)
         if isinstance(formula, Binary):
@@ -82,33 +71,11 @@ class ByForm:
             right = self.is_sure(formula.right, wanted)
             return left and right if (formula.connective == "/\\") is wanted else left or right
         if isinstance(formula, Quantified):
-            return self.is_quantified_sure(formula, wanted)
+            # over nothing `forall` is true and `exists` is false, whatever the body
+            return (not self.of_every_test or formula.universal is wanted) and self.is_sure(formula.body, wanted)
         if isinstance(formula, Expand):
             key = formula.macro.name, wanted
             if key not in self.known:
                 self.known[key] = self.is_sure(self.macros[formula.macro.name].body, wanted)
             return self.known[key]
         return wanted and not formula.members
-
-    def is_static_sure(self, _: Static, __: bool) -> bool:
-        """The same of a predicate."""
-        return True
-
-    def is_quantified_sure(self, formula: Quantified, wanted: bool) -> bool:
-        """The same of a quantifier."""
-        return self.is_sure(formula.body, wanted)
-
-
-class Constants(ByForm):
-    """What True, False and empty lists decide alone, in every test."""
-
-    def of(self, formula: Formula) -> bool | None:
-        """The truth of a formula; None where they do not decide it."""
-        return next((truth for truth in (True, False) if self.is_sure(formula, truth)), None)
-
-    def is_static_sure(self, formula: Static, wanted: bool) -> bool:
-        return formula.predicate.name == str(wanted)
-
-    def is_quantified_sure(self, formula: Quantified, wanted: bool) -> bool:
-        # over nothing `forall` is true and `exists` is false, whatever the body
-        return formula.universal is wanted and self.is_sure(formula.body, wanted)

@@ -7,7 +7,7 @@ from tools.lint.formulas import ByForm
 from tools.lint.slips import QueryFile, Slip, TestFile, word_of
 from tools.lint.truth import OutOfSteps, Steps, Truth
 from tools.second.cases import Case
-from tools.second.guards import Guards
+from tools.second.meaning import Guards
 from tools.second.models import Axiom, Binary, Formula, Model, Quantified, Static, Word
 from tools.texts.quoting import shown
 
@@ -22,16 +22,16 @@ class Idle:
 
     def __init__(self, path: str, model: Model, axioms: list[Axiom]) -> None:
         self.path = path
-        self.macros = model.macros
+        self.model = model
         self.guards = Guards()
         self.axioms = axioms
         # most axioms are not looked at again for each test
-        self.by_form = ByForm(self.macros)
+        self.by_form = ByForm(model.macros, False)
         self.steps = {True: Steps(STEPS), False: Steps(STEPS)}
 
     def truths(self, cases: list[Case], steps: Steps) -> list[Truth]:
         """What each case decides."""
-        return [Truth(self.macros, self.guards, case, steps) for case in cases]
+        return [Truth(self.model, self.guards, case, steps) for case in cases]
 
     def true_slips(self, made: list[Case], given: list[Case]) -> Iterator[Slip]:
         """Axioms that are true of each case by what it says: first of those that are made, which no test changes, and
@@ -46,7 +46,7 @@ class Idle:
         """Axioms that are false of a test by what it says. A read that a pattern leaves open says nothing."""
         if any(item.is_open for item in test.op_items):
             return
-        truth = Truth(self.macros, self.guards, test.case, self.steps[False])
+        truth = Truth(self.model, self.guards, test.case, self.steps[False])
         with suppress(OutOfSteps):
             for axiom in self.axioms:
                 may_be = not test.case.ops or self.by_form.is_sure(axiom.body, False)

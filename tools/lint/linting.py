@@ -8,28 +8,21 @@ from typing import Callable, Iterable, Iterator
 
 from tools.lint.asked import Asked, missing_names, not_asked
 from tools.lint.bindings import Bindings
-from tools.lint.edges import edge_slips, query_edge_slips
-from tools.lint.formulas import Constants
+from tools.lint.edges import edge_slips
+from tools.lint.formulas import ByForm
 from tools.lint.idle import Idle
 from tools.lint.made import ENTRY_PREDICATES, made_tests
-from tools.lint.mixed import mixed_slips
 from tools.lint.nodes import FreeNodes
-from tools.lint.order import fence_slips, order_slips, thread_slips
+from tools.lint.of_tests import OF_TEST, value_slips
 from tools.lint.parts import Parts
 from tools.lint.slips import QueryFile, Slip, TestFile, allowed, counted, grouped, unless_meant
-from tools.lint.stages import query_stage_slips, stage_slips
-from tools.lint.titles import constant_slips, swallowed_slips, title_slips
-from tools.lint.unexpanded import unexpanded_slips
-from tools.lint.values import address_slips, initial_write_slips, page_slips, value_slips
+from tools.lint.words import (
+    constant_slips, mixed_slips, query_stage_slips, stage_slips, swallowed_slips, title_slips, unexpanded_slips
+)
 from tools.second.listings import read_file_items
 from tools.second.models import Axiom, Model
 from tools.second.queries import read_query
 from tools.second.tokens import tokens
-
-# what is said of a test by itself
-OF_TEST: tuple[Callable[[TestFile], Iterator[Slip]], ...] = (
-    order_slips, thread_slips, fence_slips, value_slips, initial_write_slips, address_slips, page_slips
-)
 
 
 def read_test(path: str, text: bytes) -> TestFile:
@@ -56,10 +49,10 @@ class Linter:
         self.cases = [test.case for test in tests]
         self.made = made_tests(self.asked)
         self.has_entries = bool(self.asked.predicates & ENTRY_PREDICATES)
-        self.constants = Constants(model.macros)
+        self.constants = ByForm(model.macros, True)
         self.bindings = Bindings(path, model)
         # what constants decide is told as that
-        self.axioms = [axiom for axiom in model.axioms if self.constants.of(axiom.body) is None]
+        self.axioms = [axiom for axiom in model.axioms if self.constants.truth(axiom.body) is None]
         self.idle = Idle(path, model, self.axioms)
         self.free_nodes = FreeNodes(path, model, self.axioms, self.bindings.from_outside)
 
@@ -128,7 +121,7 @@ class Linter:
 
     def query_slips(self, query: QueryFile) -> Iterator[Slip]:
         """What is said of a query beside the model."""
-        yield from query_edge_slips(query.path, self.model, query.formula)
+        yield from edge_slips(query.path, self.model, query.formula)
         yield from self.bindings.query_slips(query.path, query.formula)
         yield from query_stage_slips(query.path, query.formula, self.asked.bodies)
         if self.made:

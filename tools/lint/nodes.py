@@ -3,24 +3,94 @@
 An axiom *gives* a node where it can't be true without it, whichever side of an `or` is taken. It *asks for* each node
 that it names. It *denies* one by `~NodeExists`, or by a premise that names it and a conclusion that more nodes and more
 order do not make true. A node that some axiom asks for, none gives and none denies is free: a world has it or not, as
-it likes.
+it likes. Which nodes an axiom may name, in any test, its places say: by their stage, their core, and the access of their
+micro-op.
 """
 from dataclasses import dataclass
-from typing import Iterable, Iterator
+from typing import Iterable, Iterator, NamedTuple
 
-from tools.lint.places import ANY, OWN, Place, Places
 from tools.lint.slips import Slip, TestFile
 from tools.lint.truth import OutOfSteps, Steps, Walk
 from tools.second.cases import Case, Op
-from tools.second.meaning import Environment, value
-from tools.second.guards import Guards
-from tools.second.models import Axiom, Binary, EdgeTerm, Expand, Formula, Model, NodeTerm, Nodes, Not, Quantified, Static
+from tools.second.meaning import Environment, Guards, Node, value
+from tools.second.models import (
+    Axiom, Binary, EdgeTerm, Expand, Formula, Macro, Model, NodeTerm, Nodes, Not, Number, Quantified, Static, Word
+)
+from tools.second.scopes import nodes_of, parts
 from tools.texts.quoting import shown
 
-Node = tuple[int, int, int]
-
+ALL = frozenset({"Read", "Write", "Fence"})
+# for the core of a place: that of the micro-op; each core of the test
+OWN, ANY = -1, -2
+# of each name the accesses that its micro-op may be
+Accesses = dict[str, frozenset[str]]
 # A model that needs more steps over all tests is not looked at further.
 STEPS = 1_500_000
+
+
+class Place(NamedTuple):
+    """The nodes of all micro-ops of one access at a stage, on their own cores, on a core of this number, or on any."""
+
+    stage: str
+    core: int
+    access: str
+
+
+class Places:
+    """The places of formulas that may expand these macros, which have these names from outside."""
+
+    def __init__(self, macros: dict[str, Macro], from_outside: dict[str, frozenset[str]]) -> None:
+        self.macros = macros
+        self.from_outside = from_outside
+        self.known: dict[tuple[object, ...], frozenset[Place]] = {}
+        self.facts: dict[tuple[str, bool], Accesses] = {}
+
+    def of(self, formula: Formula, accesses: Accesses) -> frozenset[Place]:
+        """The places of the nodes that a formula may name where these are the accesses of its names."""
+        if isinstance(formula, Binary):
+            # the right side is asked where the left one does not decide
+            left = self.left(formula.left, formula.connective != "\\/")
+            return self.of(formula.left, accesses) | self.of(formula.right, met(accesses, left))
+        if isinstance(formula, Expand):
+            names = {name: accesses[name] for name in self.from_outside[formula.macro.name]}
+            names |= {name: accesses.get(arg, ALL) for name, arg in self.bound(formula)}
+            key = formula.macro.name, frozenset(names.items())
+            if key not in self.known:
+                self.known[key] = self.of(self.macros[formula.macro.name].body, names)
+            return self.known[key]
+        if isinstance(formula, Quantified):
+            accesses = {**accesses, formula.name: ALL}
+        found = set[Place]()
+        for node in nodes_of(formula):
+            core = OWN if node.core is None else node.core.value if isinstance(node.core, Number) else ANY
+            found |= {Place(node.stage.name, core, access) for access in accesses[node.op.name]}
+        return frozenset(found).union(*(self.of(part, accesses) for part in parts(formula)))
+
+    def left(self, formula: Formula, truth: bool) -> Accesses:
+        """What micro-ops are where no test decides that a formula is otherwise than this."""
+        if isinstance(formula, Not):
+            return self.left(formula.operand, not truth)
+        if isinstance(formula, Binary) and (formula.connective == "/\\") is truth:
+            return met(self.left(formula.left, truth is not (formula.connective == "=>")), self.left(formula.right, truth))
+        if isinstance(formula, Expand):
+            key = formula.macro.name, truth
+            if key not in self.facts:
+                self.facts[key] = self.left(self.macros[formula.macro.name].body, truth)
+            return {arg: self.facts[key][name] for name, arg in self.bound(formula) if name in self.facts[key]}
+        if truth and isinstance(formula, Static):
+            access = formula.predicate.name.removeprefix("IsAny")
+            return {arg.name: frozenset({access}) for arg in formula.args if access in ALL and isinstance(arg, Word)}
+        return {}
+
+    def bound(self, formula: Expand) -> list[tuple[str, str]]:
+        """The parameters of a macro, each with the name that it stands for; it is empty for a number."""
+        args = (arg.name if isinstance(arg, Word) else "" for arg in formula.args)
+        return [(word.name, arg) for word, arg in zip(self.macros[formula.macro.name].parameters, args)]
+
+
+def met(one: Accesses, other: Accesses) -> Accesses:
+    """What both say of the names."""
+    return {**one, **other, **{name: one[name] & other[name] for name in one.keys() & other.keys()}}
 
 
 class FreeNodes:
@@ -29,10 +99,9 @@ class FreeNodes:
     def __init__(self, path: str, model: Model, axioms: list[Axiom], from_outside: dict[str, frozenset[str]]) -> None:
         self.path = path
         self.axioms = axioms
-        self.macros = model.macros
-        self.stages = {stage.name.name: stage.number.value for stage in model.stages}
+        self.model = model
         self.from_outside = from_outside
-        places = Places(self.macros, from_outside)
+        places = Places(model.macros, from_outside)
         self.places = [places.of(axiom.body, {}) for axiom in axioms]
         self.guards = Guards()
         self.steps = Steps(STEPS)
@@ -107,9 +176,9 @@ def either(left: Use, right: Use) -> Use:
 class NodeUses(Walk):
     """The uses of nodes by a model in one test. A node is known by a number, and by the term that named it first."""
 
-    def __init__(self, model: FreeNodes, case: Case, steps: Steps) -> None:
-        super().__init__(model.guards, case, steps)
-        self.model = model
+    def __init__(self, of_model: FreeNodes, case: Case, steps: Steps) -> None:
+        super().__init__(of_model.model, of_model.guards, case, steps)
+        self.of_model = of_model
         self.numbers: dict[Node, int] = {}
         self.terms: list[NodeTerm] = []
         # expansions of one macro with the same values
@@ -120,7 +189,7 @@ class NodeUses(Walk):
         whole = Use()
         # places whose nodes are given
         full: set[Place] = set()
-        for axiom, places in zip(self.model.axioms, self.model.places):
+        for axiom, places in zip(self.of_model.axioms, self.of_model.places):
             full |= {place for place in places - full if self.is_full(place, whole.given)}
             # what names no other nodes makes none free, and one that the test makes True or False asks for no node
             use = True if places <= full else self.use(axiom.body, {}, True, False)
@@ -132,7 +201,7 @@ class NodeUses(Walk):
 
     def is_full(self, place: Place, given: int) -> bool:
         """Whether each node at a place is among those that are given."""
-        stage = self.model.stages[place.stage]
+        stage = self.stages[place.stage]
         for number, op in enumerate(self.case.ops):
             cores = [op.core] if place.core == OWN else self.case.cores if place.core == ANY else [place.core]
             nodes = [(number, core, stage) for core in cores] if op.access == place.access else []
@@ -144,7 +213,7 @@ class NodeUses(Walk):
         """The use of a formula, or of its denial where it is not wanted; its truth where the test decides it. A premise
         ends at `~`."""
         if isinstance(formula, Static):
-            return self.holds(formula, env) is wanted
+            return self.is_so(formula, env) is wanted
         self.steps.take()
         if isinstance(formula, Not):
             return self.use(formula.operand, env, not wanted, False)
@@ -160,40 +229,30 @@ class NodeUses(Walk):
             return joined(formula.universal is wanted, bodies)
         if isinstance(formula, Expand):
             return self.expansion(formula, env, wanted, in_premise)
-        if isinstance(formula, Nodes):
-            return joined(wanted, (self.node_use(term, env, wanted, in_premise) for term in formula.members))
-        return joined(wanted, (self.edge_use(edge, env, wanted) for edge in formula.members))
+        return joined(wanted, (self.use_of(member, env, wanted, in_premise) for member in formula.members))
 
     def expansion(self, formula: Expand, env: Environment, wanted: bool, in_premise: bool) -> Use | bool:
         """The use of a macro's body, found once for the same values."""
-        macro = self.model.macros[formula.macro.name]
         values = tuple(value(arg, env) for arg in formula.args)
-        outside = tuple((name, env[name]) for name in sorted(self.model.from_outside[formula.macro.name]))
+        outside = tuple((name, env[name]) for name in sorted(self.of_model.from_outside[formula.macro.name]))
         key = (formula.macro.name, wanted, in_premise, values, outside)
         if key not in self.known:
-            bound = {parameter.name: number for parameter, number in zip(macro.parameters, values)}
-            self.known[key] = self.use(macro.body, {**env, **bound}, wanted, in_premise)
+            self.known[key] = self.use(*self.body_of(formula, env), wanted, in_premise)
         return self.known[key]
 
-    def node_use(self, term: NodeTerm, env: Environment, wanted: bool, in_premise: bool) -> Use:
-        """The use of one node."""
-        bit = self.bit_of(term, env)
+    def use_of(self, member: NodeTerm | EdgeTerm, env: Environment, wanted: bool, in_premise: bool) -> Use:
+        """The use of one node, or of one edge, whose absence denies none of its nodes."""
+        if isinstance(member, EdgeTerm):
+            bits = self.bit_of(member.start, env) | self.bit_of(member.end, env)
+            return Use(given=bits, asked=bits) if wanted else Use(asked=bits, is_positive=False)
+        bit = self.bit_of(member, env)
         if wanted:
             return Use(given=bit, asked=bit)
-        if in_premise:
-            return Use(asked=bit, bare=bit, is_positive=False)
-        return Use(asked=bit, denied=bit, is_positive=False)
-
-    def edge_use(self, edge: EdgeTerm, env: Environment, wanted: bool) -> Use:
-        """The use of one edge. The absence of an edge denies none of its nodes."""
-        bits = self.bit_of(edge.start, env) | self.bit_of(edge.end, env)
-        return Use(given=bits, asked=bits) if wanted else Use(asked=bits, is_positive=False)
+        return Use(asked=bit, bare=bit, is_positive=False) if in_premise else Use(asked=bit, denied=bit, is_positive=False)
 
     def bit_of(self, term: NodeTerm, env: Environment) -> int:
         """The bit of the node that a term names."""
-        op = env[term.op.name]
-        core = self.case.ops[op].core if term.core is None else value(term.core, env)
-        node = op, core, self.model.stages[term.stage.name]
+        node = self.node(term, env)
         if node not in self.numbers:
             self.numbers[node] = len(self.terms)
             self.terms.append(term)

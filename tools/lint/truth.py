@@ -3,12 +3,9 @@
 An atom over nodes and edges decides nothing, but for the empty list. So a formula is decided exactly where its ground
 tree is a constant (grounding.py), and no tree is made: what decides ends the walk.
 """
-from typing import Iterator
-
 from tools.second.cases import Case
-from tools.second.meaning import Environment, holds, value
-from tools.second.guards import Guards
-from tools.second.models import Binary, Expand, Formula, Macro, Not, Quantified, Static
+from tools.second.meaning import Environment, Guards, Meaning
+from tools.second.models import Binary, Expand, Formula, Model, Not, Quantified, Static
 
 
 class OutOfSteps(Exception):
@@ -28,41 +25,26 @@ class Steps:
         self.count -= 1
 
 
-class Walk:
+class Walk(Meaning):
     """Goes over formulas in a test, and takes a step for each predicate that it asks."""
 
-    def __init__(self, guards: Guards, case: Case, steps: Steps) -> None:
-        self.guards = guards
-        self.case = case
+    def __init__(self, model: Model, guards: Guards, case: Case, steps: Steps) -> None:
+        super().__init__(model, case, guards)
         self.steps = steps
 
-    def holds(self, formula: Static, env: Environment) -> bool:
-        """Whether a predicate holds."""
+    def is_so(self, formula: Static, env: Environment) -> bool:
         self.steps.take()
-        return holds(self.case, formula, env)
-
-    def open_values(self, formula: Quantified, env: Environment) -> Iterator[Environment]:
-        """The names with each value of a quantifier that no guard settles. The next value takes the place of the one before."""
-        guards = self.guards.of(formula)
-        inside = dict(env)
-        for number in range(len(self.case.ops)) if formula.over_microops else self.case.cores:
-            inside[formula.name] = number
-            if not any(self.holds(guard.predicate, inside) is guard.value for guard in guards):
-                yield inside
+        return Meaning.is_so(self, formula, env)
 
 
 class Truth(Walk):
-    """What a test decides of formulas that may expand these macros."""
-
-    def __init__(self, macros: dict[str, Macro], guards: Guards, case: Case, steps: Steps) -> None:
-        super().__init__(guards, case, steps)
-        self.macros = macros
+    """What a test decides of formulas that may expand the model's macros."""
 
     def is_sure(self, formula: Formula, env: Environment, wanted: bool) -> bool:
         """Whether the formula, with these names bound, is true in every world, or false in every one where it is not
         wanted."""
         if isinstance(formula, Static):
-            return self.holds(formula, env) is wanted
+            return self.is_so(formula, env) is wanted
         self.steps.take()
         if isinstance(formula, Not):
             return self.is_sure(formula.operand, env, not wanted)
@@ -75,7 +57,5 @@ class Truth(Walk):
             bodies = (self.is_sure(formula.body, inside, wanted) for inside in self.open_values(formula, env))
             return any(bodies) if decides else all(bodies)
         if isinstance(formula, Expand):
-            macro = self.macros[formula.macro.name]
-            bound = {parameter.name: value(arg, env) for parameter, arg in zip(macro.parameters, formula.args)}
-            return self.is_sure(macro.body, {**env, **bound}, wanted)
+            return self.is_sure(*self.body_of(formula, env), wanted)
         return wanted and not formula.members

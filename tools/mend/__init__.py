@@ -1,5 +1,5 @@
 """`pipecheck mend`: the order that a model lacks, of an outcome that it shows. Every verdict is the program's.
 
-copies.py writes copies of the test, asking.py asks the program of them, worlds.py reads the runs that it answers with,
-orders.py looks for the orders, relations.py and choices.py make general ones of them, and telling.py says both.
+copies.py writes copies of the test, asking.py asks the program of them and reads the runs that it answers with, orders.py looks
+for the orders, relations.py makes general ones of them, and telling.py says both.
 """

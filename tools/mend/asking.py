@@ -1,22 +1,66 @@
-"""Questions to the program, each a call: what it says of copies of a test, and of formulas on them."""
+"""Questions to the program, each a call: what it says of copies of a test, of formulas on them, and of the shipped tests. The runs
+that it answers with are graphs: which of their nodes are before which."""
 import os
 import tempfile
+from collections import Counter
+from dataclasses import dataclass
 from functools import cache
-from typing import Iterator, Sequence
+from graphlib import TopologicalSorter
+from typing import Callable, Iterable, Iterator, Sequence
 
 from tools.mend.copies import Final, Outcome, Program, text_of
-from tools.mend.worlds import Edge, World
+from tools.second.meaning import Node
 from tools.second.models import Model
 from tools.second.patterns import ENDING, value_text
 from tools.second.positions import NodeNames
-from tools.suite.allowing import Machines
+from tools.suite.allowing import Machines, Rows
 from tools.suite.calling import memory_limit
+from tools.suite.files import TEST_ENDING, File, test_file
 from tools.suite.pairs import Checker
 from tools.texts.answers import Asked, read_answer
 
+Edge = tuple[Node, Node]
 OBSERVABLE = "observable"
+# of check: observable, and not
+STATUSES = 0, 1
 # the status of a machine that does not run such tests
 NOT_RUN = 3
+
+
+class World:
+    """A run: its nodes, and all that is before another one."""
+
+    def __init__(self, read: Callable[[str], Node | None], lines: Iterable[str]) -> None:
+        self.later: dict[Node, set[Node]] = {}
+        for line in lines:
+            word, *nodes = line.split(" ")
+            known = [node for node in map(read, nodes) if node is not None]
+            if word == "node":
+                self.later.setdefault(known[0], set())
+            elif word == "edge":
+                self.later[known[0]].add(known[1])
+        # each node behind all that are later
+        for node in TopologicalSorter(self.later).static_order():
+            self.later[node] = self.later[node].union(*(self.later[end] for end in self.later[node]))
+
+    def has(self, edge: Edge) -> bool:
+        return edge[1] in self.later.get(edge[0], ())
+
+    def row(self, wanted: Iterable[Edge]) -> list[Node]:
+        """The nodes in an order that all edges keep, and many of those that are wanted: of the nodes that may come next the
+        one that most wanted edges lead from."""
+        starts = Counter(start for start, _ in wanted)
+        ends = Counter(end for _, end in wanted)
+        earlier: dict[Node, int] = Counter(end for found in self.later.values() for end in found)
+        found: list[Node] = []
+        left = set(self.later)
+        while left:
+            node = max((it for it in left if earlier[it] == 0), key=lambda it: (starts[it] - ends[it], it))
+            left.remove(node)
+            found.append(node)
+            for end in self.later[node]:
+                earlier[end] -= 1
+        return found
 
 
 class Unanswered(Exception):
@@ -144,3 +188,48 @@ def answer_of(checker: Checker, *words: str, statuses: Sequence[int] = (0,)) -> 
     if status not in statuses:
         raise Unanswered(words[0], status, said)
     return said
+
+
+def is_shown(checker: Checker, word: str, model_path: str, test_path: str) -> bool:
+    """Whether the program says to this word that the model shows the outcome."""
+    return answer_of(checker, word, model_path, test_path, statuses=STATUSES).startswith(b"observable")
+
+
+@dataclass(frozen=True)
+class Counts:
+    """How many tests a memory model allows and a model shows, and of how many of these that changes; the same of those
+    that it forbids."""
+
+    stricter: int
+    allowed: int
+    mended: int
+    bugs: int
+
+
+class SuiteTests:
+    """The shipped tests that a model shows, those that its memory model allows and those that it does not."""
+
+    def __init__(self, checker: Checker, top: str, memory_model: str, model_path: str) -> None:
+        self.checker = checker
+        rows = Rows(os.path.join(top, "examples", "memory-models.tsv"), by_name=False)
+        folder = os.path.join(top, "examples", "tests")
+        self.shown: dict[bool, list[File]] = {True: [], False: []}
+        for name in sorted(os.listdir(folder)) if os.path.isdir(folder) else []:
+            if name.endswith(TEST_ENDING):
+                test = test_file(os.path.join(folder, name))
+                is_allowed = rows.allowed(memory_model, test)
+                if is_allowed is not None and self.is_shown(model_path, test):
+                    self.shown[is_allowed].append(test)
+
+    @property
+    def is_known(self) -> bool:
+        """Whether there is a test that the memory model says something of, and that the model shows."""
+        return any(self.shown.values())
+
+    def is_shown(self, model_path: str, test: File) -> bool:
+        return is_shown(self.checker, "check", model_path, test.path)
+
+    def counts(self, model_path: str) -> Counts:
+        """What a model with one axiom more changes."""
+        gone = {it: sum(not self.is_shown(model_path, test) for test in tests) for it, tests in self.shown.items()}
+        return Counts(gone[True], len(self.shown[True]), gone[False], len(self.shown[False]))

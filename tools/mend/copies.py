@@ -7,7 +7,7 @@ from math import prod
 from typing import Iterator
 
 from tools.second.cases import Address, Case, Entry, EntryAddress, Value
-from tools.second.patterns import values_at
+from tools.second.patterns import Pattern, values_at, written_at
 from tools.texts.writing_tests import address_text, op_text
 
 # how many outcomes of a program are looked at, and how many final values among them
@@ -27,13 +27,10 @@ class Outcome:
 
 
 @dataclass(frozen=True)
-class Program:
-    """A test without its outcome: the reads that are left open, by their places; what each may get; and what the addresses
-    may have at the end of which the test states that."""
+class Program(Pattern):
+    """A test without its outcome, whose reads are left open; and what the addresses may have at the end of which the test states
+    that."""
 
-    case: Case
-    opens: tuple[int, ...]
-    choices: tuple[tuple[Value, ...], ...]
     finals: tuple[Final, ...]
 
     @property
@@ -46,15 +43,13 @@ class Program:
         return (Outcome(reads, final) for reads in product(*self.choices))
 
     def case_of(self, outcome: Outcome) -> Case:
-        ops = self.case.ops[:]
-        for place, value in zip(self.opens, outcome.reads):
-            ops[place] = replace(ops[place], value=value)
-        return replace(self.case, ops=ops, final=dict(outcome.final))
+        return replace(self.row_case(outcome.reads), final=dict(outcome.final))
 
 
 def program_of(case: Case) -> Program:
     """The program of a test. Of a large one fewer reads are open."""
-    addresses = {address: final_values(case, address) for address in case.final}
+    # what an address may have at the end: the values of its writes, or without any the one at the start
+    addresses = {it: dict.fromkeys(written_at(case, it) or [case.initial_at(it)]) for it in case.final}
     finals = [tuple(zip(addresses, values)) for values in islice(product(*addresses.values()), MOST_FINALS)]
     opens: list[int] = []
     choices: list[tuple[Value, ...]] = []
@@ -63,12 +58,6 @@ def program_of(case: Case) -> Program:
             opens.append(place)
             choices.append(values_at(case, place))
     return Program(case, tuple(opens), tuple(choices), tuple(finals))
-
-
-def final_values(case: Case, address: Address) -> tuple[Value, ...]:
-    """What an address may have at the end: the values of its writes, or without any the one at the start."""
-    written = [op.value for op in case.ops if op.access == "Write" and op.pa == address and op.value is not None]
-    return tuple(dict.fromkeys(written or [case.initial_at(address)]))
 
 
 def free_name(*texts: bytes) -> str:

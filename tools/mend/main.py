@@ -12,10 +12,9 @@ from typing import Iterator
 
 from tools import TOP
 from tools.ending import SIGNALS
-from tools.mend.asking import Questions, Unanswered, answer_of
+from tools.mend.asking import Questions, SuiteTests, Unanswered, is_shown
 from tools.mend.copies import Outcome, free_name, program_of
 from tools.mend.orders import Found, Search
-from tools.mend.suite_tests import SuiteTests
 from tools.mend.telling import MOST_CHOICES, MOST_SHOWN, MOST_STRONGER, TITLE, Telling
 from tools.second.listings import ENDING
 from tools.second.scopes import read_model
@@ -25,16 +24,15 @@ from tools.suite.calling import Calls, side_by_side
 from tools.suite.pairs import Checker
 from tools.suite.programs import checker_of
 from tools.suite.telling import Refusal
-from tools.texts.address_names import case_with_names
 from tools.texts.contents import Unreadable, contents
 from tools.texts.memory_models import memory_model_of
-from tools.texts.naming import Names
+from tools.texts.naming import Names, case_with_names
 from tools.texts.wrapping import width_of_output, within
 
 # how long one call of the program may take, in seconds
 SECONDS = 60.0
-# of `check`, and those of a call without an answer that stand for themselves
-SHOWN, NOT_SHOWN, REFUSED, NO_MEMORY = 0, 1, 3, 7
+# of a call without an answer, those that stand for themselves
+REFUSED, NO_MEMORY = 3, 7
 
 
 class Said(Exception):
@@ -48,14 +46,13 @@ class Said(Exception):
 
 def checked(checker: Checker, model_path: str, test_path: str) -> None:
     """Has the program check the files; what is no verdict, and that nothing is to mend, is all that is said."""
-    word = "check86" if test_path.endswith(ENDING) else "check"
     try:
-        said = answer_of(checker, word, model_path, test_path, statuses=(SHOWN, NOT_SHOWN))
+        is_there = is_shown(checker, "check86" if test_path.endswith(ENDING) else "check", model_path, test_path)
     except Unanswered as unanswered:
         if unanswered.status in (REFUSED, NO_MEMORY):
             raise Said(unanswered.status, unanswered.said.decode("ascii", "replace")) from unanswered
         raise
-    if said.startswith(b"unobservable"):
+    if not is_there:
         raise Said(1, "The model does not show this outcome: there is nothing to mend. `core` says what forbids it.\n")
 
 

@@ -9,11 +9,9 @@ from dataclasses import dataclass, replace
 from functools import partial
 from typing import Iterable, Iterator, Sequence
 
-from tools.mend.asking import Questions
-from tools.mend.choices import Choice
+from tools.mend.asking import Edge, Questions, World
 from tools.mend.copies import Outcome
-from tools.mend.relations import OWN, Place, Relation, Relations
-from tools.mend.worlds import Edge, World
+from tools.mend.relations import OWN, Choice, Place, Relation, Relations
 from tools.second.cases import Case, Value
 from tools.second.meaning import Node
 

@@ -1,22 +1,28 @@
 """What two nodes have to do with each other, in the words of the model: so that what is said of one pair can be said of
-all pairs like it.
+all pairs like it. And the order of a read before the writes that are newer than its value, which no edge alone says: a choice of
+two edges, of each other write of the address, that it is before the write that the read has its value from, or behind the read.
 """
 from dataclasses import dataclass
 from typing import Iterator
 
 from tools.lint.asked import Asked
-from tools.mend.worlds import Edge
+from tools.mend.asking import Edge
 from tools.second.cases import Case
 from tools.second.meaning import Node
-from tools.second.models import Axiom, Edges, Formula, Macro, Model, NodeTerm, Nodes, Number
+from tools.second.models import Model, Number
 from tools.second.predicates import MICROOP, PREDICATES
-from tools.second.scopes import parts
+from tools.second.scopes import below, nodes_of
 
 # the micro-ops of an edge, as variables, and the core of the other one
 FIRST, SECOND, CORE = "i", "j", "c"
 # the core of a node, where it is no number: that of its micro-op, and that of the other one
 OWN, OTHERS = -1, -2
 CONJUNCTION = " /\\ "
+# a read, the write that it has its value from, and another one of the address
+PREMISES = (
+    "IsAnyRead r", "IsAnyWrite w", "IsAnyWrite v", "SamePhysicalAddress w r", "SamePhysicalAddress v r", "SameData w r",
+    "~SameMicroop v w",
+)
 
 
 @dataclass(frozen=True)
@@ -98,10 +104,9 @@ class Relations:
         self.asked = Asked(model)
         # of each stage the cores at which the model names nodes of it
         self.cores: dict[str, set[int]] = {}
-        for item in model.items:
-            for node in nodes_of(item):
-                core = node.core.value if isinstance(node.core, Number) else OWN if node.core is None else OTHERS
-                self.cores.setdefault(node.stage.name, set()).add(core)
+        for node in (node for item in model.items for part in below(item.body) for node in nodes_of(part)):
+            core = node.core.value if isinstance(node.core, Number) else OWN if node.core is None else OTHERS
+            self.cores.setdefault(node.stage.name, set()).add(core)
         self.stages = {stage.number.value: stage.name.name for stage in model.stages}
 
     def of(self, edge: Edge, case: Case | None = None) -> Relation | None:
@@ -153,14 +158,31 @@ class Relations:
             yield same if same.holds(case, first, second) else Premise("SameData", (FIRST, SECOND), False)
 
 
-def nodes_of(item: Axiom | Macro) -> Iterator[NodeTerm]:
-    """The nodes that an axiom or a macro names itself."""
-    waiting: list[Formula] = [item.body]
-    while waiting:
-        formula = waiting.pop()
-        waiting += parts(formula)
-        if isinstance(formula, Nodes):
-            yield from formula.members
-        elif isinstance(formula, Edges):
-            for edge in formula.members:
-                yield from (edge.start, edge.end)
+@dataclass(frozen=True)
+class Choice:
+    """The places of a read and of writes that are put in such an order."""
+
+    read: Place
+    write: Place
+
+    def formula(self, model: Model, label: str) -> list[str]:
+        """The order as a formula, in lines."""
+        read, write, source = self.read.text("r", model), self.write.text("v", model), self.write.text("w", model)
+        return [
+            'forall microops "r", forall microops "w", forall microops "v",',
+            f"  {CONJUNCTION.join(PREMISES)} =>",
+            f'  AddEdge ({write}, {source}, "{label}") \\/ AddEdge ({read}, {write}, "{label}")',
+        ]
+
+    def axiom(self, model: Model, title: str) -> list[str]:
+        *first, last = self.formula(model, title)
+        return [f'Axiom "{title}":', *(f"  {line}" for line in first), f"  {last}."]
+
+    def nodes(self, case: Case) -> Iterator[tuple[Node, Node, Node]]:
+        """Of a test the reads, each with another write of its address, and with the one that it has its value from."""
+        for r, read in enumerate(case.ops):
+            alike = [k for k, op in enumerate(case.ops) if op.access == "Write" and op.pa == read.pa]
+            for w in alike if read.access == "Read" else []:
+                for v in alike:
+                    if v != w and case.ops[w].value == read.value:
+                        yield self.read.node(case, r, r), self.write.node(case, v, v), self.write.node(case, w, w)

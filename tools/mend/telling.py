@@ -1,11 +1,11 @@
 """What is said of a test and of the orders that forbid it, in the words of the model and of the test."""
 from typing import Iterator, Sequence
 
-from tools.explain.certificates import key
-from tools.mend.choices import Choice
+from tools.explain.files import key
+from tools.mend.asking import Counts
 from tools.mend.copies import Outcome, Program
 from tools.mend.orders import Order
-from tools.mend.suite_tests import Counts
+from tools.mend.relations import Choice
 from tools.second.cases import Case
 from tools.second.patterns import value_text
 from tools.texts.naming import Names

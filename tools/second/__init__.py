@@ -21,5 +21,5 @@ one way:
              judging.py     a certificate, line by line
              lifted.py      a lifted refutation, line by line, on the axioms as they are written
 
-`dimacs.py` and `smtlib.py` put the same question to other solvers.
+`solvers.py` puts the same question to other solvers.
 """

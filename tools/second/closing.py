@@ -6,7 +6,7 @@ where two literals would clash together: two of its own, or one of its own and o
 that it asserts.
 """
 from tools.second.orders import Order
-from tools.second.positions import Inner, Leaf, Positions, Signed
+from tools.second.positions import Leaf, Positions, Signed
 
 
 class Alternatives:
@@ -26,15 +26,7 @@ class Alternatives:
 
     def of(self, choice: Signed) -> list[Signed]:
         """The alternatives of a disjunction, or of a denied conjunction, in preorder."""
-        found, waiting = [], [choice]
-        while waiting:
-            here, is_denied = waiting.pop()
-            row = self.positions.rows[here]
-            if isinstance(row, Inner) and row.is_disjunction is not is_denied:
-                waiting += [(row.right, is_denied), (row.left, is_denied)]
-            else:
-                found.append((here, is_denied))
-        return found
+        return list(self.positions.members([choice], is_choice=True))
 
     def is_closed(self, order: Order, place: Signed) -> bool:
         """Whether a literal of the position would clash."""

@@ -4,7 +4,7 @@ This is the judge of a witness. It uses neither the tree nor the search: it foll
 macros as bindings, and asks the world for nodes and order.
 """
 from tools.second.cases import Case
-from tools.second.meaning import Environment, Meaning, Node, holds
+from tools.second.meaning import Environment, Meaning, Node
 from tools.second.models import Binary, Edges, Expand, Formula, Model, Nodes, Not, Quantified, Static
 
 
@@ -51,4 +51,4 @@ class Evaluator(Meaning):
             case Edges(members):
                 return all(self.node(it.end, env) in self.later.get(self.node(it.start, env), ()) for it in members)
             case Static():
-                return holds(self.case, formula, env)
+                return self.is_so(formula, env)

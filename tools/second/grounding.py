@@ -5,11 +5,10 @@ alone. The tree comes in two shapes: joined, with conjunctions and disjunctions 
 here wants; and nested, with two members each, as the positions of a refutation count them.
 """
 from dataclasses import dataclass
-from typing import Callable, Iterator, Union
+from typing import Callable, Union
 
 from tools.second.cases import Case
-from tools.second.guards import Guards
-from tools.second.meaning import Environment, Meaning, Node, holds
+from tools.second.meaning import Environment, Meaning, Node
 from tools.second.models import Binary, Edges, Expand, Formula, Model, Nodes, Not, Quantified, Static
 
 
@@ -72,7 +71,6 @@ class Grounder(Meaning):
     def __init__(self, model: Model, case: Case, join: Join) -> None:
         super().__init__(model, case)
         self.join = join
-        self.guards = Guards()
 
     def axioms(self) -> Tree:
         return self.join(True, [self.tree(axiom.body, {}, True) for axiom in self.model.axioms])
@@ -88,7 +86,7 @@ class Grounder(Meaning):
         if isinstance(formula, Expand):
             return self.tree(*self.body_of(formula, env), wanted)
         if isinstance(formula, Static):
-            return holds(self.case, formula, env) is wanted
+            return self.is_so(formula, env) is wanted
         return self.join(wanted, [Literal(*ends, wanted) for ends in self.atoms(formula, env)])
 
     def binary(self, formula: Binary, env: Environment, wanted: bool) -> Tree:
@@ -103,14 +101,6 @@ class Grounder(Meaning):
         """The body for each value of the variable."""
         members = [self.tree(formula.body, inside, wanted) for inside in self.open_values(formula, env)]
         return self.join(formula.universal is wanted, members)
-
-    def open_values(self, formula: Quantified, env: Environment) -> Iterator[Environment]:
-        """The values of the variable with which no guard makes the body the constant that changes nothing."""
-        guards = self.guards.of(formula)
-        for number in self.values(formula):
-            inside = {**env, formula.name: number}
-            if not any(holds(self.case, guard.predicate, inside) is guard.value for guard in guards):
-                yield inside
 
     def atoms(self, formula: Nodes | Edges, env: Environment) -> list[tuple[Node, Node | None]]:
         if isinstance(formula, Nodes):

@@ -38,34 +38,29 @@ def second_line(is_observable: bool, case: Case) -> str:
 
 def judge(model: Model, case: Case, data: bytes, takes_version_2: bool = True) -> bool:
     """Whether the certificate is of an observable outcome; Refused where it is none."""
-    whole, rest = lines_of(data)
-    is_observable = whole[:1] == ["observable"]
-    judge_header(whole, ["observable" if is_observable else "unobservable", second_line(is_observable, case)])
-    version = 2 if takes_version_2 and not is_observable and whole[2:3] == [VERSION_2] else 1
-    judge_line: GraphJudge | TreeJudge
-    judge_line = GraphJudge(model, case) if is_observable else TreeJudge(model, case, version)
-    judge_body(whole, rest, 1 + version, judge_line.accepts)
+    is_observable = data.startswith(b"observable\n")
+    header = ["observable" if is_observable else "unobservable", second_line(is_observable, case)]
+    if takes_version_2 and not is_observable and data.split(b"\n", 3)[2:3] == [VERSION_2.encode("ascii")]:
+        header.append(VERSION_2)
+
+    if is_observable:
+        judge_lines(data, header, lambda: GraphJudge(model, case).accepts)
+    else:
+        judge_lines(data, header, lambda: TreeJudge(model, case, len(header) - 1).accepts)
     return is_observable
 
 
-def lines_of(data: bytes) -> tuple[list[str], str]:
-    """The lines that have their LF, and what stands after the last LF, which is no line. Refused past the limit."""
+def judge_lines(data: bytes, header: list[str], begin: Callable[[], Callable[[str], bool]]) -> None:
+    """Refused past the limit, where the first lines are not these, where a later one is not accepted by the judge that begins
+    behind them, or where `end` is not the last one, or does not come. What stands after the last LF is no line."""
     if len(data) > LIMIT:
         raise Refused(0)
-    lines = data.decode("latin-1").split("\n")
-    return lines[:-1], lines[-1]
-
-
-def judge_header(whole: list[str], header: list[str]) -> None:
-    """Refused where the first lines are not these."""
+    *whole, rest = data.decode("latin-1").split("\n")
     for number, line in enumerate(header, 1):
         if whole[number - 1 : number] != [line]:
             raise Refused(number)
-
-
-def judge_body(whole: list[str], rest: str, header: int, accepts: Callable[[str], bool]) -> None:
-    """Refused where a line after the header is not accepted, or `end` is not the last one, or does not come."""
-    for number, line in enumerate(whole[header:], header + 1):
+    accepts = begin()
+    for number, line in enumerate(whole[len(header) :], len(header) + 1):
         if not accepts(line):
             raise Refused(number)
         if line == "end":

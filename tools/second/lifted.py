@@ -11,8 +11,8 @@ from typing import Union
 
 from tools.second.cases import Case
 from tools.second.grounding import Literal
-from tools.second.judging import judge_body, judge_header, lines_of, second_line
-from tools.second.meaning import Environment, Meaning, Node, holds
+from tools.second.judging import judge_lines, second_line
+from tools.second.meaning import Environment, Meaning, Node
 from tools.second.models import Binary, Edges, Expand, Formula, Model, Nodes, Not, Quantified, Static
 from tools.second.positions import is_decimal
 
@@ -37,9 +37,7 @@ Fact = Union[Said, Literal]
 
 def judge_lifted(model: Model, case: Case, data: bytes) -> None:
     """Refused where the text is no lifted refutation of the model and the test."""
-    whole, rest = lines_of(data)
-    judge_header(whole, ["unobservable", second_line(False, case), LIFTED])
-    judge_body(whole, rest, 3, LiftedJudge(model, case).accepts)
+    judge_lines(data, ["unobservable", second_line(False, case), LIFTED], lambda: LiftedJudge(model, case).accepts)
 
 
 class LiftedJudge(Meaning):
@@ -159,7 +157,7 @@ class LiftedJudge(Meaning):
     def is_false(self, fact: Said) -> bool:
         """No member is left of which the fact could be right, or a predicate is otherwise."""
         if isinstance(fact.formula, Static):
-            return holds(self.case, fact.formula, fact.env) is not fact.holds
+            return self.is_so(fact.formula, fact.env) is not fact.holds
         count = self.members(fact)
         return count is not None and fact.start >= count
 

@@ -227,18 +227,15 @@ class Judge:
                 if count == MOST_OPS:
                     raise Fault("too-many-ops", one.word.at)
                 count += 1
-                self.judge_instruction(column, one)
+                if one.register is not None:
+                    # a thread loads a register once
+                    if (column, one.register.piece) in self.loads:
+                        raise Fault("x86-reload", one.register.at)
+                    self.loads[column, one.register.piece] = one.register
+                if one.location is not None:
+                    self.location(one.location)
             if len(cells) != len(self.listing.head):
                 raise Fault("x86-column", end.at)
-
-    def judge_instruction(self, column: int, one: Instruction) -> None:
-        """A thread loads a register once."""
-        if one.register is not None:
-            if (column, one.register.piece) in self.loads:
-                raise Fault("x86-reload", one.register.at)
-            self.loads[column, one.register.piece] = one.register
-        if one.location is not None:
-            self.location(one.location)
 
     def judge_register(self, equation: Equation, thread: Token) -> None:
         """A register that its thread loads has one value."""

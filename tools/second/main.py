@@ -25,10 +25,9 @@ import sys
 from functools import partial
 from typing import Any, Callable, TextIO, TypeVar
 
-from tools.second.answering import Graph, Step, answer
+from tools.second.answering import Graph, Step, answer, shortened
 from tools.second.cases import Case, read_case
 from tools.second.cores import minimal_set, with_axioms, without
-from tools.second.dimacs import dimacs
 from tools.second.grounding import ground
 from tools.second.judging import Refused as CertificateRefused
 from tools.second.judging import VERSION_2, judge, second_line
@@ -41,8 +40,7 @@ from tools.second.positions import Clash, Positions
 from tools.second.queries import InModel, read_query, with_axiom
 from tools.second.scopes import read_model
 from tools.second.searching import is_observable
-from tools.second.shortening import shortened
-from tools.second.smtlib import smtlib
+from tools.second.solvers import dimacs, smtlib
 from tools.second.standard_output import status_of
 from tools.second.tokens import Fault
 
@@ -64,29 +62,15 @@ def file_bytes(kind: str, path: str) -> bytes:
     return data
 
 
-def refusal(kind: str, fault: Fault, data: bytes) -> Refused:
-    """The refusal by a fault, whose place is told by line and column in these bytes."""
-    lines = data[: fault.place].split(b"\n")
-    return Refused(f"refused {kind} {fault.word} at {len(lines)}:{len(lines[-1]) + 1}")
-
-
-def judged(kind: str, read: Callable[[bytes], Read], data: bytes) -> Read:
-    """What a reader makes of the bytes, or the refusal by their fault."""
+def judged(kind: str, read: Callable[[bytes], Read], data: bytes, model_data: bytes = b"") -> Read:
+    """What a reader makes of the bytes, or the refusal by their fault, whose place is told by line and column: in those of the
+    model where the fault of a query is there."""
     try:
         return read(data)
     except Fault as fault:
-        raise refusal(kind, fault, data) from fault
-
-
-def judged_three(model_data: bytes, test_data: bytes, query_data: bytes) -> tuple[Model, Case, Formula]:
-    """What the bytes of a model, a test and a query say, or the refusal by their first fault."""
-    model, case = judged("model", read_model, model_data), judged("test", read_case, test_data)
-    try:
-        return model, case, read_query(query_data, model)
-    except InModel as fault:
-        raise refusal("model", fault, model_data) from fault
-    except Fault as fault:
-        raise refusal("query", fault, query_data) from fault
+        kind, data = ("model", model_data) if isinstance(fault, InModel) else (kind, data)
+        lines = data[: fault.place].split(b"\n")
+        raise Refused(f"refused {kind} {fault.word} at {len(lines)}:{len(lines[-1]) + 1}") from fault
 
 
 def certificate(model: Model, case: Case, version: int) -> str:
@@ -180,9 +164,10 @@ def answered(word: str, paths: list[str]) -> Answer:
         return "pipecheck: bad command line\n", 2
     _, read, answers = COMMANDS[word]
     model_data, test_data = file_bytes("model", paths[0]), file_bytes("test", paths[1])
-    if word == "ask":
-        return ask(*judged_three(model_data, test_data, file_bytes("query", paths[2])))
+    query_data = file_bytes("query", paths[2]) if word == "ask" else b""
     model, test = judged("model", read_model, model_data), judged("test", read, test_data)
+    if word == "ask":
+        return ask(model, test, judged("query", partial(read_query, model=model), query_data, model_data))
     if len(paths) == 2:
         return answers(model, test)
     with open(paths[2], "rb") as file:

@@ -1,6 +1,14 @@
-"""What arguments, nodes, predicates and macros stand for in a case, wherever the written axioms are followed."""
+"""What arguments, nodes, predicates and macros stand for in a case, wherever the written axioms are followed.
+
+Guards come first: what a test decides of quantified formulas before all their variables have a value.
+`forall i, forall j, IsAnyRead i /\\ .. => ..` holds for every j where i is no read, so that no j is looked at. A guard is
+a predicate with the value that decides all that stands below a quantifier.
+"""
+from dataclasses import dataclass, replace
+from typing import Iterator
+
 from tools.second.cases import Case
-from tools.second.models import Arg, Expand, Formula, Model, NodeTerm, Number, Quantified, Static, Word
+from tools.second.models import Arg, Binary, Expand, Formula, Model, NodeTerm, Not, Number, Quantified, Static, Word
 from tools.second.predicates import PLAIN, PREDICATES
 
 # a micro-op by its place in test order, a core, a stage number
@@ -14,25 +22,79 @@ def value(arg: Arg, env: Environment) -> int:
     return arg.value if isinstance(arg, Number) else env[arg.name]
 
 
-def holds(case: Case, formula: Static, env: Environment) -> bool:
-    """Whether a predicate of the table holds in a case."""
-    takes, row = PREDICATES[formula.predicate.name]
-    args = [arg.name if kind == PLAIN and isinstance(arg, Word) else value(arg, env) for kind, arg in zip(takes, formula.args)]
-    return row(case, *args)
+@dataclass(frozen=True)
+class Guard:
+    """A predicate that decides where it has this value. It is ahead where a quantifier stands before it."""
+
+    predicate: Static
+    value: bool
+    names: frozenset[str]
+    is_ahead: bool = False
+
+
+class Guards:
+    """The guards of quantifiers, each found once."""
+
+    def __init__(self) -> None:
+        # by the identity of the formula, which is kept with them so that no other one gets the same
+        self.known: dict[int, tuple[Quantified, list[Guard]]] = {}
+
+    def of(self, formula: Quantified) -> list[Guard]:
+        """The guards that the variable of a quantifier decides, those outside it known: each makes the body True under
+        `forall`, and False under `exists`. What the body itself asks first is none."""
+        if id(formula) not in self.known:
+            found = deciding(formula.body, formula.universal)
+            self.known[id(formula)] = formula, [one for one in found if one.is_ahead and formula.name in one.names]
+        return self.known[id(formula)][1]
+
+
+def deciding(formula: Formula, value: bool) -> list[Guard]:
+    """The guards that give the formula this value."""
+    if isinstance(formula, Static):
+        takes, _ = PREDICATES[formula.predicate.name]
+        words = (arg.name for kind, arg in zip(takes, formula.args) if kind != PLAIN and isinstance(arg, Word))
+        return [Guard(formula, value, frozenset(words))]
+    if isinstance(formula, Not):
+        return deciding(formula.operand, not value)
+    if isinstance(formula, Binary) and (formula.connective != "/\\") is value:
+        return deciding(formula.left, value is not (formula.connective == "=>")) + deciding(formula.right, value)
+    if isinstance(formula, Quantified) and formula.universal is value:
+        # over nothing it has this value, too
+        found = deciding(formula.body, value)
+        return [replace(one, is_ahead=True) for one in found if formula.name not in one.names]
+    return []
 
 
 class Meaning:
     """What the parts of a model's formulas stand for in a case."""
 
-    def __init__(self, model: Model, case: Case) -> None:
+    def __init__(self, model: Model, case: Case, guards: Guards | None = None) -> None:
         self.model = model
         self.case = case
         self.macros = model.macros
         self.stages = {stage.name.name: stage.number.value for stage in model.stages}
+        self.guards = guards or Guards()
+
+    def is_so(self, formula: Static, env: Environment) -> bool:
+        """Whether a predicate of the table holds."""
+        takes, row = PREDICATES[formula.predicate.name]
+        args = zip(takes, formula.args)
+        values = [it.value if isinstance(it, Number) else it.name if kind == PLAIN else env[it.name] for kind, it in args]
+        return row(self.case, *values)
 
     def values(self, formula: Quantified) -> range:
         """What the variable of a quantifier may be."""
         return range(len(self.case.ops)) if formula.over_microops else self.case.cores
+
+    def open_values(self, formula: Quantified, env: Environment) -> Iterator[Environment]:
+        """The names with each value of the variable with which no guard makes the body the constant that changes nothing.
+        The next value takes the place of the one before."""
+        guards = self.guards.of(formula)
+        inside = dict(env)
+        for number in self.values(formula):
+            inside[formula.name] = number
+            if not any(self.is_so(guard.predicate, inside) is guard.value for guard in guards):
+                yield inside
 
     def body_of(self, formula: Expand, env: Environment) -> tuple[Formula, Environment]:
         """The body of a macro, with its parameters bound."""

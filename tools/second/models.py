@@ -1,6 +1,7 @@
 """Tokens to a written model, by the grammar of docs/language.md."""
 import re
 from dataclasses import dataclass
+from functools import cached_property
 from typing import Union
 
 from tools.second.tokens import Fault, Reader, Token
@@ -141,7 +142,7 @@ class Model:
     def axioms(self) -> list[Axiom]:
         return [item for item in self.items if isinstance(item, Axiom)]
 
-    @property
+    @cached_property
     def macros(self) -> dict[str, Macro]:
         return {item.name.name: item for item in self.items if isinstance(item, Macro)}
 
@@ -262,13 +263,10 @@ class ModelReader(Reader):
         first = self.take()
         if first.piece == "ExpandMacro":
             return Expand(first.at, self.name(), self.args())
-        if first.piece in ("AddEdge", "EdgeExists"):
-            return Edges((self.edge(),), first.at)
-        if first.piece in ("AddEdges", "EdgesExist"):
-            return Edges(tuple(self.within("[", "]", self.edge)), first.at)
-        if first.piece == "NodeExists":
-            return Nodes((self.node(),), first.at)
-        return Nodes(tuple(self.within("[", "]", self.node)), first.at)
+        is_list = first.piece in ("AddEdges", "EdgesExist", "NodesExist")
+        if first.piece.startswith("Node"):
+            return Nodes(tuple(self.within("[", "]", self.node)) if is_list else (self.node(),), first.at)
+        return Edges(tuple(self.within("[", "]", self.edge)) if is_list else (self.edge(),), first.at)
 
     def args(self) -> tuple[Arg, ...]:
         found = []

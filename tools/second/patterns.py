@@ -3,7 +3,7 @@ reads may get; and the sweep, which says of each combination whether it is obser
 from dataclasses import dataclass, replace
 from itertools import product
 
-from tools.second.cases import Case, Entry, Item, OpItem, Value, read_items
+from tools.second.cases import Address, Case, Entry, Item, OpItem, Value, read_items
 from tools.second.models import Model
 from tools.second.searching import is_observable
 from tools.second.tokens import Fault
@@ -34,8 +34,12 @@ def values_at(case: Case, place: int) -> tuple[Value, ...]:
     each once."""
     address = case.ops[place].pa
     assert address is not None
-    written = [op.value for op in case.ops if op.access == "Write" and op.pa == address]
-    return tuple(dict.fromkeys([case.initial_at(address), *(value for value in written if value is not None)]))
+    return tuple(dict.fromkeys([case.initial_at(address), *written_at(case, address)]))
+
+
+def written_at(case: Case, address: Address) -> list[Value]:
+    """The values of the writes at an address, in test order."""
+    return [op.value for op in case.ops if op.access == "Write" and op.pa == address and op.value is not None]
 
 
 def read_pattern(data: bytes) -> Pattern:

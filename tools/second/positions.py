@@ -6,7 +6,7 @@ position.
 """
 import re
 from dataclasses import dataclass
-from typing import Iterator
+from typing import Iterator, Sequence
 
 from tools.second.cases import GREATEST_CORE, Case
 from tools.second.grounding import Grounder, Group, Literal, Tree, nested
@@ -130,19 +130,23 @@ class Positions:
             self.nodes.append(node)
         return self.numbers[node]
 
-    def asserted(self, *places: Signed) -> Iterator[Leaf | Signed]:
-        """What these positions assert together, in preorder: literals, and choices, which are disjunctions and denied
-        conjunctions."""
+    def members(self, places: Sequence[Signed], is_choice: bool = False) -> Iterator[Signed]:
+        """What these positions have for members, in preorder, those taken apart that are conjunctions, or denied
+        disjunctions; of choices, which are the others, those that are choices."""
         waiting = list(reversed(places))
         while waiting:
             here, is_denied = waiting.pop()
             row = self.rows[here]
-            if isinstance(row, Leaf):
-                yield Leaf(row.start, row.end, row.wanted is not is_denied)
-            elif row.is_disjunction is not is_denied:
-                yield here, is_denied
-            else:
+            if isinstance(row, Inner) and (row.is_disjunction is not is_denied) is is_choice:
                 waiting += [(row.right, is_denied), (row.left, is_denied)]
+            else:
+                yield here, is_denied
+
+    def asserted(self, *places: Signed) -> Iterator[Leaf | Signed]:
+        """What these positions assert together, in preorder: literals, and choices."""
+        for here, is_denied in self.members(places):
+            row = self.rows[here]
+            yield Leaf(row.start, row.end, row.wanted is not is_denied) if isinstance(row, Leaf) else (here, is_denied)
 
     def sides(self, choice: Signed, version: int) -> tuple[list[Signed], list[Signed]]:
         """What the left and the right side of a split assert: in version 2 the right one also that the left member does not

@@ -1,5 +1,6 @@
 """A formula that is asked of a model, in a file of its own, with the faults that it may have."""
 from dataclasses import replace
+from typing import Iterator
 
 from tools.second.models import Axiom, Formula, Model, ModelReader, Not
 from tools.second.scopes import NameJudge, Scope, judge_macros, judge_sizes
@@ -24,15 +25,13 @@ def read_query(data: bytes, model: Model) -> Formula:
     asked = with_axiom(model, Not(formula))
     judge_macros(asked)
     judge_sizes(asked)
-    QueryJudge(model).formula(formula, ())
+    for fault in QueryJudge(model).faults(formula, ()):
+        raise fault
     return formula
 
 
 class QueryJudge(NameJudge):
     """Judges the names of a query as those of an axiom. The bodies of its macros stand in the model."""
 
-    def body(self, formula: Formula, scope: Scope) -> None:
-        try:
-            NameJudge(self.model).formula(formula, scope)
-        except Fault as fault:
-            raise InModel(fault.word, fault.place) from fault
+    def body(self, formula: Formula, scope: Scope) -> Iterator[Fault]:
+        return (InModel(fault.word, fault.place) for fault in super().body(formula, scope))

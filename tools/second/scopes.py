@@ -3,6 +3,8 @@
 A name in a macro's body that is neither a parameter nor bound in the body has the binding in force where the macro
 is expanded. So names are judged in the axioms, with each macro followed into its body.
 """
+from typing import Iterator
+
 from tools.second.cases import GREATEST_CORE
 from tools.second.models import Arg, Axiom, Binary, Edges, Expand, Formula, Macro, Model, ModelReader, NodeTerm, Nodes, Not
 from tools.second.models import Number, Quantified, Static
@@ -23,8 +25,8 @@ def read_model(data: bytes) -> Model:
     judge_sizes(model)
     # outside before inside and left before right
     judge = NameJudge(model)
-    for axiom in model.axioms:
-        judge.formula(axiom.body, ())
+    for fault in (fault for axiom in model.axioms for fault in judge.faults(axiom.body, ())):
+        raise fault
     return model
 
 
@@ -52,6 +54,27 @@ def parts(formula: Formula) -> list[Formula]:
     return []
 
 
+def below(formula: Formula, macros: dict[str, Macro] | None = None, expanded: set[str] | None = None) -> Iterator[Formula]:
+    """A formula and what stands in it, from left to right. Of these macros those that it expands are followed, each once,
+    where it is none of those that are said to be expanded, which are more then."""
+    waiting = [formula]
+    expanded = set() if expanded is None else expanded
+    while waiting:
+        here = waiting.pop()
+        yield here
+        waiting += reversed(parts(here))
+        if macros is not None and isinstance(here, Expand) and here.macro.name not in expanded:
+            expanded.add(here.macro.name)
+            waiting.append(macros[here.macro.name].body)
+
+
+def nodes_of(formula: Formula) -> list[NodeTerm]:
+    """The nodes of a list, as they stand in it."""
+    if isinstance(formula, Edges):
+        return [node for edge in formula.members for node in (edge.start, edge.end)]
+    return list(formula.members) if isinstance(formula, Nodes) else []
+
+
 def judge_macros(model: Model) -> None:
     """Each macro's name is new, so are its parameters, and expansions fit. A macro names earlier ones alone."""
     macros = [item for item in model.items if isinstance(item, Macro)]
@@ -75,14 +98,13 @@ def judge_macros(model: Model) -> None:
 
 def judge_expansions(formula: Formula, macros: dict[str, Macro]) -> None:
     """Each expansion in the formula is of one of these macros, with as many arguments as it has parameters."""
-    if isinstance(formula, Expand):
-        macro = macros.get(formula.macro.name)
-        if macro is None:
-            raise Fault("macro-unknown", formula.macro.at)
-        if len(formula.args) != len(macro.parameters):
-            raise Fault("macro-arguments", formula.macro.at)
-    for part in parts(formula):
-        judge_expansions(part, macros)
+    for part in below(formula):
+        if isinstance(part, Expand):
+            macro = macros.get(part.macro.name)
+            if macro is None:
+                raise Fault("macro-unknown", part.macro.at)
+            if len(part.args) != len(macro.parameters):
+                raise Fault("macro-arguments", part.macro.at)
 
 
 def judge_sizes(model: Model) -> None:
@@ -114,89 +136,80 @@ def measured(formula: Formula, known: dict[str, tuple[int, int]]) -> tuple[int, 
     return 1 + sum(size for size, _ in below), 1 + max(height for _, height in below)
 
 
-Scope = tuple[tuple[str, str], ...]
+# the variables with their sorts, the innermost last, hidden ones included; of a macro by itself what a parameter stands for is
+# not known
+Scope = tuple[tuple[str, str | None], ...]
 
 
 class NameJudge:
-    """Judges names. A scope is the variables with their sorts, the innermost last, hidden ones included."""
+    """Judges names."""
 
     def __init__(self, model: Model) -> None:
-        self.model = model
         self.macros = model.macros
         self.stages = {stage.name.name for stage in model.stages}
 
-    def formula(self, formula: Formula, scope: Scope) -> None:
-        """The first fault of a formula in a scope."""
+    def faults(self, formula: Formula, scope: Scope) -> Iterator[Fault]:
+        """The faults of a formula in a scope, in the order of the text."""
         if isinstance(formula, Quantified):
-            sort = MICROOP if formula.over_microops else CORE
-            inside = widened(scope, ((formula.name, sort),), formula.at)
-            self.formula(formula.body, inside)
+            scope = *scope, (formula.name, MICROOP if formula.over_microops else CORE)
+            yield from self.too_many(scope, formula.at)
         elif isinstance(formula, Expand):
-            self.expansion(formula, scope)
+            yield from self.expansion(formula, scope)
         elif isinstance(formula, Static):
-            self.static(formula, scope)
-        elif isinstance(formula, Nodes):
-            for node in formula.members:
-                self.node(node, scope)
-        elif isinstance(formula, Edges):
-            for edge in formula.members:
-                self.node(edge.start, scope)
-                self.node(edge.end, scope)
-        else:
-            for part in parts(formula):
-                self.formula(part, scope)
+            yield from static_faults(formula, scope)
+        for node in nodes_of(formula):
+            yield from arg_faults(MICROOP, node.op, scope)
+            if node.core is not None:
+                yield from arg_faults(CORE, node.core, scope)
+            if node.stage.name not in self.stages:
+                yield Fault("stage-unknown", node.stage.at, said=f"there is no stage {node.stage.name}")
+        for part in parts(formula):
+            yield from self.faults(part, scope)
 
-    def expansion(self, formula: Expand, scope: Scope) -> None:
+    def expansion(self, formula: Expand, scope: Scope) -> Iterator[Fault]:
         """The arguments, then the number of variables, then the macro's body."""
-        macro = self.macros[formula.macro.name]
-        bound = tuple((parameter.name, sort_of(arg, scope)) for parameter, arg in zip(macro.parameters, formula.args))
-        self.body(macro.body, widened(scope, bound, formula.at))
+        for arg in formula.args:
+            yield from arg_faults(None, arg, scope)
+        macro, sorts = self.macros[formula.macro.name], dict(scope)
+        kinds = (CORE if isinstance(arg, Number) else sorts.get(arg.name) for arg in formula.args)
+        inside = *scope, *zip((parameter.name for parameter in macro.parameters), kinds)
+        yield from self.too_many(inside, formula.at)
+        yield from self.body(macro.body, inside)
 
-    def body(self, formula: Formula, scope: Scope) -> None:
+    def body(self, formula: Formula, scope: Scope) -> Iterator[Fault]:
         """The body of a macro, where it is expanded."""
-        self.formula(formula, scope)
+        return self.faults(formula, scope)
 
-    def static(self, formula: Static, scope: Scope) -> None:
-        """A predicate's name, the number of its arguments, and each of them."""
-        if formula.predicate.name not in PREDICATES:
-            raise Fault("predicate-unknown", formula.predicate.at)
-        takes, _ = PREDICATES[formula.predicate.name]
-        if len(takes) != len(formula.args):
-            raise Fault("arity", formula.predicate.at)
-        for wanted, arg in zip(takes, formula.args):
-            judge_arg(wanted, arg, scope)
-
-    def node(self, node: NodeTerm, scope: Scope) -> None:
-        """A node's micro-op, its core if it has one, and its stage."""
-        judge_arg(MICROOP, node.op, scope)
-        if node.core is not None:
-            judge_arg(CORE, node.core, scope)
-        if node.stage.name not in self.stages:
-            raise Fault("stage-unknown", node.stage.at)
+    def too_many(self, scope: Scope, at: int) -> Iterator[Fault]:
+        """A scope has at most 32 variables in all."""
+        if len(scope) > MOST_VARIABLES:
+            yield Fault("too-many-variables", at)
 
 
-def widened(scope: Scope, bound: Scope, at: int) -> Scope:
-    """The scope with more variables, at most 32 in all."""
-    if len(scope) + len(bound) > MOST_VARIABLES:
-        raise Fault("too-many-variables", at)
-    return scope + bound
+def static_faults(formula: Static, scope: Scope) -> Iterator[Fault]:
+    """A predicate's name, the number of its arguments, and each of them."""
+    name, at = formula.predicate.name, formula.predicate.at
+    if name not in PREDICATES:
+        yield Fault("predicate-unknown", at, said=f"there is no predicate {name}")
+        return
+    takes, _ = PREDICATES[name]
+    if len(takes) != len(formula.args):
+        yield Fault("arity", at, said=f"{name} takes {len(takes)} arguments")
+        return
+    for wanted, arg in zip(takes, formula.args):
+        yield from arg_faults(wanted, arg, scope)
 
 
-def sort_of(arg: Arg, scope: Scope) -> str:
-    """The sort of an argument: a number is a core, and a name has that of its innermost, that is last, binding."""
-    if isinstance(arg, Number):
-        if arg.value > GREATEST_CORE:
-            raise Fault("core-number", arg.at)
-        return CORE
+def arg_faults(wanted: str | None, arg: Arg, scope: Scope) -> Iterator[Fault]:
+    """The argument is of the kind that is asked for, with None of any: a number is a core, and a name has the sort of its
+    innermost, that is last, binding."""
     sorts = dict(scope)
-    if arg.name not in sorts:
-        raise Fault("unbound", arg.at)
-    return sorts[arg.name]
-
-
-def judge_arg(wanted: str, arg: Arg, scope: Scope) -> None:
-    """The argument is of the kind that is asked for."""
-    if isinstance(arg, Number) and wanted != CORE:
-        raise Fault("wrong-sort", arg.at)
-    if wanted != PLAIN and sort_of(arg, scope) != wanted:
-        raise Fault("wrong-sort", arg.at)
+    if isinstance(arg, Number):
+        if wanted not in (CORE, None):
+            yield Fault("wrong-sort", arg.at, said="a number stands for a core, and none is asked for")
+        elif arg.value > GREATEST_CORE:
+            yield Fault("core-number", arg.at, said=f"core {arg.value} is over {GREATEST_CORE}")
+    elif wanted != PLAIN and arg.name not in sorts:
+        yield Fault("unbound", arg.at, said=f"nothing binds {arg.name}")
+    elif wanted in (MICROOP, CORE) and sorts[arg.name] not in (wanted, None):
+        yield Fault("wrong-sort", arg.at, said=f"{arg.name} is a {sorts[arg.name]}, and a {wanted} is asked for")

@@ -26,13 +26,14 @@ Part = TypeVar("Part")
 
 class Fault(Exception):
     """The first fault of a file: its word, and its place as a number of bytes before it. One of syntax has what could
-    stand there, too."""
+    stand there, too, and one of a name says in words what it is."""
 
-    def __init__(self, word: str, place: int, expected: tuple[str, ...] = ()) -> None:
+    def __init__(self, word: str, place: int, expected: tuple[str, ...] = (), said: str = "") -> None:
         super().__init__(f"{word} at byte {place}")
         self.word = word
         self.place = place
         self.expected = expected
+        self.said = said
 
 
 @dataclass(frozen=True)

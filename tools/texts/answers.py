@@ -42,11 +42,6 @@ class Core:
     kept: list[int] | None
     parts: list[Part]
 
-    def axioms_of(self, part: Part) -> list[int] | None:
-        """The axioms of the model that a certificate is of; None for all."""
-        word, *number = part.heading.split(" ")
-        return without(self.kept, int(number[0])) if self.kept is not None and word == "without" else self.kept
-
 
 @dataclass(frozen=True)
 class Asked:
@@ -142,9 +137,11 @@ def model_of(answer: Answer, part: Part, model: Model, text: bytes, query: bytes
     """The model that a certificate of an answer is of. The query is one that is read beside the model without a
     fault."""
     if isinstance(answer, Core):
-        kept = answer.axioms_of(part)
+        kept = answer.kept
         if kept is None:
             return ModelOfPart(model, text, len(text), text)
+        if part.heading.startswith("without "):
+            kept = without(kept, int(part.heading.removeprefix("without ")))
         return ModelOfPart(with_axioms(model, kept), text, len(text), cut_text(model, text, kept))
     query_at = len(text) + 1
     written = tokens(text + b"\n" + query, start=query_at)

@@ -1,11 +1,18 @@
-"""How micro-ops, addresses, nodes and places of a model are written where a certificate is explained."""
-from tools.second.cases import Address, Case, Location
+"""How micro-ops, addresses, nodes and places of a model are written where a certificate is explained; and the names of addresses
+that the comments of a test give: `% x = 1` or `% x is 1` behind the micro-op of its line."""
+import re
+from typing import Iterable
+
+from tools.second.cases import Address, Case, Item, Location, OpItem
+from tools.second.listings import ENDING, read_file_items
 from tools.second.meaning import Node
 from tools.second.models import Axiom, Model
 from tools.second.positions import NodeNames
 from tools.texts.origins import Origin
 
 LETTERS = ("x", "y", "z", "w", "u", "v", "a", "b", "c", "d", "e", "f")
+# behind a micro-op: a name, and the value that the micro-op has
+NAMED = re.compile(rb"[^%\n]*%[ \t]*([A-Za-z_][A-Za-z0-9_]{0,15})[ \t]*(?:=|\bis\b)[ \t]*([0-9]{1,100})\b[^\n]*")
 
 # a node (with None) or an edge, and whether it is asked for
 Fact = tuple[Node, Node | None, bool]
@@ -83,3 +90,23 @@ class Names:
             return side
         label = f'"{origin.label}" by ' if origin.label else ""
         return f"{label}{side}, {self.axiom(origin.axiom)}"
+
+
+def case_with_names(path: str, text: bytes) -> Case:
+    """What a test says, with the names of its addresses. A listing has names of its own."""
+    case, items = read_file_items(path, text)
+    if not path.endswith(ENDING):
+        case.names = names_in(text, items)
+    return case
+
+
+def names_in(text: bytes, items: Iterable[Item]) -> dict[Address, str]:
+    """Each address that the comments have one name for, which they have for no other one."""
+    found: dict[Address, set[str]] = {}
+    for item in items:
+        if isinstance(item, OpItem) and item.op.pa is not None:
+            comment = NAMED.match(text, item.at)
+            if comment is not None and int(comment[2]) == item.op.value:
+                found.setdefault(item.op.pa, set()).add(comment[1].decode("ascii"))
+    given = [name for names in found.values() for name in names]
+    return {pa: name for pa, (name, *more) in found.items() if not more and given.count(name) == 1}

@@ -7,8 +7,7 @@ from tools.second.grounding import Grounder, Group, Literal, Tree, nested
 from tools.second.meaning import Environment
 from tools.second.models import Axiom, Binary, Edges, Expand, Formula, Model, Nodes, Not, Quantified, Static
 from tools.second.positions import Positions
-from tools.second.scopes import parts
-
+from tools.second.scopes import below
 
 # How much of a test is traced: a formula at some values of its variables is one step, and a node or an edge, which is kept,
 # so many. 64 micro-ops on a shipped model take at most 1,900,000.
@@ -44,16 +43,7 @@ class Origin:
 
 def has_predicate(model: Model, axiom: Axiom, name: str) -> bool:
     """Whether an axiom has a predicate of the test, in a macro that it expands too."""
-    waiting, expanded = [axiom.body], set()
-    while waiting:
-        formula = waiting.pop()
-        if isinstance(formula, Static) and formula.predicate.name == name:
-            return True
-        if isinstance(formula, Expand) and formula.macro.name not in expanded:
-            expanded.add(formula.macro.name)
-            waiting.append(model.macros[formula.macro.name].body)
-        waiting += parts(formula)
-    return False
+    return any(isinstance(it, Static) and it.predicate.name == name for it in below(axiom.body, model.macros))
 
 
 def first_place(formula: Formula) -> int:

@@ -1,10 +1,13 @@
-"""The question of a tree as DIMACS: satisfiable exactly where some world makes the tree true.
+"""The question of a tree for other solvers, as DIMACS and as SMT-LIB: satisfiable exactly where some world makes the tree true.
 
-A variable stands for each ordered pair of two nodes (the first happens before the second) and for each node (it is
+In DIMACS a variable stands for each ordered pair of two nodes (the first happens before the second) and for each node (it is
 in the world). An edge implies both its ends. Transitivity is written out for all triples; with irreflexivity, which
 is that no pair of a node with itself has a variable, it says that no two nodes are before each other. Each inner
 place of the tree has a variable that implies its members (Tseitin's transformation; the tree has negations at literals
 alone, so that one direction is enough).
+
+In SMT-LIB each pair and each node has a Boolean, too, and the tree is written as it is. Numbers as time stamps would be shorter
+and would say something else: a denied edge may be met by no order at all, and of two numbers one is at most the other.
 """
 from itertools import permutations
 
@@ -63,3 +66,41 @@ def dimacs(tree: Tree) -> str:
     clauses.clauses.append([clauses.literal_of(tree)])
     head = f"c satisfiable exactly where the outcome is observable\np cnf {clauses.variables} {len(clauses.clauses)}\n"
     return head + "".join(f"{' '.join(map(str, clause))} 0\n" for clause in clauses.clauses)
+
+
+def name(node: Node) -> str:
+    return "_".join(map(str, node))
+
+
+def there(node: Node) -> str:
+    """The symbol that says that a node is in the world."""
+    return f"n_{name(node)}"
+
+
+def before(start: Node, end: Node) -> str:
+    """The symbol that says that one node happens before another."""
+    return f"e_{name(start)}__{name(end)}"
+
+
+def term(tree: Tree) -> str:
+    """A tree as a term. An edge from a node to itself is never there."""
+    if isinstance(tree, bool):
+        return "true" if tree else "false"
+    if not isinstance(tree, Literal):
+        return f"({'and' if tree.is_conjunction else 'or'} {' '.join(map(term, tree.members))})"
+    if tree.end is None:
+        symbol = there(tree.start)
+    else:
+        symbol = "false" if tree.start == tree.end else before(tree.start, tree.end)
+    return symbol if tree.wanted else f"(not {symbol})"
+
+
+def smtlib(tree: Tree) -> str:
+    nodes = nodes_of(tree)
+    pairs = list(permutations(nodes, 2))
+    lines = ["; sat exactly where the outcome is observable", "(set-logic QF_UF)"]
+    lines += [f"(declare-const {there(node)} Bool)" for node in nodes]
+    lines += [f"(declare-const {before(a, b)} Bool)" for a, b in pairs]
+    lines += [f"(assert (=> {before(a, b)} (and {there(a)} {there(b)} (not {before(b, a)}))))" for a, b in pairs]
+    lines += [f"(assert (=> (and {before(a, b)} {before(b, c)}) {before(a, c)}))" for a, b, c in permutations(nodes, 3)]
+    return "\n".join([*lines, f"(assert {term(tree)})", "(check-sat)", ""])
