@@ -1,4 +1,5 @@
-"""The program that stands for the sources of a checkout, or that of an installed copy, for scripts that call it."""
+"""The program that stands for the sources of a checkout, or that of an installed copy, for scripts that call it. The shell decides
+which it is, and makes it (`script/build`)."""
 import os
 import subprocess
 from dataclasses import dataclass
