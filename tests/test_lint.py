@@ -902,8 +902,8 @@ class Large(Cases):
     def test_quantifiers(self) -> None:
         names = [f"i{k}" for k in range(32)]
         reads, nodes = " /\\ ".join(f"IsAnyRead {it}" for it in names), "; ".join(f"({it}, S)" for it in names)
-        # lint gives it up, here after a third of the steps
-        with replaced(linting_nodes, "STEPS", 500_000), replaced(linting_idle, "STEPS", 170_000):
+        # lint gives it up, here after a sixth of the steps
+        with replaced(linting_nodes, "STEPS", 250_000), replaced(linting_idle, "STEPS", 85_000):
             self.is_quick("32 quantifiers over 64 micro-ops",
                           f'StageName 0 "S".\nAxiom "a": {over(names)}{reads} => NodesExist [{nodes}].\n',
                           alone(*(f"{k} 0 0 0 (Fence)" for k in range(64))), [])
