@@ -11,7 +11,7 @@ from tools.second.meaning import Guards
 from tools.second.models import Axiom, Binary, Formula, Model, Quantified, Static, Word
 from tools.texts.quoting import shown
 
-# A model that needs more steps is not looked at further: so many for each of the two questions.
+# A model that needs more steps is not looked at further: so many for what is True of each kind of test, and for what is False.
 STEPS = 500_000
 
 OF_ALL = "of every test given and of every one that lint makes up"
