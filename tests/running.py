@@ -78,6 +78,10 @@ class Lines(unittest.TestResult):
         self.tell("skipped", test, reason)
 
     def addSubTest(self, test: unittest.TestCase, subtest: unittest.TestCase, err: Any) -> None:
+        self.has_parts = True
+        # what stands under `with` has run in any case
+        if cases.wanted is not None and cases.wanted not in self.name_of(subtest):
+            return
         if err is None:
             self.tell("ok", subtest)
         else:

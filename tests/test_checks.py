@@ -34,6 +34,8 @@ class Checked(Cases):
 
     def judge_parts(self, what: str, words: Sequence[str], starts: dict[str, str], **how: Any) -> None:
         """Of each part there is no line, which would start so. With another status than 0 and 1 nothing is judged."""
+        if not any(map(self.is_wanted, starts)):
+            return
         if shutil.which(words[0]) is None:
             self.skips(what, f"there is no {words[0]}")
             return
@@ -107,6 +109,7 @@ class Families(Cases):
         self.top = copy_checkout(f"{self.work}/top", ("tests", "tools"))
         for name, text in (
             ("good", "self.same('one', 1, 1)\n        self.same('two', 2, 2)"), ("wrong", "self.same('three', 3, 4)"),
+            ("parts", "for name in ('five', 'six'):\n            with self.case(name):\n                pass"),
             ("slow", f"open('{self.work}/begun', 'w').close()\n        time.sleep(1)"), ("ended", "os._exit(0)"),
             ("long", f"open('{self.work}/begun', 'w').write('begun')\n        time.sleep(600)"),
             ("deep", "self.same('deep', sys.getrecursionlimit(), 5000)\n\n\nsys.setrecursionlimit(5000)"),
@@ -132,6 +135,8 @@ class Families(Cases):
             before=f"until [ -e '{self.work}/begun' ]; do sleep 0.1; done &",
         )
         self.runs("one case by a part of its name", 0, [good[1], f"1 passed, 0 failed, 0 skipped{BY_THAT_PROGRAM}"], "good", "wo")
+        six = ["ok      six", f"1 passed, 0 failed, 0 skipped{BY_THAT_PROGRAM}"]
+        self.runs("... that stands under with", 0, six, "parts", "six")
         self.runs("no case has that name", 1, [f"0 passed, 0 failed, 0 skipped{BY_THAT_PROGRAM}"], "good", "four")
         both = ["ok      deep", "ok      flat", f"2 passed, 0 failed, 0 skipped{BY_THAT_PROGRAM}"]
         self.runs("how deep Python goes one family says for itself", 0, both, "deep", "flat")
