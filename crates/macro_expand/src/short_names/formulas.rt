@@ -1,13 +1,15 @@
 ghost use Rattle.std.specs.Prelude.{◌≡◌, IfOk, map};
-ghost use Rattle.pc_syntax.specs.Written.{written, expand_};
+ghost use Rattle.pc_syntax.specs.Written.{written, expand_, bind_};
 ghost use Rattle.pc_syntax.specs.Renaming.{renamed, renamed_word, renamed_arg};
-ghost use Rattle.macro_expand.specs.Numbers.{short_name};
+ghost use Rattle.macro_expand.specs.{Numbers.{short_name}, Connectives.{joined_by, bound_by}};
 
 use super::names::ShortNames;
 use super::predicates::short_static;
 use super::terms::{short_args, short_edges, short_names_of, short_nodes, short_word};
+use crate::connective::Connective;
+use crate::quantifier::Quantifier;
 use pc_common::{Memory, Place};
-use pc_syntax::{Args, Formula, Name, Names, Word};
+use pc_syntax::{Args, Formula, Name, Names, Sort, Word};
 use std::alloc::Global;
 
 /// A copy of a formula with short names. It nests at most two calls for each connective and quantifier above an atom.
@@ -21,36 +23,23 @@ pub(crate) fn short_formula(
 {
     match formula {
         Formula::Not(body) => Formula::negation(alloc, short_formula(alloc, names, body)?),
-        Formula::And(left, right) => {
-            let (left, right) = short_pair(alloc, names, left, right)?;
-            Formula::conjunction(alloc, left, right)
-        }
-        Formula::Or(left, right) => {
-            let (left, right) = short_pair(alloc, names, left, right)?;
-            Formula::disjunction(alloc, left, right)
-        }
+        Formula::And(left, right) => short_joined(alloc, names, Connective::And, left, right),
+        Formula::Or(left, right) => short_joined(alloc, names, Connective::Or, left, right),
         Formula::Implies(left, right) => {
-            let (left, right) = short_pair(alloc, names, left, right)?;
-            Formula::implication(alloc, left, right)
+            short_joined(alloc, names, Connective::Implies, left, right)
         }
         Formula::Forall {
             at,
             sort,
             name,
             body,
-        } => {
-            let (name, body) = short_name_and_body(alloc, names, name, body)?;
-            Formula::forall(alloc, *at, *sort, name, body)
-        }
+        } => short_quantified(alloc, names, Quantifier::Forall, *at, *sort, name, body),
         Formula::Exists {
             at,
             sort,
             name,
             body,
-        } => {
-            let (name, body) = short_name_and_body(alloc, names, name, body)?;
-            Formula::exists(alloc, *at, *sort, name, body)
-        }
+        } => short_quantified(alloc, names, Quantifier::Exists, *at, *sort, name, body),
         Formula::Static { pred, args } => short_static(alloc, names, pred, args),
         Formula::Nodes(nodes) => Ok(Formula::Nodes(short_nodes(alloc, names, nodes)?)),
         Formula::Edges(edges) => Ok(Formula::Edges(short_edges(alloc, names, edges)?)),
@@ -60,59 +49,63 @@ pub(crate) fn short_formula(
             names: bound,
             args,
             body,
-        } => {
-            let (bound, args, body) = short_binding(alloc, names, bound, args, body)?;
-            Formula::bind(alloc, *at, bound, args, body)
-        }
+        } => short_binding(alloc, names, *at, bound, args, body),
     }
 }
 
-/// The same of two formulas.
+/// The same of two formulas, joined.
 #[cycle(walk)]
-fn short_pair(
+fn short_joined(
     alloc: Global,
     names: &ShortNames<'_>,
+    connective: Connective,
     left: &Formula,
     right: &Formula,
-) -> Result<(Formula, Formula), Memory>
-    ensures left { IfOk result (λ both. written both.0 ≡ renamed (short_name names.now) (written left.now)) }
-    ensures right { IfOk result (λ both. written both.1 ≡ renamed (short_name names.now) (written right.now)) }
+) -> Result<Formula, Memory>
+    ensures { let ρ = short_name names.now in
+        IfOk result (λ f. written f ≡ joined_by connective (renamed ρ (written left.now)) (renamed ρ (written right.now))) }
 {
     let left = short_formula(alloc, names, left)?;
-    Ok((left, short_formula(alloc, names, right)?))
+    let right = short_formula(alloc, names, right)?;
+    connective.join(alloc, left, right)
 }
 
-/// The short name of a quantifier's name, and the same of its body.
+/// The same of a formula in which a quantifier binds a name, which becomes short as well.
 #[cycle(walk)]
-fn short_name_and_body(
+fn short_quantified(
     alloc: Global,
     names: &ShortNames<'_>,
+    quantifier: Quantifier,
+    at: Place,
+    sort: Sort,
     name: &Name,
     body: &Formula,
-) -> Result<(Name, Formula), Memory>
-    ensures name { IfOk result (λ named. named.0 ≡ short_name names.now name.now) }
-    ensures body { IfOk result (λ named. written named.1 ≡ renamed (short_name names.now) (written body.now)) }
+) -> Result<Formula, Memory>
+    ensures { let ρ = short_name names.now in
+        IfOk result (λ f. written f ≡ bound_by quantifier at sort (ρ name.now) (renamed ρ (written body.now))) }
 {
     let name = names.shorten(alloc, name)?;
-    Ok((name, short_formula(alloc, names, body)?))
+    let body = short_formula(alloc, names, body)?;
+    quantifier.bind(alloc, at, sort, name, body)
 }
 
-/// The short names of a binding's names and arguments, and the same of its body.
+/// The same of a binding: of its names, its arguments and its body.
 #[cycle(walk)]
 fn short_binding(
     alloc: Global,
     names: &ShortNames<'_>,
+    at: Place,
     bound: &Names,
     args: &Args,
     body: &Formula,
-) -> Result<(Names, Args, Formula), Memory>
-    ensures names { IfOk result (λ parts. parts.0 ≡ map (short_name names.now) bound.now) }
-    ensures args { IfOk result (λ parts. parts.1 ≡ map (renamed_arg (short_name names.now)) args.now) }
-    ensures body { IfOk result (λ parts. written parts.2 ≡ renamed (short_name names.now) (written body.now)) }
+) -> Result<Formula, Memory>
+    ensures { let ρ = short_name names.now in
+        IfOk result (λ f. written f ≡ bind_ at (map ρ bound.now) (map (renamed_arg ρ) args.now) (renamed ρ (written body.now))) }
 {
     let bound = short_names_of(alloc, names, bound)?;
     let args = short_args(alloc, names, args)?;
-    Ok((bound, args, short_formula(alloc, names, body)?))
+    let body = short_formula(alloc, names, body)?;
+    Formula::bind(alloc, at, bound, args, body)
 }
 
 /// A macro's short name at the short names of its arguments.
