@@ -16,9 +16,8 @@ from tools.lint.nodes import FreeNodes
 from tools.lint.of_tests import OF_TEST, value_slips
 from tools.lint.parts import Parts
 from tools.lint.slips import QueryFile, Slip, TestFile, allowed, counted, grouped, unless_meant
-from tools.lint.words import (
-    constant_slips, mixed_slips, query_stage_slips, stage_slips, swallowed_slips, title_slips, unexpanded_slips
-)
+from tools.lint.stages import query_stage_slips, stage_slips
+from tools.lint.words import constant_slips, mixed_slips, swallowed_slips, title_slips, unexpanded_slips
 from tools.second.listings import read_file_items
 from tools.second.models import Axiom, Model
 from tools.second.queries import read_query
