@@ -689,6 +689,7 @@ class Command(Cases):
                    "pipecheck: lint is written in Python, and there is no python3 here\n",
                    env={"PATH": commands_without(f"{self.work}/bin", "python")}, **here)
         self.gives("names that begin with a dash", [*script, "-m", "--t"], 1, slip_of("-m", "--t"), **here)
+        self.gives("a PYTHONHOME that is not there", [*script, "-m", "--t"], 1, slip_of("-m", "--t"), env={"PYTHONHOME": "gone"}, **here)
         both = 'cat good.uspec | { cat slip.test | "$@" /dev/fd/3 /dev/fd/4 4<&0; } 3<&0'
         pipes = slip_of("/dev/fd/3", "/dev/fd/4")
         self.gives("a model and tests that are pipes", ["sh", "-c", both, "_", *script], 1, pipes, **here)
