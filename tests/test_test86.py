@@ -174,6 +174,7 @@ LEFT_OUT = [
     ("{ }", "LOCK INC [x] ;", "exists x=1", "check86 reads MOV of a location and MFENCE, ", False),
     ("{ }", "incl (x) ;", "exists x=1", "check86 reads MOV of a location and MFENCE, ", False),
     ("{ }", "MOV EAX,EBX ;", "exists x=1", "check86 reads MOV of a location and MFENCE, ", False),
+    ("{ x=0 y=0; }", "MFENCE ;", "exists x=1", "", False),
     ("{ }", "MFENCE", "exists x=1", "", False),
     ("{ }", "MOV ;", "exists x=1", "", False),
     ("{ }", "MOV EAX,[x] ;", "exists x=1", "", False),

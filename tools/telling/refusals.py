@@ -132,7 +132,7 @@ def left_out_word(data: bytes, refusal: Refusal) -> str:
     if begun is not None and not is_ended:
         if re.match(rb"[0-9]+[ \t]*:", rest):
             return "0:EAX=1"
-        if re.search(rb"[A-Za-z0-9_][ \t*]+$", before):
+        if re.search(rb"(?:^|[{;])[ \t]*[A-Za-z][A-Za-z0-9_ \t]*[ \t*]+$", before):
             return "int x=1"
         return "x;" if re.match(rb"[;}]", rest) else ""
     is_instruction = INSTRUCTION.match(rest) is not None
