@@ -237,12 +237,15 @@ pipecheck: these words are no command; how check is called stands above
             ("a name that the system refuses", ("check", "n" * 300, TWO)),
         ):
             self.shows(name, 4, "", *words)
+        link = f"{self.work}/link"
+        os.symlink(none, link)
         missing = f"{UNREAD}pipecheck: {none} is not there\n"
         for name, said, words in (
             ("which file is missing", missing, ("check", PO, none)),
             ("that both files are missing", f"{missing}pipecheck: two\\ words is not there\n", ("check", none, "two words")),
             ("that the certificate is missing", missing, ("verify", PO, TWO, none)),
             ("which file is a directory", f"{UNREAD}pipecheck: {folder} is a directory\n", ("check", folder, TWO)),
+            ("which file is a link to none", f"{UNREAD}pipecheck: {link} is a link to what is not there\n", ("check", link, TWO)),
             ("verify-lifted: which file is missing", missing, ("verify-lifted", *both, none)),
             ("verify86: which file is missing", missing, ("verify86", PO, none, SB_CERTIFICATE)),
         ):

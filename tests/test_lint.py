@@ -483,7 +483,8 @@ WHOLE = [
          f"M:5:32: wrong-sort: {LOST}: c is a core, and a microop is asked for",
          f"M:5:56: unbound: {LOST}: nothing binds q",
          f"M:5:71: wrong-sort: {LOST}: a number stands for a core, and none is asked for",
-         "M:1:13: unused-stage: no axiom names stage S"],
+         "M:1:13: unused-stage: no axiom names stage S",
+         "M:1:1: idle: the model has no axiom, so that each outcome is observable"],
         """StageName 0 "S".
 DefineMacro "Inner" "i": IsAnyRead i.
 DefineMacro "Lost" "i" "j":
@@ -614,6 +615,8 @@ FILES = (
     ("a test in place of a query", ["good.uspec", "test.query"], 3, "test.query:1:8: syntax: no model can continue with this token\n",
      "pipecheck: a name, a number, `=>`, `\\/`, `/\\` or the end of the file is expected\n"),
     ("a model alone", ["good.uspec"], 0, "", ""),
+    ("a model without an axiom", ["none.uspec"], 1,
+     "none.uspec:1:1: idle: the model has no axiom, so that each outcome is observable\n", ""),
     ("a name that is no UTF-8", ["-m", "\udcff"], 1, slip_of("-m", "\udcff"), ""),
     ("names that would break a line are one word of bash", ["a\nm", "a\nt"], 1, slip_of("$'a\\nm'", "$'a\\nt'"), ""),
     # listings, whose addresses have names
@@ -670,7 +673,7 @@ class Command(Cases):
             "bad.test": 'Litmus "d".\nMicroop 0 64 0 0 (Fence).\n', "bad.uspec": 'StageName 0 "S".\nAxiom "x": IsAnyRead i 7.\n',
             "good.test": 'Litmus "t".\n', "good.uspec": ALL, "slip.test": slip, "-m": ALL, "--t": slip, "\udcff": slip, "a\nm": ALL,
             "a\nt": slip, "slips.litmus": LISTING, "meant.litmus": LISTING.replace("{ }", MEANT_HERE), "slips.pattern": PATTERN,
-            "slips.test": PATTERN, "test.query": 'Litmus "t".\n',
+            "slips.test": PATTERN, "test.query": 'Litmus "t".\n', "none.uspec": 'DefineMacro "m": True. % Lint allows: unexpanded\n',
         }.items():
             write(f"{self.work}/{name}", text)
 
@@ -689,6 +692,7 @@ class Command(Cases):
                    "pipecheck: lint is written in Python, and there is no python3 here\n",
                    env={"PATH": commands_without(f"{self.work}/bin", "python")}, **here)
         self.gives("names that begin with a dash", [*script, "-m", "--t"], 1, slip_of("-m", "--t"), **here)
+        self.gives("a PYTHONHOME that is not there", [*script, "-m", "--t"], 1, slip_of("-m", "--t"), env={"PYTHONHOME": "gone"}, **here)
         both = 'cat good.uspec | { cat slip.test | "$@" /dev/fd/3 /dev/fd/4 4<&0; } 3<&0'
         pipes = slip_of("/dev/fd/3", "/dev/fd/4")
         self.gives("a model and tests that are pipes", ["sh", "-c", both, "_", *script], 1, pipes, **here)

@@ -153,7 +153,7 @@ class Built(InACopy):
             ("a limit of the size of files", 1024, words, 5, first, UNWRITTEN),
             ("... ends the program without the script by a signal", 1024, (program(), *words[1:]), 153, first, ""),
             ("no file may be written: check", 0, ("./pipecheck", *CHECK), 5, "", UNWRITTEN),
-            ("... help", 0, ("./pipecheck", "help"), 5, "", ""),
+            ("... help", 0, ("./pipecheck", "help"), 5, "", UNWRITTEN),
             ("... agree", 0, ("./pipecheck", "agree", "examples/models/tso-ooo.uspec", "examples/patterns/MP.pattern"), 125, "",
                 "agree: File too large\n"),
             ("... mend", 0, ("./pipecheck", "mend", "examples/buggy/tutorial-early.uspec", "examples/tests/MP.test"), 125, "",

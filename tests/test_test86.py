@@ -21,7 +21,7 @@ from tools.listings.test86 import test_of, test_of_herd
 from tools.second.cases import read_case
 from tools.second.listings import read_listing
 from tools.second.tokens import Fault
-from tools.telling.refusals import left_out
+from tools.telling.refusals import expected, left_out
 from tools.telling.refusals import refusal_of as read_refusal
 from tools.texts.contents import contents
 from tools.texts.naming import line_and_column
@@ -174,6 +174,7 @@ LEFT_OUT = [
     ("{ }", "LOCK INC [x] ;", "exists x=1", "check86 reads MOV of a location and MFENCE, ", False),
     ("{ }", "incl (x) ;", "exists x=1", "check86 reads MOV of a location and MFENCE, ", False),
     ("{ }", "MOV EAX,EBX ;", "exists x=1", "check86 reads MOV of a location and MFENCE, ", False),
+    ("{ x=0 y=0; }", "MFENCE ;", "exists x=1", "", False),
     ("{ }", "MFENCE", "exists x=1", "", False),
     ("{ }", "MOV ;", "exists x=1", "", False),
     ("{ }", "MOV EAX,[x] ;", "exists x=1", "", False),
@@ -331,6 +332,17 @@ class Typed(Cases):
                     with self.case(f"test86: what to do about {shown(first, cell, below)}, by {word}"):
                         said = "".join(left_out(TOP, path, read_refusal(refusal)))
                         self.assertEqual(said[: len("pipecheck: " + sentence)], sentence and f"pipecheck: {sentence}")
+
+    def test_header(self) -> None:
+        for above, said in (
+            ("X86\n{ }", "`X86` with a name behind it is expected"),
+            ("X86 l\nPodWR Fre\n{ }", 'a line with `"` in its first byte, one with `=` or `{` is expected'),
+            ("X86 l\n", "a line that begins with `{` is expected"),
+        ):
+            path = self.put(f"{above}\n{' P0 ;' if '{' in above else ''}".encode("ascii"))
+            refused = run([program(), "check86", MODELS[0], path]).out
+            self.same(f"test86: what is expected in the header {shown(above)}",
+                      [*expected("check86", [], path, read_refusal(refused))], [f"pipecheck: {said}"])
 
     def test_the_script(self) -> None:
         sides = "X86 l\n{ }\n P0 ;\n MFENCE ;\nforall (x=1)\n"

@@ -83,16 +83,16 @@ def behind_header(data: bytes) -> tuple[str, int]:
     """The name of the listing, and the place of the first line that begins with `{`, whatever blanks stand before it."""
     first = FIRST_LINE.match(data)
     if first is None:
-        raise Fault("syntax", 0)
+        raise Fault("syntax", 0, ("`X86` with a name behind it",))
     at = first.end()
     for line in data[at:].split(b"\n"):
         rest = line.lstrip(BLANKS)
         if rest.startswith(b"{"):
             return first.group(1).decode("latin-1"), at
         if rest and not line.startswith(b'"') and b"=" not in line:
-            raise Fault("syntax", at + len(line) - len(rest))
+            raise Fault("syntax", at + len(line) - len(rest), ('a line with `"` in its first byte', "one with `=`", "`{`"))
         at += len(line) + 1
-    raise Fault("syntax", len(data))
+    raise Fault("syntax", len(data), ("a line that begins with `{`",))
 
 
 class ListingReader(Reader):

@@ -12,7 +12,7 @@ ROW = re.compile(r"\| ([^|]*`[^|]*) \| (.*) \|")
 def hindrance(path: str) -> str:
     """Why a file can't be opened now; nothing if it can."""
     if not os.path.exists(path):
-        return "is not there"
+        return "is a link to what is not there" if os.path.islink(path) else "is not there"
     if os.path.isdir(path):
         return "is a directory"
     return "" if os.access(path, os.R_OK) else "may not be read"

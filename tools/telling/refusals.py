@@ -83,11 +83,22 @@ def expected(word: str, kinds: list[str], path: str, refusal: Refusal) -> Iterat
     fault = syntax_fault(kind, data)
     if fault is not None and line_and_column(data, fault.place) == refusal.place and sentence_of(fault):
         yield f"pipecheck: {sentence_of(fault)}"
+    pattern = syntax_fault("pattern", data) if kind == "test" else fault
+    if fault is not None and (pattern is None or pattern.place > fault.place):
+        yield "pipecheck: a read with an open value makes this a pattern: sweep MODEL PATTERN"
     form = " ".join([word, *kinds])
     if kind == "model" and begins_with(b"Litmus2?", data):
         yield f"pipecheck: {shown(path)} is a test, and stands for the model: {form}"
     if kind in ("test", "pattern") and begins_with(b"StageName|Axiom|DefineMacro", data):
         yield f"pipecheck: {shown(path)} is a model, and stands for the test: {form}"
+
+
+def macro_of(path: str, model: str, refusal: Refusal) -> Iterator[str]:
+    """That a macro of the model has the name that no predicate has."""
+    line = contents(path).split(b"\n")[refusal.line - 1]
+    name = re.split(rb"[^A-Za-z0-9_']", line[refusal.column - 1:])[0]
+    if re.search(rb'DefineMacro\s+"%b"' % name, contents(model)):
+        yield f"pipecheck: a macro has this name: ExpandMacro {name.decode('ascii')}"
 
 
 def reader(word: str, path: str) -> Iterator[str]:
@@ -132,7 +143,7 @@ def left_out_word(data: bytes, refusal: Refusal) -> str:
     if begun is not None and not is_ended:
         if re.match(rb"[0-9]+[ \t]*:", rest):
             return "0:EAX=1"
-        if re.search(rb"[A-Za-z0-9_][ \t*]+$", before):
+        if re.search(rb"(?:^|[{;])[ \t]*[A-Za-z][A-Za-z0-9_ \t]*[ \t*]+$", before):
             return "int x=1"
         return "x;" if re.match(rb"[;}]", rest) else ""
     is_instruction = INSTRUCTION.match(rest) is not None
@@ -158,6 +169,8 @@ def told(top: str, said: str, words: list[str]) -> Iterator[str]:
             yield from place_of(top, path, refusal)
             if refusal.word == "syntax":
                 yield from expected(words[0], kinds, path, refusal)
+            if refusal.word == "predicate-unknown":
+                yield from macro_of(path, words[1], refusal)
             if refusal.kind == "test" and words[0].endswith("86"):
                 yield from left_out(top, path, refusal)
             if refusal.kind == "test":
