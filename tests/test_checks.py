@@ -65,13 +65,13 @@ class Types(Checked):
     def test_mypy(self) -> None:
         kinds = ("tools/**/*.py", "tests/*.py", "bench/*.py")
         files = [it for kind in kinds for it in sorted(glob(kind, root_dir=TOP, recursive=True))]
-        # A script without the ending of a module has a copy under such a name. One call looks at all, since each reads the types of
-        # the library anew.
+        # A script without the ending of a module has a copy under such a name. One call looks at all, and what mypy found stands for
+        # later calls, by the bytes of the files: to read the types of all anew takes many times as long.
         copies = {it: f"{self.work}/script_{number}.py" for number, it in enumerate(begin_so(PYTHON)) if not it.endswith(".py")}
         for it, copy in copies.items():
             shutil.copy(f"{TOP}/{it}", copy)
         options = ["--python-version", "3.10", "--strict", "--no-error-summary", "--explicit-package-bases", "--cache-dir"]
-        words = ["mypy", *options, f"{self.work}/types", *copies.values(), *files]
+        words = ["mypy", *options, f"{TOP}/out/types", *copies.values(), *files]
         self.judge_parts(f"types of {len(files)} files of Python", words, {
             **{f"types of {it}": f"{copy}:" for it, copy in copies.items()},
             **{f"types of {it}": it for it in sorted(glob("tools/[!_]*/", root_dir=TOP))},

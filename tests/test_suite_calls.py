@@ -233,15 +233,16 @@ verify) echo verified unobservable ;;
 esac
 exit 1""")
         self.lint_lines = lint_lines
+        self.copy_suite("odd/copy")
         for name, word in (
             ("a b", r"a\ b"), ("a\nb", r"$'a\nb'"), ("a&b", r"a\&b"), ("a\\b", r"a\\b"), ("a'b", r"a\'b"), ('a"b', r"a\"b"),
             ("a;b", r"a\;b"), ("a*", r"a\*"),
         ):
-            self.copy_suite(f"odd/{name}")
+            before, self.top = self.top, f"{self.work}/odd/{name}"
+            os.rename(before, self.top)
             self.table(f"a copy in a folder that is named {word}", 1, BAD_PAIR, EARLY)
             is_called = os.path.exists(f"{self.work}/odd/a.called")
             self.same(f"a copy in a folder that is named {word} calls no other file", is_called, False)
-            shutil.rmtree(self.top)
 
 
 class Machines(SuiteCases):

@@ -91,6 +91,9 @@ class OwnTests(SuiteCases):
         self.put("maybe.tsv", "memory model\ttest\tallowed\nTSO\tunstated\tmaybe\n")
         line = r"the table WORK/maybe.tsv has a row without yes or no: $'TSO\tunstated\tmaybe'"
         self.refuses("a table with a row that decides nothing", line, EARLY, SUITE_TABLE="WORK/maybe.tsv")
+        self.put("short.tsv", "memory model\tallowed\ttest\nTSO\tyes\n")
+        line = r"the table WORK/short.tsv has a row without test: $'TSO\tyes'"
+        self.refuses("a table with a row that names no test", line, EARLY, SUITE_TABLE="WORK/short.tsv")
         self.put("nameless.uspec", without_first_line(EARLY))
         for end, shown in ((" ", " "), ("\r", r"\r"), (" \t\r", r" \t\r")):
             self.put("mine.uspec", f"% Memory Model: TSO{end}\n{without_first_line(EARLY)}")

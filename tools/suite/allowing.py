@@ -50,8 +50,9 @@ class Rows:
             raise Refusal(f"the table {shown(path)} has no column {missing[0]}")
         for cells in lines:
             row = dict(zip(head, cells))
-            if row.get("allowed") not in ("yes", "no"):
-                raise Refusal(f"the table {shown(path)} has a row without yes or no: {quoted(chr(9).join(cells))}")
+            lacking = "yes or no" if row.get("allowed") not in VERDICTS else next((it for it in COLUMNS if it not in row), "")
+            if lacking:
+                raise Refusal(f"the table {shown(path)} has a row without {lacking}: {quoted(chr(9).join(cells))}")
             self.rows[row[COLUMNS[0]].lower(), row[COLUMNS[1]]] = row
 
     @property

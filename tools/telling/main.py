@@ -14,7 +14,6 @@ from tools import TOP
 from tools.second.standard_output import status_of
 from tools.telling.files import unreadable
 from tools.telling.forms import Forms
-from tools.telling.refusals import told
 
 
 def lines(what: str, words: list[str]) -> Iterator[str]:
@@ -31,6 +30,9 @@ def lines(what: str, words: list[str]) -> Iterator[str]:
     elif what == "unreadable":
         yield from unreadable(words)
     else:
+        # so does this
+        from tools.telling.refusals import told
+
         yield from told(TOP, words[0], words[1:])
 
 
