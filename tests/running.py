@@ -34,6 +34,8 @@ LONGEST = (
 HEADS = {"ok": "ok      ", "failed": "FAILED  ", "skipped": "skipped "}
 # how a process ends that has run all of its class
 AT_ITS_END = 86
+# how much of memory may be taken by temporary files, in bytes
+ROOM = 4 << 30
 SIGNALS = Signals()
 # how deep Python may go in the classes of each module, which may say so as it is read
 DEPTHS: dict[str, int] = {}
@@ -185,6 +187,16 @@ def run_all(waiting: list[Class]) -> int:
     return 0 if counts["ok"] and not counts["failed"] else 1
 
 
+def memory() -> str | None:
+    """A folder in memory, which takes many small files many times as fast, where programs can be called there, there is room, and
+    TMPDIR names no other place."""
+    place = "/dev/shm"
+    if "TMPDIR" in os.environ or not os.access(place, os.W_OK):
+        return None
+    its = os.statvfs(place)
+    return None if its.f_flag & os.ST_NOEXEC or its.f_bavail * its.f_frsize < ROOM else place
+
+
 def shorten_python(folder: str) -> None:
     """A python3 of a manager of versions looks each time for the one that is meant, which takes several times as long as to start
     it. Here that one is found once."""
@@ -219,7 +231,7 @@ def main() -> int:
         return 2
     SIGNALS.receive()
     # what classes leave where temporary files go is in this folder, too
-    with SIGNALS.temporary_folder(lambda: tempfile.TemporaryDirectory("", "pipecheck-tests-", None, True)) as room:
+    with SIGNALS.temporary_folder(lambda: tempfile.TemporaryDirectory("", "pipecheck-tests-", memory(), True)) as room:
         try:
             prepare(room)
         except subprocess.CalledProcessError as fault:
