@@ -988,8 +988,8 @@ class Faults(Answers):
                     "the forms of the commands, and that a full device could not be written", script,
                     command_forms() + LACKING + UNWRITTEN,
                 ),
-                ("a full device where the forms are asked for", [*script, "help"], ""),
-                ("a full device where the version is asked for", ["./pipecheck", "--version"], ""),
+                ("a full device where the forms are asked for", [*script, "help"], UNWRITTEN),
+                ("a full device where the version is asked for", ["./pipecheck", "--version"], UNWRITTEN),
             ):
                 self.gives(name, words, 5, "", said, stdout=full)
             self.gives("a standard output that cannot be written", [*itself, *check], 5, stdout=read_only)
