@@ -19,10 +19,8 @@ from tests.cases import PATIENCE, TOP, Cases, pipecheck, read, run, without_proo
 from tools.pages.antt import Fault
 from tools.pages.renew import MADE_PART, written_by
 
-PAGES = ["README.md", *(f"docs/{it}.md" for it in (
-    "architecture", "tutorial", "core", "sweep", "compare", "ask", "certificates", "explain", "lint", "mend", "agree", "tests",
-    "translation", "machines", "coming-from",
-))]
+# in a page that shows something
+SHOWS = re.compile(r"^ *\$ |^<!-- python3 ", re.M)
 ANY = {"...\n": "(?:.*\n)*", "in N s": r"in \d+ s", "certificates: ...\n": "certificates: .*\n"}
 PART = re.compile("(^\\.\\.\\.\n|in N s|^certificates: \\.\\.\\.\n)", re.M)
 # a row after a line that is none, with no rule under it
@@ -90,8 +88,8 @@ class Pages(Cases):
         os.symlink(pipecheck(), f"{self.work}/pipecheck")
         for folder in ("examples", "tests", "tools"):
             os.symlink(f"{TOP}/{folder}", f"{self.work}/{folder}")
-        for page in PAGES:
-            found = shown_by(page, self.work)
+        for page in ("README.md", *sorted(glob.glob("docs/*.md", root_dir=TOP))):
+            found = shown_by(page, self.work) if SHOWS.search(read(page)) else []
             # a command may take what one before it left
             for it in found if any(self.is_wanted(it.name) for it in found) else []:
                 with self.case(it.name):
