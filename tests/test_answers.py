@@ -251,6 +251,11 @@ pipecheck: these words are no command; how check is called stands above
         ):
             self.says(name, 4, "", said, *words)
 
+    def test_lift_of_another_version(self) -> None:
+        two = self.file("two", "unobservable\ntest forbidden: ok\nversion 2\nend\n")
+        said = "pipecheck: lift takes a refutation of version 1, as check writes it\n"
+        self.says("lift of a refutation of version 2", 6, "certificate refused at line 3\n", said, "lift", REVERSE, FORBIDDEN, two)
+
     def test_a_refused_file_beside_a_missing_one(self) -> None:
         none, no_item = f"{self.work}/none", self.file("no-item", ".\n")
         for name, what, words in (
