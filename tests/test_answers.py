@@ -251,11 +251,6 @@ pipecheck: these words are no command; how check is called stands above
         ):
             self.says(name, 4, "", said, *words)
 
-    def test_lift_of_another_version(self) -> None:
-        two = self.file("two", "unobservable\ntest forbidden: ok\nversion 2\nend\n")
-        said = "pipecheck: lift takes a refutation of version 1, as check writes it\n"
-        self.says("lift of a refutation of version 2", 6, "certificate refused at line 3\n", said, "lift", REVERSE, FORBIDDEN, two)
-
     def test_a_refused_file_beside_a_missing_one(self) -> None:
         none, no_item = f"{self.work}/none", self.file("no-item", ".\n")
         for name, what, words in (
@@ -504,6 +499,8 @@ Axiom "d": ~(exists microop "i", NodesExist [(i, S)]) /\\ True.
             ("lift of a text whose first line is none", 1, REVERSE, "test forbidden: ok\nversion 2\n"),
         ):
             self.judged(name, 6, refused(line), model, FORBIDDEN, text, "lift")
+        two, said = self.file("two", f"{HEADER}version 2\n{AGAIN}{LAST}"), "lift takes a refutation of version 1, as check writes it"
+        self.says("lift: which version it takes", 6, refused(3), f"pipecheck: {said}\n", "lift", either, FORBIDDEN, two)
 
     def lifts(self, name: str, model: str, test: str, text: str | None = None) -> None:
         """This refutation, or that of `check`, is lifted, and `verify-lifted` accepts what comes of it."""
