@@ -3,12 +3,12 @@ use Rattle.std.{proofs.Common.{◌≡◌, inl, inr, ℕ, Bool, true, false, List
 use Rattle.pc_common.specs.{World.{Node}, Chain.{Leads}, Steps.{cycle, path, absent, false_step}}
 use Rattle.pc_common.proofs.Elements.{In, in_from_contains, in_either, from_flat, from_map}
 use Rattle.pc_ground.specs.declared.literal.Literal.{Literal, TheVariants.{Node as a_node, Edge as an_edge, NoNode as not_node, NoEdge as not_edge}}
-use Rattle.pc_ground.specs.{declared.row.Row.{Row}, Tree.{Tree, never, leaf, either, turned}, Rows.{rows_of}}
+use Rattle.pc_ground.specs.{declared.row.Row.{Row}, Tree.{Tree, never, leaf, either, turned}, Rows.{rows_of, IsPart}}
 use Rattle.pc_ground.specs.Literals.{Joins, IsPresent, as_node, as_start, as_end}
 use Rattle.pc_ground.specs.Refutes.{subtree_at, Signed, signed, all_signed, part_at, Branch as TreeBranch, literal_of, literals_of, a_cycle, a_path, an_absence, Closes, a_contradiction, a_falsity, IsSplit}
 use Rattle.pc_ground.proofs.FlatRows.{subtree_part}
-use Rattle.refutation.specs.BranchFacts.{no_node, present}
-use Rattle.lifter.specs.KnownFacts.{or_at, Entry, HasKey, IsPart, TellsLiteral, TellsAt, TellsAll, HaveMore, AreEdges, IsCycleKnown, IsPathKnown}
+use Rattle.refutation.specs.BranchFacts.{no_node, present, facts_of_literal}
+use Rattle.lifter.specs.KnownFacts.{or_at, Entry, HasKey, HaveKeys, TellsAt, TellsAll, HaveMore, AreEdges, IsCycleKnown, IsPathKnown}
 use Rattle.lifter.{specs.States.{IsCovered}, proofs.Tellings.{root_more}}
 
 pub covered_more : (rows : List (Row Node)) (es new : List Entry) (ps : TreeBranch) → HaveMore es new → IsCovered rows es ps → IsCovered rows new ps
@@ -35,7 +35,7 @@ module _ (t : Tree Node) (es : List Entry) (ps : TreeBranch) (covered : IsCovere
   plain_part true p s e at = cc
   plain_part false p s e at = subtree_part t p s at
 
-  pub told_literal : (l : Literal Node) → Contains (literals_of t ps) l → TellsLiteral es l
+  pub told_literal : (l : Literal Node) → Contains (literals_of t ps) l → HaveKeys es (facts_of_literal l)
   told_literal l has =
       let r = from_flat (λ q. literal_of (part_at t q)) l ps (in_from_contains l (literals_of t ps) has) in
       let q = r.0 in
@@ -47,9 +47,9 @@ module _ (t : Tree Node) (es : List Entry) (ps : TreeBranch) (covered : IsCovere
   edges_known a (x ∷ xs) b leads = ((told_literal (an_edge a x) leads.0).0, edges_known x xs b leads.1)
 
   present_known : (a : Node) → IsPresent (literals_of t ps) a → HasKey es (present a)
-  present_known a (as_node has) = told_literal (a_node a) has
-  present_known a (as_start b has) = (told_literal (an_edge a b) has).1
-  present_known a (as_end b has) = (told_literal (an_edge b a) has).2
+  present_known a (as_node has) = (told_literal (a_node a) has).0
+  present_known a (as_start b has) = (told_literal (an_edge a b) has).1.0
+  present_known a (as_end b has) = (told_literal (an_edge b a) has).1.1.0
 
   pub cycle_known : (nodes : List Node) → Closes t (literals_of t ps) (cycle nodes) → IsCycleKnown es nodes
   cycle_known nodes (a_contradiction (a_cycle a via leads)) = edges_known a via a leads
@@ -61,11 +61,11 @@ module _ (t : Tree Node) (es : List Entry) (ps : TreeBranch) (covered : IsCovere
     last = b;
     all = refl;
     edges = edges_known a via b leads;
-    denied = told_literal (not_edge a b) has;
+    denied = (told_literal (not_edge a b) has).0;
   }
 
   pub absent_known : (a : Node) → Closes t (literals_of t ps) (absent a) → HasKey es (no_node a) × HasKey es (present a)
-  absent_known a (a_contradiction (an_absence b has is_there)) = (told_literal (not_node a) has, present_known a is_there)
+  absent_known a (a_contradiction (an_absence b has is_there)) = ((told_literal (not_node a) has).0, present_known a is_there)
 
   pub only_false : Closes t (literals_of t ps) false_step → t ≡ never
   only_false (a_contradiction h) = elim h [ ]

@@ -4,12 +4,12 @@ use Rattle.std.specs.{Prelude.{slice_get, Contains}, Option.{option_map}}
 use Rattle.pc_common.{specs.{Case.{Case}, World.{Node, World}, Steps.{Step}}, proofs.{Elements.{in_from_contains}, Places.{one_item}}}
 use Rattle.pc_syntax.specs.{declared.closed.Closed.{Closed}, Closed.{PlainClosed, plain_closed}}
 use Rattle.pc_ground.specs.declared.{node_key.NodeKey.{NodeKey}, row.{Row.{Row}, RowKind.TheVariants.{False}}, version.Version.TheVariants.{One}}
-use Rattle.pc_ground.specs.{Keys.{key_node, row_node, renamed_kind}, Tree.{Tree, always, never}, Rows.{rows_of, root_kind}}
+use Rattle.pc_ground.specs.{Keys.{key_node, row_node, renamed_kind}, Tree.{Tree, always, never}, Rows.{rows_of, root_kind, IsPart}}
 use Rattle.pc_ground.specs.{Unfolded.{closed_unfolded}, GroundTree.{closed_ground_tree}, Stages.{plain_axioms}, Refutes.{asserted, all_signed, IsRefutation}}
 use Rattle.pc_ground.proofs.{FlatRows.{root_of, part_whole, part_row, renamed_false}, Refuted.{refutation_sound}}
 use Rattle.lifted_facts.specs.PlainFacts.{said, Branch, root}
 use Rattle.lifter.specs.{Trees.{fact_tree, said_tree, joined_trees}, declared.{kind.FactKind.TheVariants.{False as NeverKind, Open}, state.State.{State}}}
-use Rattle.lifter.specs.{Kinds.{kind_of}, KnownFacts.{IsPart, TellsAll}, States.{branch_of, IsGood, IsGoodState, no_more, IsMatchedState}}
+use Rattle.lifter.specs.{Kinds.{kind_of}, KnownFacts.{TellsAll}, States.{branch_of, IsGood, IsGoodState, no_more, IsMatchedState}}
 use Rattle.lifter.{specs.{PartLists.{facts_from}, Unfoldings.{HasUnfolded}, Progress.{HasStepsLeft}}, proofs.TreeLaws.{over_all, start_tree}}
 use Rattle.lifter.proofs.{CoveredBranches.{covered_all}, KnownLaws.{good_same, matched_same}}
 

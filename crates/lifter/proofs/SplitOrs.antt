@@ -3,11 +3,11 @@ use Rattle.std.proofs.Common.{◌≡◌, ℕ, ◌+◌, false, ◌<◌, List, ◌
 use Rattle.std.proofs.{Math.Seq.{take-length}, lemmas.{List.Elements.{All-get_or}, Option.{slice_get-map, slice_get_within, slice_get_read}}}
 use Rattle.std.specs.{Prelude.{All}, Option.{option_map}}
 use Rattle.pc_common.{specs.{Case.{Case}, World.{Node}}, proofs.{Elements.{In}, Places.{one_item}}}
-use Rattle.pc_ground.specs.{declared.{row.Row.{Row}, version.Version.TheVariants.{One}}, Tree.{Tree, either, size_of}}
+use Rattle.pc_ground.specs.{declared.{row.Row.{Row}, version.Version.TheVariants.{One}}, Rows.{IsPart}, Tree.{Tree, either, size_of}}
 use Rattle.pc_ground.{specs.Refutes.{asserted, all_signed, left_branch, right_branch}, proofs.FlatRows.{one_part, subtree_part, parts_either}}
 use Rattle.lifted_facts.specs.{declared.fact.Fact.{Fact}, PlainFacts.{PlainFact, Branch, plain_fact, IsProper}, Lifted.{HasFact}, Parts.{sides}}
 use Rattle.lifter.specs.{Trees.{fact_tree}, declared.{kind.FactKind.TheVariants.{Open}, state.{Task.TheVariants.{Side}, Later.{Later}, State.{State}}}}
-use Rattle.lifter.specs.{Kinds.{kind_of}, KnownFacts.{Entry, entry, or_at, IsPart, IsOr, HaveMore}}
+use Rattle.lifter.specs.{Kinds.{kind_of}, KnownFacts.{Entry, entry, or_at, IsOr, HaveMore}}
 use Rattle.lifter.specs.{States.{branch_of, IsGoodState, IsCovered, IsSide, AreMatched, side, IsMatchedState}, Unfoldings.{HasUnfolded}, Progress.{HasSplitOr}}
 use Rattle.lifter.proofs.{KnownLaws.{matched_same}, StateMoves.{mapped_length}, CoveredBranches.{covered_more, covered_side}}
 

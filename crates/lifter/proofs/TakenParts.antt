@@ -1,11 +1,11 @@
 -- And over facts, of which the ones before a place are unfolded.
 use Rattle.std.{proofs.Common.{◌≡◌, ℕ, ◌+◌, List, Some, refl, sym, ◌∙◌, ap, subst}, specs.Prelude.{slice_get}}
 use Rattle.pc_common.specs.{Case.{Case}, World.{Node}}
-use Rattle.pc_ground.specs.{declared.row.Row.{Row}, Tree.{Tree, always, both, either, size_of, leaf}, PlainGround.{conjoined, disjoined}}
+use Rattle.pc_ground.specs.{declared.row.Row.{Row}, Rows.{IsPart}, Tree.{Tree, always, both, either, size_of, leaf}, PlainGround.{conjoined, disjoined}}
 use Rattle.pc_ground.{specs.Refutes.{asserted}, proofs.{FlatRows.{parts_both}, NormalForms.{conjoined_always}}}
 use Rattle.lifted_facts.specs.PlainFacts.{PlainFact}
 use Rattle.lifter.specs.{Trees.{fact_tree}, declared.{kind.FactKind.TheVariants.{Open}, state.State.{State}}, Kinds.{kind_of}}
-use Rattle.lifter.specs.{KnownFacts.{IsPart, TellsAll, Entry, HaveMore}, States.{Moves}, PartLists.{facts_from}, Unfoldings.{HasUnfolded, HasTaken}}
+use Rattle.lifter.specs.{KnownFacts.{TellsAll, Entry, HaveMore}, States.{Moves}, PartLists.{facts_from}, Unfoldings.{HasUnfolded, HasTaken}}
 use Rattle.lifter.proofs.{PartWays.{rest_next, kind_rest, is_always, only_true, both_open}, StateMoves.{moves_same, moves_then}}
 use Rattle.lifter.proofs.Tellings.{tells_both, tells_more}
 

@@ -1,19 +1,17 @@
 -- What stands at the positions that a tree asserts is known.
-use Rattle.std.proofs.Common.{◌≡◌, inl, inr, ℕ, ◌+◌, List, subst}
+use Rattle.std.proofs.Common.{◌≡◌, inl, inr, ℕ, ◌+◌, List, [], ◌∷◌, subst}
 use Rattle.pc_common.{specs.World.{Node}, proofs.Elements.{in_either}}
-use Rattle.pc_ground.specs.declared.literal.Literal.{Literal, TheVariants.{Node as a_node, Edge as an_edge, NoNode as not_node, NoEdge as not_edge}}
-use Rattle.pc_ground.{specs.{declared.row.Row.{Row}, Tree.{Tree, leaf, both, either, size_of}, Refutes.{asserted}}, proofs.FlatRows.{one_part}}
-use Rattle.refutation.specs.BranchFacts.{edge, no_edge, no_node, present}
-use Rattle.lifter.specs.KnownFacts.{or_at, Entry, HasKey, IsPart, TellsLiteral, TellsRoot, TellsAt, TellsAll, HaveMore}
+use Rattle.pc_ground.specs.declared.literal.Literal.{Literal}
+use Rattle.pc_ground.{specs.{declared.row.Row.{Row}, Rows.{IsPart}, Tree.{Tree, leaf, both, either, size_of}, Refutes.{asserted}}, proofs.FlatRows.{one_part}}
+use Rattle.refutation.specs.BranchFacts.{PlainBranchFact, facts_of_literal}
+use Rattle.lifter.specs.KnownFacts.{or_at, Entry, HasKey, HaveKeys, TellsRoot, TellsAt, TellsAll, HaveMore}
 
-literal_more : (es new : List Entry) (l : Literal Node) → HaveMore es new → TellsLiteral es l → TellsLiteral new l
-literal_more es new (a_node a) m h = m (present a) h
-literal_more es new (an_edge a b) m h = (m (edge a b) h.0, m (present a) h.1, m (present b) h.2)
-literal_more es new (not_node a) m h = m (no_node a) h
-literal_more es new (not_edge a b) m h = m (no_edge a b) h
+keys_more : (es new : List Entry) (keys : List PlainBranchFact) → HaveMore es new → HaveKeys es keys → HaveKeys new keys
+keys_more es new [] m h = tt
+keys_more es new (key ∷ keys) m h = (m key h.0, keys_more es new keys m h.1)
 
 pub root_more : (es new : List Entry) (p : ℕ) (s : Tree Node) → HaveMore es new → TellsRoot es p s → TellsRoot new p s
-root_more es new p (leaf l) m h = literal_more es new l m h
+root_more es new p (leaf l) m h = keys_more es new (facts_of_literal l) m h
 root_more es new p (either a b) m h = m (or_at p) h
 root_more es new p _ m h = tt
 
@@ -28,7 +26,7 @@ module _ (rows : List (Row Node)) where
   at_root : (es : List Entry) (p q : ℕ) (t : Tree Node) → IsPart rows p t → TellsRoot es p t → (p ≡ q) → TellsAt rows es q
   at_root es p q t here h e = (let P : ℕ → Type 0 = λ n. TellsAt rows es n in subst P e (tells_there es p t here h))
 
-  pub tells_leaf : (es : List Entry) (p : ℕ) (l : Literal Node) → IsPart rows p (leaf l) → TellsLiteral es l → TellsAll rows es (asserted (leaf l) p)
+  pub tells_leaf : (es : List Entry) (p : ℕ) (l : Literal Node) → IsPart rows p (leaf l) → HaveKeys es (facts_of_literal l) → TellsAll rows es (asserted (leaf l) p)
   tells_leaf es p l here h q (inl e) = at_root es p q (leaf l) here h e
   tells_leaf es p l here h q (inr i) = elim i [ ]
 

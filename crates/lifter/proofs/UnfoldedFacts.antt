@@ -3,10 +3,11 @@ use Rattle.std.{proofs.Common.{◌≡◌, ℕ, Bool, true, false, List, Some, No
 use Rattle.pc_common.specs.{Case.{Case}, World.{Node}}
 use Rattle.pc_ground.specs.{Keys.{literal_node}, declared.{node_key.NodeKey.{NodeKey}, literal.Literal.{Literal}}}
 use Rattle.pc_ground.specs.declared.{literal.Literal.TheVariants.{Node as a_node}, row.Row.{Row}}
-use Rattle.pc_ground.{specs.{Tree.{Tree, never, leaf}, PlainGround.{disjoined}, Refutes.{asserted}}, proofs.NormalForms.{disjoined_never}}
+use Rattle.pc_ground.{specs.{Rows.{IsPart}, Tree.{Tree, never, leaf}, PlainGround.{disjoined}, Refutes.{asserted}}, proofs.NormalForms.{disjoined_never}}
 use Rattle.lifted_facts.specs.{PlainFacts.{PlainFact, Branch}, Parts.{sides, is_false}, Lifted.{HasFact}}
 use Rattle.lifter.specs.{Trees.{fact_tree}, declared.{kind.FactKind.{FactKind, TheVariants.{True, False, Open}}, state.State.{State}}, Kinds.{kind_of, joined_kind}}
-use Rattle.lifter.specs.{PartLists.{IsSaid, parts_from}, KnownFacts.{or_at, HasKey, IsPart, IsOr, TellsLiteral, TellsAll}, States.{branch_of, Moves}}
+use Rattle.refutation.specs.BranchFacts.{facts_of_literal}
+use Rattle.lifter.specs.{PartLists.{IsSaid, parts_from}, KnownFacts.{or_at, HasKey, HaveKeys, IsOr, TellsAll}, States.{branch_of, Moves}}
 use Rattle.lifter.{specs.Unfoldings.{fact_of, HasUnfolded}, proofs.{KindLaws.{kind_joined}, SideLaws.{sides_tree, parts_tree, false_tree}, PartWays.{is_never}}}
 use Rattle.lifter.proofs.{StateMoves.{moves_then}, Tellings.{tells_leaf, tells_either}, TakenParts.{open_either}}
 
@@ -92,7 +93,7 @@ both_ok (Err e) f p q = tt
 
 -- a literal of which all is known
 pub literal_unfolded : (c : Case) (rows : List (Row Node)) (old new : State) (l : Literal Node) (at : ℕ) → IsPart rows at (leaf l) → Moves c rows old new
-    → TellsLiteral new.known l → HasUnfolded c rows (leaf l) at old new
+    → HaveKeys new.known (facts_of_literal l) → HasUnfolded c rows (leaf l) at old new
 literal_unfolded c rows old new l at here moves told = record { moves = moves; told = tells_leaf rows new.known at l here told }
 
 -- the fact of a literal by another name
@@ -102,7 +103,7 @@ fact_as b n is has = (let P : Literal NodeKey → Type 0 = λ x. HasFact b n (fa
 -- a literal of the code of which all is known
 pub literal_marked : {T E : Type 0} (c : Case) (rows : List (Row Node)) (old new : State) (n at : ℕ) (r : Result T E) {l m : Literal NodeKey} → l ≡ m
     → HasFact (branch_of old) n (fact_of (literal_node l)) → IsPart rows at (leaf (literal_node l))
-    → OnOk r (HasFact (branch_of old) n (fact_of (literal_node m)) → Moves c rows old new) → OnOk r (TellsLiteral new.known (literal_node m))
+    → OnOk r (HasFact (branch_of old) n (fact_of (literal_node m)) → Moves c rows old new) → OnOk r (HaveKeys new.known (facts_of_literal (literal_node m)))
     → OnOk r (HasUnfolded c rows (leaf (literal_node l)) at old new)
 literal_marked c rows old new n at r {l} {m} is has here moves told =
     let S : Literal NodeKey → Type 0 = λ x. IsPart rows at (leaf (literal_node x)) in

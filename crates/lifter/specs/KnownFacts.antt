@@ -1,10 +1,8 @@
 -- What is known on a lifted branch of the branch of the ground tree: under which number each asserted Or and literal is a fact.
-use Rattle.std.specs.Prelude.{ℕ, ◌≡◌, ◌⊎◌, true, false, List, [], ◌∷◌, ◌++◌, Some, map, drop}
+use Rattle.std.specs.Prelude.{ℕ, ◌≡◌, ◌⊎◌, true, false, List, [], ◌∷◌, ◌++◌, Some, map}
 use Rattle.pc_common.specs.{Case.{Case}, World.{Node}, Elements.{In}}
-use Rattle.pc_ground.specs.{Refutes.{signed}, declared.literal.Literal.{Literal}}
-use Rattle.pc_ground.specs.declared.{literal.Literal.TheVariants.{Node as a_node, Edge as an_edge, NoNode as not_node, NoEdge as not_edge}, row.Row.{Row}}
-use Rattle.pc_ground.specs.{Tree.{Tree, always, never, leaf, both, either}, Rows.{rows_of}}
-use Rattle.refutation.specs.{BranchFacts.{PlainBranchFact, at_position, edge, no_edge, no_node, present, plain_branch_fact}, declared.branch_fact.BranchFact.{BranchFact}}
+use Rattle.pc_ground.specs.{Refutes.{signed}, declared.row.Row.{Row}, Tree.{Tree, always, never, leaf, both, either}, Rows.{IsPart}}
+use Rattle.refutation.specs.{BranchFacts.{PlainBranchFact, at_position, edge, no_edge, no_node, present, plain_branch_fact, facts_of_literal}, declared.branch_fact.BranchFact.{BranchFact}}
 use Rattle.lifted_facts.specs.{PlainFacts.{PlainFact, one_node, Branch}, Parts.{sides}, Lifted.{HasFact, IsEdge, Asserts}}
 use Rattle.lifter.specs.{Trees.{fact_tree}, declared.kind.FactKind.TheVariants.{Open}}
 use Rattle.lifter.specs.Kinds.{kind_of}
@@ -25,10 +23,6 @@ entries_of es = map (λ e. entry (plain_branch_fact e.0) e.1) es
 
 abbrev pub HasKey : List Entry → PlainBranchFact → Type 0
 HasKey es key = (k : ℕ) × In (entry key k) es
-
--- the rows from p on begin with those of s
-abbrev pub IsPart : List (Row Node) → ℕ → Tree Node → Type 0
-IsPart rows p s = (rest : List (Row Node)) × (drop p rows ≡ rows_of s ++ rest)
 
 -- the fact's two sides are those of the Or at this position, and neither is a constant
 pub record IsOr (c : Case) (rows : List (Row Node)) (f : PlainFact) (p : ℕ) : Type 0 where
@@ -57,17 +51,15 @@ pub record HasMarked (old : List Entry) (key : PlainBranchFact) (k : ℕ) (new :
   pub each : (other : PlainBranchFact) (j : ℕ) → In (entry other j) new → In (entry other j) old ⊎ ((key ≡ other) × (k ≡ j))
   pub has : HasKey new key
 
--- all that a literal says is known
-abbrev pub TellsLiteral : List Entry → Literal Node → Type 0
-TellsLiteral es (a_node a) = HasKey es (present a)
-TellsLiteral es (an_edge a b) = HasKey es (edge a b) × HasKey es (present a) × HasKey es (present b)
-TellsLiteral es (not_node a) = HasKey es (no_node a)
-TellsLiteral es (not_edge a b) = HasKey es (no_edge a b)
+-- all of these are known
+abbrev pub HaveKeys : List Entry → List PlainBranchFact → Type 0
+HaveKeys es [] = Unit {0}
+HaveKeys es (key ∷ keys) = HasKey es key × HaveKeys es keys
 
 abbrev pub TellsRoot : List Entry → ℕ → Tree Node → Type 0
 TellsRoot es p always = Unit {0}
 TellsRoot es p never = Unit {0}
-TellsRoot es p (leaf l) = TellsLiteral es l
+TellsRoot es p (leaf l) = HaveKeys es (facts_of_literal l)
 TellsRoot es p (both a b) = Unit {0}
 TellsRoot es p (either a b) = HasKey es (or_at p)
 

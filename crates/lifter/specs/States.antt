@@ -1,10 +1,10 @@
 -- The state of lifting: the facts of the first branch, what is known of them, the branches that wait and the steps so far.
 use Rattle.std.specs.Prelude.{ℕ, ◌≡◌, ◌≤◌, false, All, List, [], ◌∷◌, ◌++◌, length, map, take, reverse}
 use Rattle.pc_common.specs.{Case.{Case}, World.{Node}, Elements.{In}}
-use Rattle.pc_ground.specs.{declared.row.Row.{Row}, Refutes.{asserted, Signed, all_signed, Branch as TreeBranch}}
+use Rattle.pc_ground.specs.{declared.row.Row.{Row}, Rows.{IsPart}, Refutes.{asserted, Signed, all_signed, Branch as TreeBranch}}
 use Rattle.lifted_facts.specs.{PlainFacts.{PlainFact, Branch, plain_fact, IsProper}, Lifted.{LiftedStep, Runs}}
 use Rattle.lifter.specs.{Trees.{fact_tree}, declared.{kind.FactKind.TheVariants.{False, Open}, state.{Task.{Task, TheVariants.{Close, Side}}, Later.{Later}}}}
-use Rattle.lifter.specs.{declared.state.State.{State}, Kinds.{kind_of}, KnownFacts.{Entry, IsPart, AreKnown, TellsAt, HaveMore}}
+use Rattle.lifter.specs.{declared.state.State.{State}, Kinds.{kind_of}, KnownFacts.{Entry, AreKnown, TellsAt, HaveMore}}
 
 abbrev pub branch_of : State → Branch
 branch_of s = map plain_fact s.facts.items

@@ -2,10 +2,10 @@
 use Rattle.std.specs.Prelude.{ℕ, ◌+◌, true, false, Some, List}
 use Rattle.pc_common.specs.{Case.{Case}, World.{Node}}
 use Rattle.pc_ground.specs.declared.{row.Row.{Row}, literal.Literal.{Literal}}
-use Rattle.pc_ground.specs.{declared.literal.Literal.TheVariants.{Node as a_node, Edge as an_edge, NoNode as not_node, NoEdge as not_edge}, Tree.{Tree}}
+use Rattle.pc_ground.specs.{declared.literal.Literal.TheVariants.{Node as a_node, Edge as an_edge, NoNode as not_node, NoEdge as not_edge}, Rows.{IsPart}, Tree.{Tree}}
 use Rattle.pc_ground.specs.Refutes.{asserted}
 use Rattle.lifted_facts.specs.PlainFacts.{PlainFact, one_node, one_edge}
-use Rattle.lifter.specs.{PartLists.{facts_from}, declared.state.State.{State}, KnownFacts.{Entry, IsPart, TellsAll, HaveMore}, States.{Moves}}
+use Rattle.lifter.specs.{PartLists.{facts_from}, declared.state.State.{State}, KnownFacts.{Entry, TellsAll, HaveMore}, States.{Moves}}
 
 -- the fact that a literal is
 abbrev pub fact_of : Literal Node → PlainFact

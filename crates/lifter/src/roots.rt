@@ -1,6 +1,7 @@
 ghost use Rattle.std.specs.Prelude.{ℕ, ◌≡◌, ◌∷◌, ◌<◌, ◌+◌, All, List, [], map, length, true, Some, slice_get, IfOk, OnOk};
 ghost use Rattle.pc_common.specs.Case.{Case as PlainCase};
 ghost use Rattle.pc_syntax.specs.Closed.{plain_closed};
+ghost use Rattle.pc_ground.specs.Rows.{IsPart};
 ghost use Rattle.pc_ground.specs.Tree.{always};
 ghost use Rattle.pc_ground.specs.Stages.{plain_axioms};
 ghost use Rattle.lifted_facts.specs.PlainFacts.{PlainFact, Branch, said, root, plain_fact, IsProper};
@@ -8,7 +9,6 @@ ghost use Rattle.lifted_facts.specs.Lifted.{HasFact, Runs};
 ghost use Rattle.lifter.specs.Trees.{fact_tree};
 ghost use Rattle.lifter.specs.Kinds.{kind_of};
 ghost use Rattle.lifter.specs.declared.kind.FactKind.TheVariants.{False, Open};
-ghost use Rattle.lifter.specs.KnownFacts.{IsPart};
 ghost use Rattle.lifter.specs.States.{branch_of, AreKept};
 ghost use Rattle.lifter.specs.PartLists.{facts_from};
 ghost use Rattle.lifter.specs.Unfoldings.{HasUnfolded, HasTaken};

@@ -1,7 +1,7 @@
 ghost use Rattle.std.specs.Prelude.{◌≡◌, ◌+◌};
 ghost use Rattle.pc_common.specs.World.{Node};
+ghost use Rattle.pc_ground.specs.Rows.{IsPart};
 ghost use Rattle.pc_ground.specs.Tree.{Tree, size_of};
-ghost use Rattle.lifter.specs.KnownFacts.{IsPart};
 
 use pc_ground::Flat;
 

@@ -1,6 +1,7 @@
 ghost use Rattle.std.specs.Prelude.{◌≡◌, ◌<◌, ◌+◌, length, Some, IfOk, OnOk, MatchOption};
 ghost use Rattle.pc_common.specs.World.{Node};
 ghost use Rattle.pc_ground.specs.Keys.{literal_node};
+ghost use Rattle.pc_ground.specs.Rows.{IsPart};
 ghost use Rattle.pc_ground.specs.Tree.{leaf, always};
 ghost use Rattle.lifted_facts.specs.PlainFacts.{plain_fact, IsProper};
 ghost use Rattle.lifted_facts.specs.Parts.{sides as sides_of};
@@ -9,7 +10,6 @@ ghost use Rattle.lifter.specs.Trees.{fact_tree};
 ghost use Rattle.lifter.specs.Kinds.{kind_of};
 ghost use Rattle.lifter.specs.PartLists.{IsSaid, parts, parts_from};
 ghost use Rattle.lifter.specs.declared.kind.FactKind.TheVariants.{Open};
-ghost use Rattle.lifter.specs.KnownFacts.{IsPart};
 ghost use Rattle.lifter.specs.States.{branch_of};
 ghost use Rattle.lifter.specs.Unfoldings.{fact_of, HasUnfolded, HasTaken};
 

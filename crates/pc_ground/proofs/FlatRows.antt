@@ -1,18 +1,14 @@
 -- Rows and the trees that they spell: subtrees, sizes, children, literals, and that no two trees have the same rows.
 use Rattle.std.proofs.Common.{◌≡◌, ℕ, zero, suc, ◌+◌, ◌-◌, ◌<◌, ◌≤◌, inl, inr, false, List, [], ◌∷◌, ◌++◌, Some, None, length, drop, refl, sym, ◌∙◌, ap, subst, arith, append_assoc, length-append, length-drop}
-use Rattle.std.proofs.lemmas.{Bool.{ltb-true, ltb-false, false_from_ne_true}, Option.{slice_get_within, slice_get_past}}
+use Rattle.std.proofs.lemmas.{Bool.{ltb-true, ltb-false, false_from_ne_true}, List.{append-nil}, Option.{slice_get_within, slice_get_past}}
 use Rattle.std.specs.{Prelude.{slice_get, nat_lt, Option}, Option.{unwrap_or}}
 use Rattle.pc_common.proofs.Bools.{true_or_false}
 use Rattle.pc_ground.specs.declared.{row.{RowKind.{TheVariants.{True, False, Lit, And, Or}, RowKind}, Row.{Row}}, node_key.NodeKey.{NodeKey}}
 use Rattle.pc_ground.specs.{declared.literal.Literal.{Literal}, Tree.{Tree, always, never, leaf, both, either, size_of}}
-use Rattle.pc_ground.specs.{Rows.{root_kind, rows_of, literals_of_kind}, Refutes.{subtree_at, literal_of}, Keys.{key_node, renamed_kind}}
+use Rattle.pc_ground.specs.{Rows.{root_kind, rows_of, literals_of_kind, IsPart}, Refutes.{subtree_at, literal_of}, Keys.{key_node, renamed_kind}}
 
 not_lt : (p n : ℕ) → n ≤ p → nat_lt p n ≡ false
 not_lt p n past = false_from_ne_true (nat_lt p n) (λ h. omega (arith, past, ltb-true p n h))
-
--- the rows from p on begin with those of s
-abbrev pub IsPart : {N : Type 0} → List (Row N) → ℕ → Tree N → Type 0
-IsPart {N} rows p s = (rest : List (Row N)) × (drop p rows ≡ rows_of s ++ rest)
 
 abbrev pub root_of : {N : Type 0} → Tree N → Row N
 root_of t = record { kind = root_kind t; skip = size_of t }
@@ -35,11 +31,7 @@ first_row (both a b) = (rows_of a ++ rows_of b, refl)
 first_row (either a b) = (rows_of a ++ rows_of b, refl)
 
 pub part_whole : {N : Type 0} (t : Tree N) → IsPart (rows_of t) 0 t
-part_whole t = ([], sym (append_none (rows_of t)))
-  where
-    append_none : {X : Type 0} (xs : List X) → xs ++ [] ≡ xs
-    append_none [] = refl
-    append_none (x ∷ xs) = ap (λ zs. x ∷ zs) (append_none xs)
+part_whole t = ([], sym (append-nil (rows_of t)))
 
 drop_first : {X : Type 0} (p : ℕ) (rows : List X) (x : X) (rest : List X) → drop p rows ≡ x ∷ rest → drop (p + 1) rows ≡ rest
 drop_first zero [] x rest e = cc

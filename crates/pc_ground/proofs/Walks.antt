@@ -1,7 +1,7 @@
 -- The walk over a side's rows comes to the positions that the side asserts, and to no others.
-use Rattle.std.{proofs.Common.{◌≡◌, ℕ, ◌+◌, ◌<◌, ◌≤◌, List, [], ◌∷◌, ◌++◌, Some, refl, sym, ap, subst, arith, append_assoc}, specs.Prelude.{slice_get}}
-use Rattle.pc_ground.specs.{declared.row.Row.{Row}, Tree.{Tree, always, never, leaf, both, either, size_of}, Rows.{rows_of}, Refutes.{subtree_at, asserted}}
-use Rattle.pc_ground.{specs.Walks.{stride, Walk, at_end, onward}, proofs.FlatRows.{IsPart, parts_both, part_row, root_of, size_pos, subtree_part}}
+use Rattle.std.{proofs.{Common.{◌≡◌, ℕ, ◌+◌, ◌<◌, ◌≤◌, List, [], ◌∷◌, ◌++◌, Some, refl, sym, ap, subst, arith, append_assoc}, lemmas.List.{append-nil}}, specs.Prelude.{slice_get}}
+use Rattle.pc_ground.specs.{declared.row.Row.{Row}, Tree.{Tree, always, never, leaf, both, either, size_of}, Rows.{rows_of, IsPart}, Refutes.{subtree_at, asserted}}
+use Rattle.pc_ground.{specs.Walks.{stride, Walk, at_end, onward}, proofs.FlatRows.{parts_both, part_row, root_of, size_pos, subtree_part}}
 
 -- through a part, where a walk goes on after it
 pub walk_through : {N : Type 0} (rows : List (Row N)) (end : ℕ) (s : Tree N) (p : ℕ) (ps : List ℕ) → IsPart rows p s → p + size_of s ≤ end
@@ -26,11 +26,7 @@ walk_through {N} rows end (both a b) p ps part within walk =
 pub walk_part : {N : Type 0} (rows : List (Row N)) (s : Tree N) (p : ℕ) → IsPart rows p s → Walk rows (p + size_of s) p (asserted s p)
 walk_part rows s p part =
     let Q : List ℕ → Type 0 = λ xs. Walk rows (p + size_of s) p xs in
-    subst Q (append_none (asserted s p)) (walk_through rows (p + size_of s) s p [] part (omega arith) at_end)
-  where
-    append_none : {X : Type 0} (xs : List X) → xs ++ [] ≡ xs
-    append_none [] = refl
-    append_none (x ∷ xs) = ap (λ zs. x ∷ zs) (append_none xs)
+    subst Q (append-nil (asserted s p)) (walk_through rows (p + size_of s) s p [] part (omega arith) at_end)
 
 -- the walk over a side of a tree
 pub walk_side : {N : Type 0} (t : Tree N) (p : ℕ) (s : Tree N) → subtree_at t p ≡ Some s → Walk (rows_of t) (p + size_of s) p (asserted s p)

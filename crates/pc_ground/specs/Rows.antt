@@ -1,6 +1,6 @@
 -- A tree as rows in preorder: each position with what stands there and how many positions are below it, itself among
 -- them.
-use Rattle.std.specs.Prelude.{ℕ, ◌≡◌, Bool, true, false, List, [], ◌∷◌, ◌++◌, map}
+use Rattle.std.specs.Prelude.{ℕ, ◌≡◌, Bool, true, false, List, [], ◌∷◌, ◌++◌, map, drop}
 use Rattle.pc_ground.specs.declared.{literal.Literal.{Literal}, row.{RowKind.{RowKind, TheVariants.{True, False, Lit, And, Or}}, Row.{Row}}}
 use Rattle.pc_ground.specs.Tree.{Tree, always, never, leaf, both, either, contrary, size_of}
 
@@ -44,6 +44,10 @@ turned_row negated r = row (turned_kind negated r.kind) r.skip
 
 abbrev pub turned_rows : {N : Type 0} → Bool → List (Row N) → List (Row N)
 turned_rows negated rows = map (turned_row negated) rows
+
+-- the rows from p on begin with those of s
+abbrev pub IsPart : {N : Type 0} → List (Row N) → ℕ → Tree N → Type 0
+IsPart {N} rows p s = (rest : List (Row N)) × (drop p rows ≡ rows_of s ++ rest)
 
 -- the rows are those of a tree
 abbrev pub IsFlat : {N : Type 0} → List (Row N) → Type 0

@@ -1,5 +1,8 @@
 -- What can be known on a branch of a ground tree, for those who follow the steps of a refutation.
+use Rattle.std.specs.Prelude.{List, [], ◌∷◌}
 use Rattle.pc_common.specs.World.{Node}
+use Rattle.pc_ground.specs.declared.literal.Literal.{Literal}
+use Rattle.pc_ground.specs.declared.literal.Literal.TheVariants.{Node as a_node, Edge as an_edge, NoNode as not_node, NoEdge as not_edge}
 use Rattle.pc_ground.specs.{Keys.{key_node}, Refutes.{Signed, signed}}
 use Rattle.refutation.specs.declared.branch_fact.BranchFact.{BranchFact, TheVariants.{At, Edge, NoEdge, NoNode, Present}}
 
@@ -15,6 +18,13 @@ pub data PlainBranchFact : Type 0 where
   no_node : Node → PlainBranchFact
   -- the node is asserted, by itself or as an end of an edge
   present : Node → PlainBranchFact
+
+-- what a literal says; an edge makes both of its ends present
+abbrev pub facts_of_literal : Literal Node → List PlainBranchFact
+facts_of_literal (a_node a) = present a ∷ []
+facts_of_literal (an_edge a b) = edge a b ∷ present a ∷ present b ∷ []
+facts_of_literal (not_node a) = no_node a ∷ []
+facts_of_literal (not_edge a b) = no_edge a b ∷ []
 
 -- a fact of the code, with its keys as plain nodes
 abbrev pub plain_branch_fact : BranchFact → PlainBranchFact

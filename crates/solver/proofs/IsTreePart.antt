@@ -1,8 +1,8 @@
 -- The rows of a subtree, by themselves.
 use Rattle.std.proofs.Common.{◌≡◌, ◌≤◌, ◌<◌, ℕ, ◌+◌, ◌-◌, Bool, List, Some, take, drop, length, sym, ap, ◌∙◌, subst, arith}
 use Rattle.std.{proofs.Math.Seq.{take-append_seam}, specs.Prelude.{slice_get, slice_range, IsTrue, ◌↔◌}}
-use Rattle.pc_ground.specs.{declared.{literal.Literal.{Literal}, row.Row.{Row}}, Tree.{Tree, size_of}, Rows.{rows_of}, Refutes.{subtree_at}}
-use Rattle.pc_ground.proofs.{FlatRows.{IsPart, subtree_part, subtree_size, length_rows}, StageWalks.{some_same}}
+use Rattle.pc_ground.specs.{declared.{literal.Literal.{Literal}, row.Row.{Row}}, Tree.{Tree, size_of}, Rows.{rows_of, IsPart}, Refutes.{subtree_at}}
+use Rattle.pc_ground.proofs.{FlatRows.{subtree_part, subtree_size, length_rows}, StageWalks.{some_same}}
 use Rattle.solver.{specs.{Spelled.{spelled, IsSpelled}, Met.{IsMet}, Flags.{IsTreePart}}, proofs.IsSpelled.{spelled_is}}
 use Rattle.solver.proofs.HasAsserted.{row_root, length_spelled}
 

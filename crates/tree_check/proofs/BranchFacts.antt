@@ -6,8 +6,8 @@ use Rattle.pc_ground.specs.declared.literal.Literal.{Literal, TheVariants.{Node 
 use Rattle.pc_ground.specs.declared.{node_key.NodeKey.{NodeKey}, row.RowKind.{RowKind, TheVariants.{Lit}}}
 use Rattle.pc_ground.specs.{Keys.{key_node, literal_node, renamed_kind}, Tree.{Tree, leaf, either}}
 use Rattle.pc_ground.specs.{Literals.{IsPresent, as_node, as_start, as_end}, Refutes.{Signed, Branch, part_at, literal_of, literals_of}}
-use Rattle.refutation.specs.BranchFacts.{PlainBranchFact, at_position, edge, no_edge, no_node, present}
-use Rattle.tree_check.specs.Facts.{facts_of_literal, facts_of_part, facts_at, facts_of_kind, facts_on, HasFacts, HasAdded}
+use Rattle.refutation.specs.BranchFacts.{PlainBranchFact, at_position, edge, no_edge, no_node, present, facts_of_literal}
+use Rattle.tree_check.specs.Facts.{facts_of_part, facts_at, facts_of_kind, facts_on, HasFacts, HasAdded}
 
 no_place : (l : Literal Node) (p : Signed) → In (at_position p) (facts_of_literal l) → ⊥
 no_place (an_edge a b) p (inl e) = cc

@@ -8,8 +8,8 @@ use Rattle.pc_ground.specs.{Rows.{rows_of, turned_row, turned_rows, IsFlat}, Wal
 use Rattle.pc_ground.specs.Refutes.{Signed, signed, all_signed, Branch, subtree_at, asserted}
 use Rattle.pc_ground.proofs.{FlatRows.{root_of, row_subtree, subtree_size, length_rows, children_both, rows_injective}, StageWalks.{some_same}}
 use Rattle.pc_ground.proofs.{Turned.{size_turned, row_turned}, Walks.{walk_side, walk_turn, walk_done, walk_within}}
-use Rattle.refutation.specs.BranchFacts.{PlainBranchFact, at_position}
-use Rattle.tree_check.specs.Facts.{facts_of_literal, facts_of_part, facts_at, facts_of_kind, facts_on, HasAdded}
+use Rattle.refutation.specs.BranchFacts.{PlainBranchFact, at_position, facts_of_literal}
+use Rattle.tree_check.specs.Facts.{facts_of_part, facts_at, facts_of_kind, facts_on, HasAdded}
 use Rattle.tree_check.specs.{Sides.{positions_of, positions_at}, OpenBranches.{IsClosedUnderAnd, IsBranch}}
 use Rattle.tree_check.proofs.{BranchFacts.{position_of_fact, added_none, added_then, has_more, has_again, facts_none}, OrRows.{turned_flat}}
 

@@ -1,18 +1,9 @@
 -- What is known on a branch of a tree, as a set of facts.
 use Rattle.std.specs.{Prelude.{◌≡◌, ◌↔◌, ◌⊎◌, List, [], ◌∷◌, Option, Some, None, Contains, length, take}, List.{flat_map}}
 use Rattle.pc_common.specs.World.{Node}
-use Rattle.pc_ground.specs.declared.literal.Literal.{Literal}
-use Rattle.pc_ground.specs.declared.literal.Literal.TheVariants.{Node as a_node, Edge as an_edge, NoNode as not_node, NoEdge as not_edge}
 use Rattle.pc_ground.specs.{declared.row.RowKind.{RowKind, TheVariants.{True, False, Lit, And, Or}}, Tree.{Tree, always, never, leaf, both, either}}
 use Rattle.pc_ground.specs.Refutes.{Signed, Branch, part_at}
-use Rattle.refutation.specs.BranchFacts.{PlainBranchFact, at_position, edge, no_edge, no_node, present}
-
--- what a literal says; an edge makes both of its ends present
-abbrev pub facts_of_literal : Literal Node → List PlainBranchFact
-facts_of_literal (a_node a) = present a ∷ []
-facts_of_literal (an_edge a b) = edge a b ∷ present a ∷ present b ∷ []
-facts_of_literal (not_node a) = no_node a ∷ []
-facts_of_literal (not_edge a b) = no_edge a b ∷ []
+use Rattle.refutation.specs.BranchFacts.{PlainBranchFact, at_position, edge, facts_of_literal}
 
 -- what is known of an asserted position: what its literal says, and where it has none, that it is asserted
 abbrev pub facts_of_part : Option (Tree Node) → Signed → List PlainBranchFact

@@ -4,7 +4,8 @@ ghost use Rattle.pc_ground.specs.Keys.{literal_node, row_node};
 ghost use Rattle.pc_ground.specs.Tree.{Tree};
 ghost use Rattle.pc_ground.specs.Rows.{rows_of};
 ghost use Rattle.pc_ground.specs.Refutes.{signed, Branch};
-ghost use Rattle.tree_check.specs.Facts.{facts_of_literal, facts_of_kind, facts_on, HasAdded};
+ghost use Rattle.refutation.specs.BranchFacts.{facts_of_literal};
+ghost use Rattle.tree_check.specs.Facts.{facts_of_kind, facts_on, HasAdded};
 ghost use Rattle.tree_check.specs.Sides.{positions_at, with_denied, with_all, IsInside};
 ghost use Rattle.tree_check.specs.OpenBranches.{IsBranch};
 

@@ -23,6 +23,10 @@
 //! Or in the first branch's place, or closes that branch by a leaf; the answer says whether the step's
 //! condition holds there. It stands on the definition of a refutation and its steps, and on nothing of the search.
 //!
+//! `branches.rt` takes a step: `children.rt` finds the sides of a split, `entering.rt` adds what a side asserts to
+//! the facts in `facts.rt`, and `closing.rt` judges a leaf. `shortening.rt` leaves out by the flags of `flags.rt`, and
+//! asks `judging.rt` whether what stays is a refutation.
+//!
 //! Refutations of version 1 and of version 2 are followed by one set of functions: a position under the sign
 //! `~` is a position of the negated tree, whose rows are the tree's, turned one by one as they are read.
 //!

@@ -1,8 +1,8 @@
 use Rattle.std.proofs.{Common.{◌≡◌, ◌<◌, ◌+◌, ℕ, sym, ◌∙◌, ap, subst, arith}, lemmas.Result.{on_ok_weaker}}
-use Rattle.pc_ground.specs.{Stages.{plain_axioms}, Tree.{Tree}}
+use Rattle.pc_ground.specs.{Stages.{plain_axioms}, Rows.{IsPart}, Tree.{Tree}}
 use Rattle.pc_common.specs.World.{Node}
 use Rattle.lifted_facts.specs.{PlainFacts.{Branch, plain_fact, root}, Lifted.{HasFact}}
-use Rattle.lifter.{specs.{Kinds.{kind_of}, KnownFacts.{IsPart}, PartLists.{facts_from}, Unfoldings.{HasUnfolded}}, proofs.StateMoves.{moved_fact}}
+use Rattle.lifter.{specs.{Kinds.{kind_of}, PartLists.{facts_from}, Unfoldings.{HasUnfolded}}, proofs.StateMoves.{moved_fact}}
 use Rattle.lifter.proofs.{LiftedRoots.{axiom_said}, TakenParts.{taken_start, taken_more, taken_all, last_is, IsTakenTo}}
 use Rattle.lifter.proofs.roots.unfold_axioms.Goals as goal
 

@@ -1,8 +1,8 @@
 use Rattle.std.proofs.{Common.{◌≡◌, ◌<◌, ◌+◌, ℕ, refl, sym, subst, ◌∙◌, ap, arith}, lemmas.Result.{on_ok_weaker}}
-use Rattle.pc_ground.specs.{Tree.{Tree, leaf}, Keys.{literal_node}}
+use Rattle.pc_ground.specs.{Rows.{IsPart}, Tree.{Tree, leaf}, Keys.{literal_node}}
 use Rattle.pc_common.specs.World.{Node}
 use Rattle.lifted_facts.specs.{PlainFacts.{PlainFact, plain_fact}, Lifted.{HasFact}}
-use Rattle.lifter.specs.{Trees.{fact_tree}, Kinds.{kind_of}, PartLists.{parts, facts_from, parts_from}, KnownFacts.{IsPart}, States.{branch_of}}
+use Rattle.lifter.specs.{Trees.{fact_tree}, Kinds.{kind_of}, PartLists.{parts, facts_from, parts_from}, States.{branch_of}}
 use Rattle.lifter.proofs.{SideLaws.{sides_rank, part_rank}, StateMoves.{moves_same, moves_then, moved_fact, gained_fact}}
 use Rattle.lifter.proofs.TakenParts.{stands_here, taken_open, passed_over, true_here, taken_start, taken_more, taken_all, last_is, IsTakenTo}
 use Rattle.lifter.proofs.UnfoldedFacts.{both_ok, literal_tree, unfolded_by, first_lost, second_lost, both_stay, both_told, over_parts}
