@@ -58,8 +58,10 @@ returns-in_ok-mark-in-Edge-2 c =
     subst U (sym c.in-Edge.is) (both_ok c.mark-in-Edge-3.result
     (λ moves key.
     let three = moves rows (f, second, inr refl) in
-    literal_unfolded case rows s s3 (an_edge x y) c.args.at here (moves_then case rows s s2 s3 (moves_then case rows s s1 s2 one two) three)
-    (three.keys (edge x y) (two.keys (edge x y) c.in_ok-mark-in-Edge.ensures.has), three.keys (present x) c.in_ok-mark-in-Edge-2.ensures.has, key, tt))
+    literal_unfolded case rows s s3 (an_edge x y) c.args.at here (moves_then case rows s s2 s3 (moves_then case rows s s1 s2 one two) three) (
+      three.keys (edge x y) (two.keys (edge x y) c.in_ok-mark-in-Edge.ensures.has),
+      (three.keys (present x) c.in_ok-mark-in-Edge-2.ensures.has, (key, tt)),
+    ))
     c.mark-in-Edge-3.ensures.moves c.mark-in-Edge-3.ensures.has)
 
 pub mark-requires-in-NoNode : goal.mark-requires-in-NoNode
