@@ -5,7 +5,7 @@ ghost use Rattle.macro_expand.specs.{Numbers.{short_name}, Connectives.{joined_b
 
 use super::names::ShortNames;
 use super::predicates::short_static;
-use super::terms::{short_args, short_edges, short_names_of, short_nodes, short_word};
+use super::terms::{Named, short_shared};
 use crate::connective::Connective;
 use crate::quantifier::Quantifier;
 use pc_common::{Memory, Place};
@@ -41,8 +41,8 @@ pub(crate) fn short_formula(
             body,
         } => short_quantified(alloc, names, Quantifier::Exists, *at, *sort, name, body),
         Formula::Static { pred, args } => short_static(alloc, names, pred, args),
-        Formula::Nodes(nodes) => Ok(Formula::Nodes(short_nodes(alloc, names, nodes)?)),
-        Formula::Edges(edges) => Ok(Formula::Edges(short_edges(alloc, names, edges)?)),
+        Formula::Nodes(nodes) => Ok(Formula::Nodes(short_shared(alloc, names, nodes)?)),
+        Formula::Edges(edges) => Ok(Formula::Edges(short_shared(alloc, names, edges)?)),
         Formula::Expand { at, name, args } => short_expand(alloc, names, *at, name, args),
         Formula::Bind {
             at,
@@ -102,8 +102,8 @@ fn short_binding(
     ensures { let ρ = short_name names.now in
         IfOk result (λ f. written f ≡ bind_ at (map ρ bound.now) (map (renamed_arg ρ) args.now) (renamed ρ (written body.now))) }
 {
-    let bound = short_names_of(alloc, names, bound)?;
-    let args = short_args(alloc, names, args)?;
+    let bound = short_shared(alloc, names, bound)?;
+    let args = short_shared(alloc, names, args)?;
     let body = short_formula(alloc, names, body)?;
     Formula::bind(alloc, at, bound, args, body)
 }
@@ -119,10 +119,10 @@ fn short_expand(
     ensures { let ρ = short_name names.now in
         IfOk result (λ f. written f ≡ expand_ at (renamed_word ρ name.now) (map (renamed_arg ρ) args.now)) }
 {
-    let name = short_word(alloc, names, name)?;
+    let name = name.shortened(alloc, names)?;
     Ok(Formula::Expand {
         at,
         name,
-        args: short_args(alloc, names, args)?,
+        args: short_shared(alloc, names, args)?,
     })
 }

@@ -1,4 +1,4 @@
-ghost use Rattle.std.specs.Prelude.{◌≡◌, ◌++◌, ◌∷◌, [], map, flat_map, IfOk, OnOk};
+ghost use Rattle.std.specs.Prelude.{◌≡◌, ◌++◌, ◌∷◌, [], ℕ, List, map, flat_map, IfOk, OnOk};
 ghost use Rattle.pc_syntax.specs.Written.{written, written_item, written_model};
 ghost use Rattle.macro_expand.specs.ModelNames.{arg_names, node_names, edge_names, formula_names};
 ghost use Rattle.macro_expand.specs.ModelNames.{item_names, names_of_model};
@@ -70,12 +70,12 @@ fn list_formula<'a>(names: &mut ListedNames<'a>, formula: &'a Formula) -> Result
             names.list(name)?;
             list_formula(names, body)
         }
-        Formula::Static { pred: _, args } => list_args(names, args.as_slice()),
-        Formula::Nodes(nodes) => list_nodes(names, nodes.as_slice()),
-        Formula::Edges(edges) => list_edges(names, edges.as_slice()),
+        Formula::Static { pred: _, args } => list_all(names, args.as_slice()),
+        Formula::Nodes(nodes) => list_all(names, nodes.as_slice()),
+        Formula::Edges(edges) => list_all(names, edges.as_slice()),
         Formula::Expand { at: _, name, args } => {
             names.list(&name.name)?;
-            list_args(names, args.as_slice())
+            list_all(names, args.as_slice())
         }
         Formula::Bind {
             at: _,
@@ -84,57 +84,60 @@ fn list_formula<'a>(names: &mut ListedNames<'a>, formula: &'a Formula) -> Result
             body,
         } => {
             list_names(names, bound.as_slice())?;
-            list_args(names, args.as_slice())?;
+            list_all(names, args.as_slice())?;
             list_formula(names, body)
         }
     }
 }
 
-fn list_edges<'a>(names: &mut ListedNames<'a>, edges: &'a [EdgeTerm]) -> Result<(), Memory>
-    ensures { OnOk result (names.new ≡ names.old ++ flat_map edge_names edges.now) }
+/// What names stand in.
+trait HasNames {
+    /// These, in their order.
+    ghost names_in: { Self → List (List ℕ) };
+
+    fn list_in<'a>(&'a self, names: &mut ListedNames<'a>) -> Result<(), Memory>
+        ensures { OnOk result (names.new ≡ names.old ++ names_in self.now) };
+}
+
+impl HasNames for Arg {
+    ghost names_in = { arg_names };
+
+    fn list_in<'a>(&'a self, names: &mut ListedNames<'a>) -> Result<(), Memory> {
+        match self {
+            Arg::Word(word) => names.list(&word.name),
+            Arg::Number(_, _) => Ok(()),
+        }
+    }
+}
+
+impl HasNames for NodeTerm {
+    ghost names_in = { node_names };
+
+    fn list_in<'a>(&'a self, names: &mut ListedNames<'a>) -> Result<(), Memory> {
+        names.list(&self.op.name)?;
+        if let Some(core) = &self.core {
+            core.list_in(names)?;
+        }
+        names.list(&self.stage.name)
+    }
+}
+
+impl HasNames for EdgeTerm {
+    ghost names_in = { edge_names };
+
+    fn list_in<'a>(&'a self, names: &mut ListedNames<'a>) -> Result<(), Memory> {
+        self.from.list_in(names)?;
+        self.to.list_in(names)
+    }
+}
+
+fn list_all<'a, T: HasNames>(names: &mut ListedNames<'a>, list: &'a [T]) -> Result<(), Memory>
+    ensures { OnOk result (names.new ≡ names.old ++ flat_map T.names_in list.now) }
 {
-    for edge in edges {
-        list_node(names, &edge.from)?;
-        list_node(names, &edge.to)?;
+    for item in list {
+        item.list_in(names)?;
     }
     Ok(())
-}
-
-fn list_nodes<'a>(names: &mut ListedNames<'a>, nodes: &'a [NodeTerm]) -> Result<(), Memory>
-    ensures { OnOk result (names.new ≡ names.old ++ flat_map node_names nodes.now) }
-{
-    for node in nodes {
-        list_node(names, node)?;
-    }
-    Ok(())
-}
-
-fn list_node<'a>(names: &mut ListedNames<'a>, node: &'a NodeTerm) -> Result<(), Memory>
-    ensures { OnOk result (names.new ≡ names.old ++ node_names node.now) }
-{
-    names.list(&node.op.name)?;
-    if let Some(core) = &node.core {
-        list_arg(names, core)?;
-    }
-    names.list(&node.stage.name)
-}
-
-fn list_args<'a>(names: &mut ListedNames<'a>, args: &'a [Arg]) -> Result<(), Memory>
-    ensures { OnOk result (names.new ≡ names.old ++ flat_map arg_names args.now) }
-{
-    for arg in args {
-        list_arg(names, arg)?;
-    }
-    Ok(())
-}
-
-fn list_arg<'a>(names: &mut ListedNames<'a>, arg: &'a Arg) -> Result<(), Memory>
-    ensures { OnOk result (names.new ≡ names.old ++ arg_names arg.now) }
-{
-    match arg {
-        Arg::Word(word) => names.list(&word.name),
-        Arg::Number(_, _) => Ok(()),
-    }
 }
 
 fn list_words<'a>(names: &mut ListedNames<'a>, words: &'a [Word]) -> Result<(), Memory>

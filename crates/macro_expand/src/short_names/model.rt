@@ -1,47 +1,16 @@
 ghost use Rattle.std.specs.Prelude.{◌≡◌, is_some, IfOk, MatchOption, map};
 ghost use Rattle.pc_syntax.specs.Written.{written_item, written_model};
-ghost use Rattle.pc_syntax.specs.Renaming.{renamed_stage, renamed_item, IsRenamed};
+ghost use Rattle.pc_syntax.specs.Renaming.{renamed_item, IsRenamed};
 ghost use Rattle.macro_expand.specs.Numbered.{has_long_name, IsNumbered};
 ghost use Rattle.macro_expand.specs.Numbers.{short_name};
 
 use super::formulas::short_formula;
 use super::listing::listed_names;
 use super::names::ShortNames;
-use super::terms::{short_word, short_words};
+use super::terms::{Named, short_list, short_shared};
 use pc_common::{Listed, Memory};
-use pc_syntax::{Item, Items, ModelFile, StageItem, StageItems};
+use pc_syntax::{Item, Items, ModelFile};
 use std::alloc::Global;
-
-/// A stage by its short name.
-fn short_stage(
-    alloc: Global,
-    names: &ShortNames<'_>,
-    stage: &StageItem,
-) -> Result<StageItem, Memory>
-    ensures { IfOk result (λ short. short ≡ renamed_stage (short_name names.now) stage.now) }
-{
-    let name = short_word(alloc, names, &stage.name)?;
-    Ok(StageItem {
-        number: stage.number,
-        number_at: stage.number_at,
-        name,
-    })
-}
-
-/// Stages by their short names.
-fn short_stages(
-    alloc: Global,
-    names: &ShortNames<'_>,
-    stages: &StageItems,
-) -> Result<StageItems, Memory>
-    ensures { IfOk result (λ shorts. shorts ≡ map (renamed_stage (short_name names.now)) stages.now) }
-{
-    let mut shorts = Listed::new(alloc);
-    for stage in stages.as_slice() {
-        shorts.push(short_stage(alloc, names, stage)?)?;
-    }
-    Ok(shorts)
-}
 
 /// A copy of an axiom or a macro with short names.
 fn short_item(alloc: Global, names: &ShortNames<'_>, item: &Item) -> Result<Item, Memory>
@@ -57,8 +26,8 @@ fn short_item(alloc: Global, names: &ShortNames<'_>, item: &Item) -> Result<Item
             parameters,
             body,
         } => {
-            let name = short_word(alloc, names, name)?;
-            let parameters = short_words(alloc, names, parameters)?;
+            let name = name.shortened(alloc, names)?;
+            let parameters = short_shared(alloc, names, parameters)?;
             let body = short_formula(alloc, names, body)?;
             Ok(Item::Macro {
                 name,
@@ -98,7 +67,7 @@ pub fn with_short_names(alloc: Global, model: &ModelFile) -> Result<Option<Model
         return Ok(None);
     }
     let names = ShortNames::from_listed(alloc, &listed)?;
-    let stages = short_stages(alloc, &names, &model.stages)?;
+    let stages = short_list(alloc, &names, model.stages.as_slice())?;
     let items = short_items(alloc, &names, &model.items)?;
     Ok(Some(ModelFile { stages, items }))
 }

@@ -6,7 +6,7 @@ ghost use Rattle.macro_expand.specs.Arguments.{renamed_at};
 ghost use Rattle.macro_expand.specs.Numbers.{short_name};
 
 use super::names::ShortNames;
-use super::terms::short_arg;
+use super::terms::Named;
 use pc_common::{Listed, Memory, Shared};
 use pc_syntax::{Arg, Args, Formula, Pred, Takes, Word};
 use std::alloc::Global;
@@ -21,7 +21,7 @@ fn short_taken_arg(
     ensures { IfOk result (λ short. short ≡ renamed_taken (short_name names.now) takes arg.now) }
 {
     match takes {
-        Takes::Op | Takes::Core => short_arg(alloc, names, arg),
+        Takes::Op | Takes::Core => arg.shortened(alloc, names),
         Takes::Plain => Ok(arg.clone()?),
     }
 }
