@@ -1,14 +1,14 @@
 -- Bytes are one formula at most, and none where they have a fault as a query; and they have one first fault at most.
-use Rattle.std.proofs.Common.{◌≡◌, ℕ, List, Some, None, unwrap_or, sym, ◌∙◌, ap, subst}
-use Rattle.pc_common.specs.declared.{place.Place.{Place}, fault.{FaultKind.TheVariants.{Lexical, Syntax, Depth}, InputFault.{InputFault}}}
+use Rattle.std.proofs.Common.{◌≡◌, ℕ, List, sym, ◌∙◌, ap, subst}
+use Rattle.pc_common.specs.declared.{fault.{FaultKind.TheVariants.{Lexical, Syntax, Depth}, InputFault.{InputFault}}}
 use Rattle.pc_common.specs.declared.fault.Which.TheVariants.{Query}
 use Rattle.ll_grammar.specs.{FirstFault.{IsFirstTokenFault}, declared.fault.Fault.{Fault as TokenFault}}
-use Rattle.ll_grammar.{specs.declared.fault.Fault.TheVariants.{Syntax as a_syntax_fault, Depth as a_depth_fault}, proofs.Faults.{one_answer}}
-use Rattle.uspec_lexer.{specs.{Token.{Token, token_place}, Spells.{Spells}}, proofs.SpellsLaws.{spells-unique, spells-no_fault, lexical_fault-unique}}
+use Rattle.ll_grammar.specs.declared.fault.Fault.TheVariants.{Syntax as a_syntax_fault, Depth as a_depth_fault}
+use Rattle.uspec_lexer.{specs.{Token.{Token}, Spells.{Spells}}, proofs.SpellsLaws.{spells-unique, spells-no_fault, lexical_fault-unique}}
 use Rattle.uspec_parser.specs.{declared.level.TheConstants.{MAX_OPENERS}, Marks.{IsMarkedFormula}, Syntax.{DerivesFormula}, Answers.{terminals}}
 use Rattle.uspec_parser.proofs.Trees.{one_formula}
 use Rattle.pc_syntax.specs.Written.{Written, WrittenModel}
-use Rattle.pc_front.specs.Front.{fault_at}
+use Rattle.pc_front.{specs.Front.{fault_at}, proofs.OneTokenFault.{place_is, no_fault_of_accepted, one_token_fault, one_token_place}}
 use Rattle.scope_check.specs.QueryFaults.{FiledFault}
 use Rattle.ask_command.specs.Queries.{FormulaOf, first_query_fault, SaysQuery, IsQueryFault, lexical, syntax, depth, of_tree}
 
@@ -19,10 +19,7 @@ one_whole_formula bytes f g x y =
 
 accepted_alone : (bytes : List ℕ) (f : Written) (ts : List Token) (fault : TokenFault) → FormulaOf bytes f → Spells bytes ts
     → IsFirstTokenFault IsMarkedFormula (terminals ts) fault → ⊥
-accepted_alone bytes f ts fault x spelled is =
-    let P : List Token → Type 0 = λ us. IsFirstTokenFault IsMarkedFormula (terminals us) fault in
-    let here = one_answer IsMarkedFormula (terminals x.tokens) None (Some fault) x.accepted (subst P (spells-unique spelled x.spelled) is) in
-    cc
+accepted_alone bytes f ts fault x spelled is = no_fault_of_accepted IsMarkedFormula bytes x.tokens ts fault x.spelled spelled x.accepted is
 
 -- a query without a fault is not refused
 pub no_fault_beside : (m : WrittenModel) (bytes : List ℕ) (f : Written) → SaysQuery m bytes f → (fault : InputFault) → IsQueryFault m bytes fault → ⊥
@@ -33,55 +30,30 @@ no_fault_beside m bytes f x _ (of_tree {f = g} y is) =
     let both = sym is ∙ ap (first_query_fault m) (one_whole_formula bytes g f y x.formula) ∙ x.no_fault in
     cc
 
-place_is : (p q : Place) → p.offset ≡ q.offset → p ≡ q
-place_is p q same = λ i. record { offset = same i }
-
--- tokens have one first fault
-one_token_fault : (bytes : List ℕ) (ts us : List Token) (f g : TokenFault) → Spells bytes ts → Spells bytes us
-    → IsFirstTokenFault IsMarkedFormula (terminals ts) f → IsFirstTokenFault IsMarkedFormula (terminals us) g → f ≡ g
-one_token_fault bytes ts us f g spelled other x y =
-    let P : List Token → Type 0 = λ vs. IsFirstTokenFault IsMarkedFormula (terminals vs) g in
-    let same = one_answer IsMarkedFormula (terminals ts) (Some f) (Some g) x (subst P (spells-unique other spelled) y) in
-    ap (λ o. unwrap_or o f) same
-
-number_of : TokenFault → ℕ
-number_of (a_syntax_fault k) = k
-number_of (a_depth_fault k) = k
-
--- and so one place
-one_token_place : (bytes : List ℕ) (ts us : List Token) (f g : TokenFault) (p q : Place) → Spells bytes ts → Spells bytes us
-    → f ≡ g → p.offset ≡ token_place bytes ts (number_of f)
-    → q.offset ≡ token_place bytes us (number_of g) → p ≡ q
-one_token_place bytes ts us f g p q spelled other same at there =
-    place_is p q
-    (at ∙ ap (λ vs. token_place bytes vs (number_of f)) (spells-unique spelled other)
-    ∙ ap (λ h. token_place bytes us (number_of h)) same ∙ sym there)
-
 abbrev input_fault : FiledFault → InputFault
 input_fault (file, (kind, at)) = fault_at file kind at
 
 -- bytes have one first fault as a query
 pub one_fault : (m : WrittenModel) (bytes : List ℕ) (x y : InputFault) → IsQueryFault m bytes x → IsQueryFault m bytes y → x ≡ y
-unfolding number_of
 one_fault m bytes _ _ (lexical {at = p} x) (lexical {at = q} y) = ap (fault_at Query Lexical) (place_is p q (lexical_fault-unique x y))
 one_fault m bytes _ _ (lexical x) (syntax spelled f at) = absurd (spells-no_fault spelled x)
 one_fault m bytes _ _ (lexical x) (depth spelled f at) = absurd (spells-no_fault spelled x)
 one_fault m bytes _ _ (lexical x) (of_tree f is) = absurd (spells-no_fault f.spelled x)
 one_fault m bytes _ _ (syntax spelled f at) (lexical y) = absurd (spells-no_fault spelled y)
 one_fault m bytes _ _ (syntax {ts = ts} {k = k} {at = p} spelled f at) (syntax {ts = us} {k = l} {at = q} other g there) =
-    let same = one_token_fault bytes ts us (a_syntax_fault k) (a_syntax_fault l) spelled other f g in
+    let same = one_token_fault IsMarkedFormula bytes ts us (a_syntax_fault k) (a_syntax_fault l) spelled other f g in
     ap (fault_at Query Syntax) (one_token_place bytes ts us (a_syntax_fault k) (a_syntax_fault l) p q spelled other same at there)
 one_fault m bytes _ _ (syntax {ts = ts} {k = k} spelled f at) (depth {ts = us} {k = l} other g there) =
-    let same = one_token_fault bytes ts us (a_syntax_fault k) (a_depth_fault l) spelled other f g in
+    let same = one_token_fault IsMarkedFormula bytes ts us (a_syntax_fault k) (a_depth_fault l) spelled other f g in
     absurd (cc)
 one_fault m bytes _ _ (syntax {ts = ts} {k = k} spelled f at) (of_tree {f = g} x is) =
     absurd (accepted_alone bytes g ts (a_syntax_fault k) x spelled f)
 one_fault m bytes _ _ (depth spelled f at) (lexical y) = absurd (spells-no_fault spelled y)
 one_fault m bytes _ _ (depth {ts = ts} {k = k} spelled f at) (syntax {ts = us} {k = l} other g there) =
-    let same = one_token_fault bytes ts us (a_depth_fault k) (a_syntax_fault l) spelled other f g in
+    let same = one_token_fault IsMarkedFormula bytes ts us (a_depth_fault k) (a_syntax_fault l) spelled other f g in
     absurd (cc)
 one_fault m bytes _ _ (depth {ts = ts} {k = k} {at = p} spelled f at) (depth {ts = us} {k = l} {at = q} other g there) =
-    let same = one_token_fault bytes ts us (a_depth_fault k) (a_depth_fault l) spelled other f g in
+    let same = one_token_fault IsMarkedFormula bytes ts us (a_depth_fault k) (a_depth_fault l) spelled other f g in
     ap (fault_at Query (Depth MAX_OPENERS)) (one_token_place bytes ts us (a_depth_fault k) (a_depth_fault l) p q spelled other same at there)
 one_fault m bytes _ _ (depth {ts = ts} {k = k} spelled f at) (of_tree {f = g} x is) =
     absurd (accepted_alone bytes g ts (a_depth_fault k) x spelled f)

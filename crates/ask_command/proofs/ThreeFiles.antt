@@ -15,26 +15,8 @@ use Rattle.command_base.specs.declared.{refusal.Refusal.{Refusal}, ending.Ending
 use Rattle.command_base.specs.declared.ending.Ending.TheVariants.{ReadFault as a_read_fault, Memory as a_memory, Refused as a_refusal}
 use Rattle.command_base.specs.Inputs.{Inputs, Contents, IsTooLarge, too_large, large_model as model_is_large, large_test as test_is_large, in_bytes as bytes_have_one}
 use Rattle.command_base.specs.{SecondFiles.{NoFault}, Refusals.{IsInputRefusal as IsRefusalOfTwo, refusal as refusal_of_two}}
-use Rattle.command_base.{specs.{Endings.{ending_status, refusal_text, IsUnread}, Outcomes.{IsUnreadEnding}}, proofs.InputsRead.{refusal_is}}
+use Rattle.command_base.{specs.{Endings.{ending_status, refusal_text, IsUnread}, Outcomes.{IsUnreadEnding}}, proofs.InputsRead.{refusal_is, some_none, memory_no_fault, memory_no_usage, fault_no_usage, refused_no_fault, refused_no_usage}}
 use Rattle.command_base.proofs.{OneCase.{one_held, never_both}, TestForm.{test_form, test_kept}}
-
-some_none : {x : List ℕ} → Some x ≡ None → ⊥
-some_none e = cc
-
-memory_no_fault : Memory ≡ ReadFault → ⊥
-memory_no_fault e = cc
-
-memory_no_usage : Memory ≡ Usage → ⊥
-memory_no_usage e = cc
-
-fault_no_usage : ReadFault ≡ Usage → ⊥
-fault_no_usage e = cc
-
-refused_no_fault : Refused ≡ ReadFault → ⊥
-refused_no_fault e = cc
-
-refused_no_usage : Refused ≡ Usage → ⊥
-refused_no_usage e = cc
 
 refused_no_memory : Refused ≡ Memory → ⊥
 refused_no_memory e = cc

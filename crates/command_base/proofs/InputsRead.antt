@@ -16,22 +16,22 @@ use Rattle.command_base.specs.{SecondFiles.{IsOfTwo, SaysFront, SaysNone, AnyCas
 use Rattle.command_base.specs.{Endings.{refusal_text, bytes_of, IsBytesEnding, IsUnread}, Outcomes.{HasFront, IsInputsEnding, IsUnreadEnding}}
 use Rattle.command_base.proofs.OneCase.{never_both, one_held}
 
-some_none : {X : Type 0} {x : X} → Some x ≡ None → ⊥
+pub some_none : {X : Type 0} {x : X} → Some x ≡ None → ⊥
 some_none e = cc
 
-memory_no_fault : Memory ≡ ReadFault → ⊥
+pub memory_no_fault : Memory ≡ ReadFault → ⊥
 memory_no_fault e = cc
 
-memory_no_usage : Memory ≡ Usage → ⊥
+pub memory_no_usage : Memory ≡ Usage → ⊥
 memory_no_usage e = cc
 
-fault_no_usage : ReadFault ≡ Usage → ⊥
+pub fault_no_usage : ReadFault ≡ Usage → ⊥
 fault_no_usage e = cc
 
-refused_no_fault : Refused ≡ ReadFault → ⊥
+pub refused_no_fault : Refused ≡ ReadFault → ⊥
 refused_no_fault e = cc
 
-refused_no_usage : Refused ≡ Usage → ⊥
+pub refused_no_usage : Refused ≡ Usage → ⊥
 refused_no_usage e = cc
 
 pub refusal_is : (bytes : List ℕ) (f : InputFault) (r : Refusal) → r.fault ≡ f

@@ -1,4 +1,5 @@
 pub mod FrontLaws
+pub mod OneTokenFault
 pub mod OneModel
 pub mod ModelOrFault
 pub mod StageTables

@@ -216,19 +216,19 @@ edge_behind : {Y : Type 0} (o c z : Y) (a b l r : List Y)
     → (o ∷ (a ++ c ∷ (b ++ (l ++ z ∷ [])))) ++ r ≡ o ∷ (a ++ c ∷ (b ++ (l ++ z ∷ r)))
 edge_behind o c z a b l r = simp append_assoc
 
-node_lexemes : {Y : Type 0} (f : Lexeme → Y) (o w k z : Lexeme) (l r : List Lexeme)
+pub node_lexemes : {Y : Type 0} (f : Lexeme → Y) (o w k z : Lexeme) (l r : List Lexeme)
     → map f ((o ∷ w ∷ k ∷ (l ++ z ∷ [])) ++ r) ≡ f o ∷ f w ∷ f k ∷ (map f l ++ f z ∷ map f r)
 node_lexemes f o w k z l r = simp (map-append, append_assoc)
 
-edge_lexemes : {Y : Type 0} (f : Lexeme → Y) (o c z : Lexeme) (a b l r : List Lexeme)
+pub edge_lexemes : {Y : Type 0} (f : Lexeme → Y) (o c z : Lexeme) (a b l r : List Lexeme)
     → map f ((o ∷ (a ++ c ∷ (b ++ (l ++ z ∷ [])))) ++ r) ≡ f o ∷ (map f a ++ f c ∷ (map f b ++ (map f l ++ f z ∷ map f r)))
 edge_lexemes f o c z a b l r = simp (map-append, append_assoc)
 
-edge_alone : {Y : Type 0} (f : Lexeme → Y) (o c z : Lexeme) (a b l : List Lexeme)
+pub edge_alone : {Y : Type 0} (f : Lexeme → Y) (o c z : Lexeme) (a b l : List Lexeme)
     → map f (o ∷ (a ++ c ∷ (b ++ (l ++ z ∷ [])))) ≡ f o ∷ (map f a ++ f c ∷ (map f b ++ (map f l ++ f z ∷ [])))
 edge_alone f o c z a b l = simp map-append
 
-abbrev mark : Lexeme → Bool
+abbrev pub mark : Lexeme → Bool
 mark x = false
 
 abbrev node_at : Word → Option Arg × Word → NodeTerm

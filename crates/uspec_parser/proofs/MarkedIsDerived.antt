@@ -14,23 +14,7 @@ use Rattle.uspec_parser.specs.declared.phrase.Phrase.TheVariants.{Items, Paramet
 use Rattle.uspec_parser.specs.Syntax.{spelled_arg, spelled_location, spelled_node, Label, named, other, spelled_label, Labels, unlabelled, labelled, coloured, spelled_labels, Edge as EdgeText, spelled_edge, Listing, empty, some, spelled_others, spelled_elements, Atom, one_edge, one_node, edge_list, node_list, expand, predicate, spelled_atom, spelled_sort, spelled_quantifier_word, spelled_connective, Formula, last, last_wide, more, Operand as OperandText, atom, bracketed, negated, Wide, binding, negated_wide, spelled_formula, spelled_operand, spelled_wide, Item, stage, axiom_item, macro, spelled_model}
 use Rattle.uspec_parser.specs.Levels.{is_deep, level_of, level_after_and, level_after_or, level_after_implies}
 use Rattle.uspec_parser.specs.Marks.{shallow, open_at, level_behind, marks_formula, marks_operand, marks_wide, marks_model, IsMarkedFormula, IsMarkedModel}
-use Rattle.uspec_parser.specs.Phrases.{rules}
-
--- a node and an edge with what stands after them, lexeme by lexeme
-node_lexemes : {Y : Type 0} (f : Lexeme → Y) (o w k z : Lexeme) (l r : List Lexeme)
-    → map f ((o ∷ w ∷ k ∷ (l ++ z ∷ [])) ++ r) ≡ f o ∷ f w ∷ f k ∷ (map f l ++ f z ∷ map f r)
-node_lexemes f o w k z l r = simp (map-append, append_assoc)
-
-edge_lexemes : {Y : Type 0} (f : Lexeme → Y) (o c z : Lexeme) (a b l r : List Lexeme)
-    → map f ((o ∷ (a ++ c ∷ (b ++ (l ++ z ∷ [])))) ++ r) ≡ f o ∷ (map f a ++ f c ∷ (map f b ++ (map f l ++ f z ∷ map f r)))
-edge_lexemes f o c z a b l r = simp (map-append, append_assoc)
-
-edge_alone : {Y : Type 0} (f : Lexeme → Y) (o c z : Lexeme) (a b l : List Lexeme)
-    → map f (o ∷ (a ++ c ∷ (b ++ (l ++ z ∷ [])))) ≡ f o ∷ (map f a ++ f c ∷ (map f b ++ (map f l ++ f z ∷ [])))
-edge_alone f o c z a b l = simp map-append
-
-abbrev mark : Lexeme → Bool
-mark x = false
+use Rattle.uspec_parser.{specs.Phrases.{rules}, proofs.DerivedIsMarked.{node_lexemes, edge_lexemes, edge_alone, mark}}
 
 abbrev Read : Phrase → List Lexeme → Type 0
 Read n xs = Derives rules n (map terminal xs) (shallow xs)
