@@ -132,7 +132,7 @@ def answer(model_path: str, test_path: str) -> tuple[list[str], int]:
     calls = Calls()
     with SIGNALS.temporary_folder() as folder:
         checker = checker_of(os.environ, TOP, SECONDS, calls)
-        paths = os.path.join(folder, "given.uspec"), os.path.join(folder, f"given{os.path.splitext(test_path)[1]}")
+        paths = os.path.join(folder, "given_model"), os.path.join(folder, f"given_test{os.path.splitext(test_path)[1]}")
         for path, text in zip(paths, (model_text, test_text)):
             with open(path, "wb") as file:
                 file.write(text)
