@@ -158,7 +158,11 @@ def compare(options: Namespace) -> int:
         is_swept = any(pair.is_swept for pair in pairs)
         counts.differ += 0 if given else compare_table()
         if not counts.done:
-            raise Unusable("nothing is compared: no machine of these models runs one of these tests")
+            raise Unusable("nothing is compared: no model here takes one of these tests with a machine that runs it")
+        left_out = [test for test in given if all(pair.test != test for pair in pairs)]
+        if left_out:
+            more = f" and {len(left_out) - 1} more" if left_out[1:] else ""
+            tell(f"not taken by a model here with a machine that runs it: {shown(left_out[0])}{more}")
     if is_swept:
         print(f"swept by {'the program' if by_program else 'the second implementation'}")
     print(f"{counts.line}{sweeper().said if is_swept and by_program else ''}")
