@@ -12,6 +12,7 @@ from typing import Iterator
 
 from tools import TOP
 from tools.ending import SIGNALS
+from tools.lint.asked import Asked
 from tools.mend.asking import Questions, SuiteTests, Unanswered, is_shown
 from tools.mend.copies import Outcome, free_name, program_of
 from tools.mend.orders import Found, Search
@@ -67,7 +68,8 @@ class Mending:
         self.questions = Questions(checker, folder, model, model_text, self.program, free_name(model_text, test_text))
         self.machines = Machines(TOP)
         self.memory_model = memory_model_of(model_text).name
-        self.telling = Telling(Names(model, case, model_text), self.program, self.memory_model)
+        predicates = Asked(model).predicates
+        self.telling = Telling(Names(model, case, model_text), self.program, self.memory_model, predicates)
 
     def lines(self) -> tuple[list[str], int]:
         """What is said, and the status."""
