@@ -3,8 +3,7 @@
     python3 tools lint MODEL [TEST..] [QUERY..]
 
 Each slip is a line `FILE:LINE:COLUMN: KIND: ..` on standard output, and so is a refused file, with the fault's word.
-The exit status is 0 where there is no slip, 1 where there are some, 3 where a file is refused, 4 where one cannot be
-read, 5 where standard output could not be written, and 125 where this program fails.
+docs/lint.md has the exit statuses.
 """
 import os
 import sys

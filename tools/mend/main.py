@@ -2,9 +2,7 @@
 
     python3 tools mend MODEL TEST
 
-The exit status is 0 where an order is named that forbids the outcome and keeps what else the program does, 1 where there
-is none or the model does not show the outcome, 3 where a file is refused, 4 where one cannot be read, 5 where standard
-output could not be written, 7 where memory was refused, and 125 where this program fails.
+docs/mend.md has the exit statuses.
 """
 import os
 import sys
