@@ -62,6 +62,8 @@ ROWS = (
     ("reads that are not replayed", REPLAY, "tests/CoRR.test",
      ("add 1.0@1:Access before 2.0@1:Access", '      AddEdge ((i, Access), (j, Access), "mend").')),
     ("... a listing", REPLAY, "x86/MP.litmus", ("add 2.0@1:Access before 3.0@1:Access",)),
+    ("a last value that no axiom asks for", REPLAY, "tests/CoWR+seen.test",
+     ("No axiom asks for the value at the end, which this test states: first write one that does.",)),
     # a read sees the newest entry of the store buffer alone, and falls through an older one
     ("a buffer that is snooped in its newest entry alone", "tso-buffer-newest-alone", "tests/CoWR+other.test",
      ("add 0.0@0:MainMemory before 2.0@0:Memory", '      AddEdge ((i, (0, MainMemory)), (j, Memory), "mend").')),
@@ -131,21 +133,6 @@ Of this program 0 other outcomes are shown, 0 of them allowed by sc.
 
 So no order can be told from one that forbids the whole program: take a test with more.
 """
-# no axiom of the model asks for it
-LAST = """The micro-ops of the test:
-  0.0 core 0 writes [x] = 1
-  1.0 core 0 writes [x] = 2
-  at the end [x] = 1
-  [x] is PA 0 0
-
-The model shows this outcome. sc forbids it.
-Of this program 1 other outcomes are shown, 1 of them allowed by sc.
-No axiom asks for the value at the end, which this test states: first write one that does.
-
-No order of two nodes forbids it and keeps some other outcome.
-
-The program was asked 13 times.
-"""
 NOTHING = "The model does not show this outcome: there is nothing to mend. `core` says what forbids it.\n"
 IN_PLACE = """{0}:1:1: syntax: no model can continue with this token
     Litmus "mp".
@@ -160,9 +147,8 @@ class Script(Cases):
     """What else the script answers."""
 
     def test_script(self) -> None:
-        replay, alone, last = write(f"{self.work}/replay.uspec", REPLAY), f"{self.work}/alone.test", f"{self.work}/last.test"
-        text = read(write(alone, 'Litmus "alone".\nMicroop 0 0 0 0 (Write (VA 0 0) (PA 0 0) (Data 1)).\n'))
-        write(last, text + "Microop 1 0 0 0 (Write (VA 0 0) (PA 0 0) (Data 2)).\nFinal (PA 0 0) 1.\n")
+        replay, alone = write(f"{self.work}/replay.uspec", REPLAY), write(
+            f"{self.work}/alone.test", 'Litmus "alone".\nMicroop 0 0 0 0 (Write (VA 0 0) (PA 0 0) (Data 1)).\n')
         bad, none = write(f"{self.work}/bad.uspec", 'Litmus "mp".\n'), f"{self.work}/none"
         script = [pipecheck(), "mend"]
         limited = ["bash", "-c", 'ulimit -v 1000000 && exec "$@"', "limited", *script]
@@ -171,7 +157,6 @@ class Script(Cases):
         rows: tuple[tuple[str, list[str], int, str, str, dict[str, str | None]], ...] = (
             ("a program without another outcome", [*script, replay, alone], 1, ALONE, "", {}),
             ("... under a limit of address space, which the machine has then", [*limited, replay, alone], 1, ALONE, "", {}),
-            ("a last value that no axiom asks for", [*script, replay, last], 1, LAST, "", {}),
             ("an outcome that is not shown", [f"{TOP}/pipecheck", "mend", IN_ORDER, MP], 1, NOTHING, "", {}),
             ("a model with a fault", [*script, bad, MP], 3, "refused model syntax at 1:1\n", IN_PLACE.format(bad), {}),
             ("a test in place of the model, and a model in place of the test", [*script, bad, IN_ORDER], 3,
