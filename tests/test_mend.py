@@ -134,12 +134,6 @@ Of this program 0 other outcomes are shown, 0 of them allowed by sc.
 So no order can be told from one that forbids the whole program: take a test with more.
 """
 NOTHING = "The model does not show this outcome: there is nothing to mend. `core` says what forbids it.\n"
-IN_PLACE = """{0}:1:1: syntax: no model can continue with this token
-    Litmus "mp".
-    ^
-pipecheck: `StageName`, `Axiom` or `DefineMacro` is expected
-pipecheck: {0} is a test, and stands for the model: check MODEL TEST
-"""
 IN_ORDER, MP = "examples/in-order.uspec", "examples/mp.test"
 
 
@@ -158,9 +152,14 @@ class Script(Cases):
             ("a program without another outcome", [*script, replay, alone], 1, ALONE, "", {}),
             ("... under a limit of address space, which the machine has then", [*limited, replay, alone], 1, ALONE, "", {}),
             ("an outcome that is not shown", [f"{TOP}/pipecheck", "mend", IN_ORDER, MP], 1, NOTHING, "", {}),
-            ("a model with a fault", [*script, bad, MP], 3, "refused model syntax at 1:1\n", IN_PLACE.format(bad), {}),
+            # the first file is judged first
             ("a test in place of the model, and a model in place of the test", [*script, bad, IN_ORDER], 3,
-             "refused model syntax at 1:1\n", IN_PLACE.format(bad), {}),
+             "refused model syntax at 1:1\n", f"""{bad}:1:1: syntax: no model can continue with this token
+    Litmus "mp".
+    ^
+pipecheck: `StageName`, `Axiom` or `DefineMacro` is expected
+pipecheck: {bad} is a test, and stands for the model: check MODEL TEST
+""", {}),
             ("a file that is not there", [*script, none, MP], 4, "",
              f"pipecheck: a file could not be read\npipecheck: {none} is not there\n", {}),
             ("a program that is none", [*script, IN_ORDER, MP], 125, "", "pipecheck: no checker: /bin/true\n",

@@ -8,17 +8,12 @@
 Words that end with .uspec are models; the others are tests, your own too: listings where they end with .litmus, and
 patterns where they end with .pattern. Without models and tests all of examples/ are taken. A model names its memory
 model in a comment, `% Memory model: NAME`, and tools/agree/machines/NAME.py is its machine; with --as it is MACHINE.py for
-each model. With --open each test that is no listing is compared as a pattern: all of its reads are open. With --reading
-the second implementation sweeps, and not the program.
+each model. With --open all reads of each test are open; with --reading the second implementation sweeps.
 
 With --all each model is compared on every small program of these shapes: 3+3 is two cores with three accesses each, and
 4 all of up to four accesses on up to three cores. They have N addresses (2), fences between accesses with --fences, and
-exchanges with --locked. A comparison that was ended goes on. With --random it is compared on COUNT programs of at most
-eight micro-ops, which are made from the number SEED. The smallest program that differs is printed, with parts taken out
-as long as the two differ. This tests models; it searches for no tests. With --between two models are compared.
-
-Each pair where the two differ is printed, with the tables memory-models.tsv of examples/ and examples/translation where
-one differs from a machine. The last line counts.
+exchanges with --locked. With --random it is compared on COUNT programs that are made from the number SEED. The smallest
+program that differs is printed. With --between two models are compared. A comparison that was ended goes on.
 """
 import os
 import signal
