@@ -733,7 +733,7 @@ pipecheck: good.uspec is a model, and stands for the test: check MODEL TEST
             if self.is_wanted(f"expected: {name}"):
                 path = write(f"{self.work}/syntax.uspec", f"{text}\n")
                 refused = run([program(), "check", path, "good.test"], cwd=self.work)
-                lines = "\n".join(expected("check", path, refusal_of(refused.out)))
+                lines = "\n".join(expected("model", path, refusal_of(refused.out)))
                 self.judge(f"expected: {name}", Done(refused.status, lines, refused.err), 3, f"pipecheck: {said}")
 
     def test_forbidden(self) -> None:

@@ -48,21 +48,19 @@ class Files:
             path = self.model_path if isinstance(fault, InModel) else path
             self.is_refused = True
             print(line_of(path, self.texts[path], fault.place, f"{fault.word}: {sentence(TOP, kind, fault.word)}"))
-            expected = sentence_of(fault)
-            if expected:
-                print(f"pipecheck: {expected}", file=sys.stderr)
-            if fault.word in ("lexical", "syntax"):
-                for line in self.of_another_kind(kind, path):
-                    print(line, file=sys.stderr)
+            for line in self.hints(kind, path, fault):
+                print(line, file=sys.stderr)
             return None
 
-    def of_another_kind(self, kind: str, path: str) -> Iterator[str]:
-        """That a refused file is of another kind than its place and its name say, where it is."""
+    def hints(self, kind: str, path: str, fault: Fault) -> Iterator[str]:
+        """What could stand at a fault; and that the file is of another kind than its place and its name say, where it is."""
+        if sentence_of(fault):
+            yield f"pipecheck: {sentence_of(fault)}"
         if (kind, path) != ("model", self.model_path):
             kind = KINDS.get(os.path.splitext(path)[1], "test")
-        yield from misplaced(kind, "lint MODEL [TEST..] [QUERY..]", path, self.texts[path])
-        if kind == "test":
-            yield from reader("lint", path, self.texts[path])
+        if fault.word in ("lexical", "syntax"):
+            yield from misplaced(kind, "lint MODEL [TEST..] [QUERY..]", path, self.texts[path])
+            yield from reader("lint", path, self.texts[path]) if kind == "test" else ()
 
 
 def main(model_path: str, *paths: str) -> int:

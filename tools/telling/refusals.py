@@ -66,17 +66,10 @@ def begins_with(words: bytes, data: bytes) -> bool:
     return re.search(rb"^[ \t]*(?:" + words + rb')[ \t]+(?:"|[0-9])', data, re.MULTILINE) is not None
 
 
-def kind_for(word: str, kind: str) -> str:
-    """What a command asks for in place of a file that its refusals call a model, a test or a query."""
-    if kind != "test":
-        return kind
-    return "listing" if word.endswith("86") else "pattern" if word == "sweep" else "test"
-
-
-def expected(word: str, path: str, refusal: Refusal) -> Iterator[str]:
-    """What could stand at a fault of syntax."""
+def expected(kind: str, path: str, refusal: Refusal) -> Iterator[str]:
+    """What could stand at a fault of syntax of a model, a query, a test, a pattern or a listing."""
     data = contents(path)
-    fault = syntax_fault(kind_for(word, refusal.kind), data)
+    fault = syntax_fault(kind, data)
     if fault is not None and line_and_column(data, fault.place) == refusal.place and sentence_of(fault):
         yield f"pipecheck: {sentence_of(fault)}"
 
@@ -162,18 +155,19 @@ def listing_lines(top: str, said: str, path: str) -> Iterator[str]:
 def told(top: str, said: str, words: list[str]) -> Iterator[str]:
     """Where the file that the program refuses by this line has its fault."""
     refusal = refusal_of(said)
-    kinds = Forms(top).kinds_of(words)
+    kinds, asked = Forms(top).kinds_of(words), refusal.kind
+    if asked == "test":
+        asked = "listing" if words[0].endswith("86") else "pattern" if words[0] == "sweep" else asked
     for kind, path in zip(kinds, words[1:]):
         if kind in KINDS[refusal.kind] and os.path.isfile(path):
             yield from place_of(top, path, refusal)
             if refusal.word == "syntax":
-                yield from expected(words[0], path, refusal)
+                yield from expected(asked, path, refusal)
             if refusal.word in ("lexical", "syntax"):
-                asked = kind_for(words[0], refusal.kind)
                 yield from misplaced(asked, " ".join([words[0], *kinds]), path, contents(path))
             if refusal.word == "predicate-unknown":
                 yield from macro_of(path, words[1], refusal)
-            if refusal.kind == "test" and words[0].endswith("86"):
+            if asked == "listing":
                 yield from left_out(top, path, refusal)
             if refusal.kind == "test":
                 yield from reader(words[0], path, contents(path))
