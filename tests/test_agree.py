@@ -59,6 +59,7 @@ TOLD: tuple[tuple[str, int, str, list[str]], ...] = (
     ("a listing with a fault is told", 3, "WORK/fault.litmus:5:9: x86-unloaded: the thread does not load this register",
      [BUFFER, "WORK/fault.litmus"]),
     ("a file that is missing is told", 4, "WORK/no.test: No such file or directory", [BUFFER, "WORK/no.test"]),
+    ("what is no file is told", 125, "/dev/null is no file, and each one is read more than once", [BUFFER, "/dev/null"]),
     ("a test that no machine reads is told", 125, "WORK/layout.test: the machines cannot read this layout",
      [BUFFER, "WORK/layout.test"]),
     ("that no machine runs the test is no agreement", 125,

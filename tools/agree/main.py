@@ -131,6 +131,9 @@ def compare_programs(options: Namespace, by_program: bool, counts: Counts) -> No
 
 
 def compare(options: Namespace) -> int:
+    for path in options.files:
+        if os.path.exists(path) and not os.path.isfile(path) and not os.path.isdir(path):
+            raise Unusable(f"{shown(path)} is no file, and each one is read more than once")
     by_program = not options.reading and bool(sweeper().words)
     counts, is_swept = Counts(), True
     if options.random or options.all:
