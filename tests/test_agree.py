@@ -262,7 +262,7 @@ class Files(AgreeCases):
             BUFFER, "WORK/locked.test", LOCKED,
         )
         self.agrees("tests that no model takes are told, and the others are compared", 0, "1 agree, 0 differ\n",
-                    f"agree: not taken by a model here with a machine that runs it: {LOCKED} and 1 more\n",
+                    "agree: not taken by a model here with a machine that runs it: WORK/locked.test and 1 more\n",
                     DRAIN, LOCKED, MP, "WORK/locked.test")
 
     def test_names(self) -> None:

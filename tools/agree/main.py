@@ -147,7 +147,7 @@ def compare(options: Namespace) -> int:
         counts.differ += 0 if given else compare_table()
         if not counts.done:
             raise Unusable("nothing is compared: no model here takes one of these tests with a machine that runs it")
-        left_out = [test for test in given if all(pair.test != test for pair in pairs)]
+        left_out = sorted({*given} - {pair.test for pair in pairs})
         if left_out:
             more = f" and {len(left_out) - 1} more" if left_out[1:] else ""
             tell(f"not taken by a model here with a machine that runs it: {shown(left_out[0])}{more}")
