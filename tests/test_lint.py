@@ -613,7 +613,7 @@ FILES = (
     ("a test in place of the model", ["good.test"], 3, "good.test:1:1: syntax: no model can continue with this token\n",
      "pipecheck: `StageName`, `Axiom` or `DefineMacro` is expected\n"
      f"pipecheck: good.test is a test, and stands for the model: {FORM}\n"),
-    ("a test in place of a query", ["good.uspec", "test.query"], 3, "test.query:1:8: syntax: no model can continue with this token\n",
+    ("a test in place of a query", ["good.uspec", "test.query"], 3, "test.query:1:8: syntax: no query can continue with this token\n",
      "pipecheck: a name, a number, `=>`, `\\/`, `/\\` or the end of the file is expected\n"),
     ("a model alone", ["good.uspec"], 0, "", ""),
     ("a model without an axiom", ["none.uspec"], 1,

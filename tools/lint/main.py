@@ -72,8 +72,7 @@ def main(model_path: str, *paths: str) -> int:
         model = files.read("model", model_path, read_model)
         tests = [files.read("test", path, partial(read_test, path)) for path in paths if path not in asked]
         if model is not None:
-            # what the page says of a word in a model it says of a query, too
-            queries = [files.read("model", path, partial(read_query_file, path, model=model)) for path in asked]
+            queries = [files.read("query", path, partial(read_query_file, path, model=model)) for path in asked]
             text = files.texts[model_path]
             found = Linter(model_path, text, model, [it for it in tests if it], [it for it in queries if it]).slips()
     except Unreadable:

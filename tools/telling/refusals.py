@@ -56,8 +56,7 @@ def marked_line(data: bytes, line: int, column: int) -> Iterator[str]:
 
 def place_of(top: str, path: str, refusal: Refusal) -> Iterator[str]:
     """The place in the form that editors jump to, the fault's sentence and the line."""
-    kind = "test" if refusal.kind == "test" else "model"
-    yield f"{shown(path)}:{refusal.place}: {refusal.word}: {sentence(top, kind, refusal.word)}"
+    yield f"{shown(path)}:{refusal.place}: {refusal.word}: {sentence(top, refusal.kind, refusal.word)}"
     yield from marked_line(contents(path), refusal.line, refusal.column)
 
 
