@@ -59,10 +59,11 @@ TOLD: tuple[tuple[str, int, str, list[str]], ...] = (
     ("a listing with a fault is told", 3, "WORK/fault.litmus:5:9: x86-unloaded: the thread does not load this register",
      [BUFFER, "WORK/fault.litmus"]),
     ("a file that is missing is told", 4, "WORK/no.test: No such file or directory", [BUFFER, "WORK/no.test"]),
+    ("what is no file is told", 125, "/dev/null is no file, and each one is read more than once", [BUFFER, "/dev/null"]),
     ("a test that no machine reads is told", 125, "WORK/layout.test: the machines cannot read this layout",
      [BUFFER, "WORK/layout.test"]),
     ("that no machine runs the test is no agreement", 125,
-     "nothing is compared: no machine of these models runs one of these tests", [DRAIN, LOCKED]),
+     "nothing is compared: no model here takes one of these tests with a machine that runs it", [DRAIN, LOCKED]),
     ("a memory model that has no machine is told", 125, NO_MACHINE.format("none-such"), ["WORK/none.uspec", MP]),
     ("a module that is no machine is none", 125, NO_MACHINE.format("os"), ["--as", "os", BUFFER, MP]),
     ("no random programs are made for page tables", 125, f"{PAGES}: no programs are made for a machine with page tables",
@@ -260,6 +261,9 @@ class Files(AgreeCases):
             "read-modify-write of one address\n",
             BUFFER, "WORK/locked.test", LOCKED,
         )
+        self.agrees("tests that no model takes are told, and the others are compared", 0, "1 agree, 0 differ\n",
+                    "agree: not taken by a model here with a machine that runs it: WORK/locked.test and 1 more\n",
+                    DRAIN, LOCKED, MP, "WORK/locked.test")
 
     def test_names(self) -> None:
         """These are read by what the environment says of names."""

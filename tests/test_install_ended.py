@@ -228,8 +228,8 @@ CASES = INSTALLS + UNINSTALLS
 ENDED = "ended before each change"
 
 
-def prepare(room: Room, case: Case) -> Texts:
-    """What stands before the case; answers what no installation made."""
+def prepare(room: Room, case: Case) -> tuple[Texts, Texts, list[Texts], set[str]]:
+    """What stands before the case; answers what no installation made, all that there is, the tree in use, and what is served."""
     mine = () if case.is_alone else ("bin/mine", "share/man/man1/mine.1", "lib/mine/file")
     put({f"{room.name}/{name}": "mine\n" for name in mine}, room.around)
     own = texts(room.around)
@@ -237,14 +237,13 @@ def prepare(room: Room, case: Case) -> Texts:
         room.install("1")
     elif case.before == "former":
         room.install_former()
-    return own
+    return own, texts(room.around), commands(room)[:1], served(room)
 
 
 def run_case(room: Room, case: Case, new: Texts) -> int:
     """Ends the work before each change in turn; answers how many changes there are. What follows on what was left is looked at
     once, where several changes leave the same."""
-    own = prepare(room, case)
-    before, old, names = texts(room.around), commands(room)[:1], served(room)
+    own, before, old, names = prepare(room, case)
     followed: list[Texts] = []
     for change in count(1):
         put(before, room.around)
@@ -273,8 +272,7 @@ def run_case(room: Room, case: Case, new: Texts) -> int:
 def run_without_room(room: Room, case: Case, new: Texts) -> int:
     """Has the disk full from each change on in turn; answers how many changes there are. What is left is taken away once, where
     several leave the same."""
-    own = prepare(room, case)
-    before, old, names = texts(room.around), commands(room)[:1], served(room)
+    own, before, old, names = prepare(room, case)
     followed: list[Texts] = []
     for change in count(1):
         put(before, room.around)
@@ -305,8 +303,7 @@ def run_again_and_again(room: Room, new: Texts) -> int:
     chance, ends = random.Random(48), 0
     for number in range(35):
         case = CASES[number % len(CASES)]
-        own = prepare(room, case)
-        old, names = commands(room)[:1], served(room)
+        own, _, old, names = prepare(room, case)
         for _ in range(4):
             ends += ended(chance.randrange(1, 90), lambda: room.install("2"))
             after = commands(room)

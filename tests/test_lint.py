@@ -605,14 +605,15 @@ Microop 4 1 1 0 (Read (VA 0 0) (PA 0 0) (Data 2)).
 Init (PA 1 0) 7.
 """
 NO_WRITE_OF_B = "so that no axiom about writes can see this"
-IN_PLACE = "is a test, and stands for the model: lint MODEL [TEST..] [QUERY..]"
+FORM = "lint MODEL [TEST..] [QUERY..]"
 # a case, the files, the status, and what is said on standard output and on standard error
 FILES = (
     ("a refused model", ["bad.uspec", "good.test"], 3,
      "bad.uspec:2:12: arity: the predicate takes another number of arguments\n", ""),
     ("a test in place of the model", ["good.test"], 3, "good.test:1:1: syntax: no model can continue with this token\n",
-     f"pipecheck: `StageName`, `Axiom` or `DefineMacro` is expected\npipecheck: good.test {IN_PLACE}\n"),
-    ("a test in place of a query", ["good.uspec", "test.query"], 3, "test.query:1:8: syntax: no model can continue with this token\n",
+     "pipecheck: `StageName`, `Axiom` or `DefineMacro` is expected\n"
+     f"pipecheck: good.test is a test, and stands for the model: {FORM}\n"),
+    ("a test in place of a query", ["good.uspec", "test.query"], 3, "test.query:1:8: syntax: no query can continue with this token\n",
      "pipecheck: a name, a number, `=>`, `\\/`, `/\\` or the end of the file is expected\n"),
     ("a model alone", ["good.uspec"], 0, "", ""),
     ("a model without an axiom", ["none.uspec"], 1,
@@ -632,7 +633,17 @@ slips.litmus:5:15: not-asked: type MFENCE: no axiom of good.uspec asks for it
 slips.pattern:6:47: unwritten: the read gets 2, which is not the value of PA 0 0 at the start, {NOTHING_WRITES}
 """, ""),
     ("a pattern that is named as a test", ["good.uspec", "slips.test"], 3,
-     "slips.test:5:47: syntax: no test can continue with this token\n", "pipecheck: a number is expected\n"),
+     "slips.test:5:47: syntax: no test can continue with this token\n",
+     "pipecheck: a number is expected\npipecheck: a read with an open value makes this a pattern: sweep MODEL PATTERN\n"),
+    ("a model in place of a test", ["good.uspec", "good.uspec"], 3, "good.uspec:1:1: syntax: no test can continue with this token\n",
+     "pipecheck: `Litmus` or `Litmus2` is expected\n"
+     f"pipecheck: good.uspec is a model, and stands for the test: {FORM}\n"),
+    ("a listing in place of a test", ["good.uspec", "listing.test"], 3,
+     "listing.test:2:1: lexical: neither a token nor a blank nor a comment begins here\n", "pipecheck: listing.test is a listing of "
+     "herd's for X86: check86 and verify86 read it, and test86 writes it as a test, which lint takes\n"),
+    ("a listing in place of the model", ["slips.litmus"], 3,
+     "slips.litmus:2:1: lexical: neither a token nor a blank nor a comment begins here\n",
+     f"pipecheck: slips.litmus is a listing, and stands for the model: {FORM}\n"),
 )
 # what could stand at a fault of syntax of a model
 EXPECTED = (
@@ -672,8 +683,8 @@ class Command(Cases):
         for name, text in {
             "bad.test": 'Litmus "d".\nMicroop 0 64 0 0 (Fence).\n', "bad.uspec": 'StageName 0 "S".\nAxiom "x": IsAnyRead i 7.\n',
             "good.test": 'Litmus "t".\n', "good.uspec": ALL, "slip.test": slip, "-m": ALL, "--t": slip, "\udcff": slip, "a\nm": ALL,
-            "a\nt": slip, "slips.litmus": LISTING, "meant.litmus": LISTING.replace("{ }", MEANT_HERE), "slips.pattern": PATTERN,
-            "slips.test": PATTERN, "test.query": 'Litmus "t".\n', "none.uspec": 'DefineMacro "m": True. % Lint allows: unexpanded\n',
+            "a\nt": slip, "slips.litmus": LISTING, "meant.litmus": LISTING.replace("{ }", MEANT_HERE), "listing.test": LISTING,
+            "slips.pattern": PATTERN, "slips.test": PATTERN, "test.query": 'Litmus "t".\n', "none.uspec": 'DefineMacro "m": True. % Lint allows: unexpanded\n',
         }.items():
             write(f"{self.work}/{name}", text)
 
@@ -722,7 +733,7 @@ pipecheck: good.uspec is a model, and stands for the test: check MODEL TEST
             if self.is_wanted(f"expected: {name}"):
                 path = write(f"{self.work}/syntax.uspec", f"{text}\n")
                 refused = run([program(), "check", path, "good.test"], cwd=self.work)
-                lines = "\n".join(expected("check", [], path, refusal_of(refused.out)))
+                lines = "\n".join(expected("model", path, refusal_of(refused.out)))
                 self.judge(f"expected: {name}", Done(refused.status, lines, refused.err), 3, f"pipecheck: {said}")
 
     def test_forbidden(self) -> None:

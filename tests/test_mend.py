@@ -62,6 +62,8 @@ ROWS = (
     ("reads that are not replayed", REPLAY, "tests/CoRR.test",
      ("add 1.0@1:Access before 2.0@1:Access", '      AddEdge ((i, Access), (j, Access), "mend").')),
     ("... a listing", REPLAY, "x86/MP.litmus", ("add 2.0@1:Access before 3.0@1:Access",)),
+    ("a last value that no axiom asks for", REPLAY, "tests/CoWR+seen.test",
+     ("No axiom asks for the value at the end, which this test states: first write one that does.",)),
     # a read sees the newest entry of the store buffer alone, and falls through an older one
     ("a buffer that is snooped in its newest entry alone", "tso-buffer-newest-alone", "tests/CoWR+other.test",
      ("add 0.0@0:MainMemory before 2.0@0:Memory", '      AddEdge ((i, (0, MainMemory)), (j, Memory), "mend").')),
@@ -150,8 +152,9 @@ class Script(Cases):
             ("a program without another outcome", [*script, replay, alone], 1, ALONE, "", {}),
             ("... under a limit of address space, which the machine has then", [*limited, replay, alone], 1, ALONE, "", {}),
             ("an outcome that is not shown", [f"{TOP}/pipecheck", "mend", IN_ORDER, MP], 1, NOTHING, "", {}),
-            ("a model with a fault", [*script, bad, MP], 3, "refused model syntax at 1:1\n",
-             f"""{bad}:1:1: syntax: no model can continue with this token
+            # the first file is judged first
+            ("a test in place of the model, and a model in place of the test", [*script, bad, IN_ORDER], 3,
+             "refused model syntax at 1:1\n", f"""{bad}:1:1: syntax: no model can continue with this token
     Litmus "mp".
     ^
 pipecheck: `StageName`, `Axiom` or `DefineMacro` is expected

@@ -37,6 +37,7 @@ OTHERS = [
     b"EBX", b"[x]",
 ]
 
+# shipped lifted refutations, with the model and the test that each is of
 SHIPPED = {
     "two": ("po-and-reverse.uspec", "two-forbidden.test"),
     "mp": ("in-order.uspec", "mp.test"),

@@ -13,6 +13,7 @@ from functools import partial
 from typing import Any, Callable, Iterable
 
 from tests.cases import TOP, Cases, read, run, write
+from tests.test_one_answer import SHIPPED
 
 from tools.second.main import Refused, judged
 from tools.second.main import run as answer
@@ -67,12 +68,6 @@ FOUND = [
     ("check2 of a false constant", STAGES + 'Axiom "f": False.\n', f"{VERSION_2}; false; end"),
 ]
 
-# shipped lifted refutations, with the model and the test that each is of
-SHIPPED = {
-    "two": ("po-and-reverse.uspec", "two-forbidden.test"),
-    "mp": ("in-order.uspec", "mp.test"),
-    "corr": ("models/sc-inorder.uspec", "corr.test"),
-}
 # which of them is judged, the line that is changed, the answer, and each text that stands in its place
 SHIPPED_LIFTED: list[tuple[str, int, str | int, list[str | None]]] = [
     ("two", 1, VERIFIED, ["unobservable"]), ("mp", 1, VERIFIED, ["unobservable"]), ("corr", 1, VERIFIED, ["unobservable"]),

@@ -581,13 +581,13 @@ class Parts(SuiteCases):
     def test_memory_models(self) -> None:
         """What a model names, and why it names nothing."""
         none = "the model names no memory model"
-        inside = "a memory model is named inside another comment"
+        inside, form = "a memory model is named inside another comment", "the comment on a memory model is not % Memory model: NAME"
         for text, wanted in (
             ("% Memory model: tso\n", "tso"),
             ("% MEMORY MODEL:\tx86-TSO \r\n", "x86-tso"),
             ("%Memory model:tso", "tso"),
             ('StageName 0 "S". % Memory model: tso', "tso"),
-            ("% Memory model: tso, for now\n", none),
+            ("% Memory model: tso, for now\n", form),
             ("% the memory model: tso\n", none),
             ("// Memory model: tso\n", none),
             ('Axiom "% Memory model: tso": True.', none),

@@ -26,6 +26,8 @@ NONE, UNKNOWN = "the model names no memory model", "no row and no machine has th
 UNNAMED = (
     ("a model that names no memory model", "1:1", NONE, ""),
     ("a memory model that nothing knows", "1:1", UNKNOWN, "% Memory model: x86-tso"),
+    ("a memory model with more than its name", "2:1", "the comment on a memory model is not % Memory model: NAME",
+     "% In order.\n% Memory model: tso, for now"),
     ("two memory models in one model", "2:1", TWICE, "% Memory model: sc\n% Memory model: tso"),
     ("one memory model, named twice", "3:1", TWICE, "% Memory model: tso\n%\n% memory model: TSO"),
     ("a memory model in a comment in brackets", "2:1", INSIDE, "(* as in\n% Memory model: tso\n*)"),
@@ -70,6 +72,9 @@ class OwnTests(SuiteCases):
                   "WORK/tests/Permitted.test: the test says permitted, and the machine of sc forbidden",
                   f"WORK/tests/Permitted.test: the test says permitted, and {TSO} forbidden",
                   f"WORK/tests/unstated.test: tutorial-early says observable, and {TSO} unobservable")
+        self.put("twice.tsv", "memory model\ttest\tallowed\nTSO\tMP\tno\ntso\tMP\tyes\n")
+        line = r"the table WORK/twice.tsv has yes and no for one test: $'tso\tMP\tyes'"
+        self.refuses("a table with two rows that differ", line, EARLY, SUITE_TABLE="WORK/twice.tsv")
         self.put("nameless.uspec", without_first_line(EARLY))
         line = (
             "WORK/nameless.uspec:1:1: unnamed: the model names no memory model; known are NAMES, named once by a comment "
@@ -377,9 +382,9 @@ axiom     changes  first
 exists microop "i", exists microop "j",
   IsAnyRead i /\\ IsAnyRead j /\\ ProgramOrder i j /\\ EdgeExists ((j, {stage}), (i, {stage}))
 """)
-        # it says nothing of a test, and is passed over
+        # it says nothing, and is passed over
         other = f"{self.work}/queries/other.query"
-        write(other, read(other).partition("\n")[2])
+        write(other, read(other).split("\n", 2)[2])
         text = tabled("tutorial", "commits.query ok, none.query query:stage-unknown, overtakes.query ok, wrong.query BUG_(never)",
                       "2 ok, 1 BUG, 1 faults", "WORK/queries/none.query:4:69: stage-unknown: no stage has the name")
         for name, said in (
@@ -389,6 +394,9 @@ exists microop "i", exists microop "j",
         form = "% Expect: always, sometimes or never, and % Test: NAME"
         line = f"WORK/queries/other.query is no row of a table: it says so by one comment each, {form}"
         self.refuses("a query that does not say what it is asked of", line, other, SC)
+        for comment in ("% Expect: never", "% test: MP+seen"):
+            write(other, f"{comment}\nTrue\n")
+            self.refuses(f"a query of a folder that says only {comment}", line, "WORK/queries", SC)
         self.put("gone.query", read(f"{self.work}/queries/wrong.query").replace("MP+seen", "gone"))
         line = "WORK/gone.query is asked of a test that is not there: gone.test"
         self.refuses("a query of a test that is not there", line, "WORK/gone.query", SC)

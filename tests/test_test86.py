@@ -342,7 +342,7 @@ class Typed(Cases):
             path = self.put(f"{above}\n{' P0 ;' if '{' in above else ''}".encode("ascii"))
             refused = run([program(), "check86", MODELS[0], path]).out
             self.same(f"test86: what is expected in the header {shown(above)}",
-                      [*expected("check86", [], path, read_refusal(refused))], [f"pipecheck: {said}"])
+                      [*expected("listing", path, read_refusal(refused))], [f"pipecheck: {said}"])
 
     def test_the_script(self) -> None:
         sides = "X86 l\n{ }\n P0 ;\n MFENCE ;\nforall (x=1)\n"

@@ -8,27 +8,12 @@
 Words that end with .uspec are models; the others are tests, your own too: listings where they end with .litmus, and
 patterns where they end with .pattern. Without models and tests all of examples/ are taken. A model names its memory
 model in a comment, `% Memory model: NAME`, and tools/agree/machines/NAME.py is its machine; with --as it is MACHINE.py for
-each model.
-
-On each test the second implementation says whether the model shows the outcome, and the machine runs the test and says
-whether it comes up. Of a pattern the rows that the model shows are compared with all that the open reads get on the
-machine. The last line but one says who swept: the built program where it has the command `sweep`, otherwise, and with
---reading, the second implementation. With --open each test that is no listing is compared as a pattern: all of its
-reads are open.
+each model. With --open all reads of each test are open; with --reading the second implementation sweeps.
 
 With --all each model is compared on every small program of these shapes: 3+3 is two cores with three accesses each, and
 4 all of up to four accesses on up to three cores. They have N addresses (2), fences between accesses with --fences, and
-exchanges with --locked. A comparison that was ended goes on. With --random it is compared on COUNT programs of at most
-eight micro-ops, which are made from the number SEED. The smallest program that differs is printed, with parts taken out
-as long as the two differ. This tests models; it searches for no tests. With --between two models are compared.
-
-Tests with locked instructions are compared on machines, and on models, that take them: those whose axioms ask for the
-type `Locked`. Tests with page-table entries are compared on machines that have page tables, and these on no other test.
-Each pair where the two differ is printed, with the tables memory-models.tsv of examples/ and examples/translation where
-one differs from a machine. The last line counts. The status is 0 where all agree, 1 where some differ, 2 where the words
-are none that are taken, 3 where a file has a fault and 4 where one cannot be read, before anything is compared; 5 where
-standard output could not be written; and 125 where something could not be compared, which is told. A signal ends all
-that was begun.
+exchanges with --locked. With --random it is compared on COUNT programs that are made from the number SEED. The smallest
+program that differs is printed. With --between two models are compared. A comparison that was ended goes on.
 """
 import os
 import signal
@@ -146,6 +131,9 @@ def compare_programs(options: Namespace, by_program: bool, counts: Counts) -> No
 
 
 def compare(options: Namespace) -> int:
+    for path in options.files:
+        if os.path.exists(path) and not os.path.isfile(path) and not os.path.isdir(path):
+            raise Unusable(f"{shown(path)} is no file, and each one is read more than once")
     by_program = not options.reading and bool(sweeper().words)
     counts, is_swept = Counts(), True
     if options.random or options.all:
@@ -158,7 +146,11 @@ def compare(options: Namespace) -> int:
         is_swept = any(pair.is_swept for pair in pairs)
         counts.differ += 0 if given else compare_table()
         if not counts.done:
-            raise Unusable("nothing is compared: no machine of these models runs one of these tests")
+            raise Unusable("nothing is compared: no model here takes one of these tests with a machine that runs it")
+        left_out = sorted({*given} - {pair.test for pair in pairs})
+        if left_out:
+            more = f" and {len(left_out) - 1} more" if left_out[1:] else ""
+            tell(f"not taken by a model here with a machine that runs it: {shown(left_out[0])}{more}")
     if is_swept:
         print(f"swept by {'the program' if by_program else 'the second implementation'}")
     print(f"{counts.line}{sweeper().said if is_swept and by_program else ''}")

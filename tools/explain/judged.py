@@ -2,9 +2,7 @@
 
     python3 tools judged PROGRAM MODEL TEST [CERTIFICATE [QUERY]]
 
-Without a certificate the program makes it. PIPECHECK names another judge. The exit status is that of the judge, 0 of an answer; 3,
-4, 6, 7 or 8, or that of a signal, where the program has no verdict; 5 where standard output could not be written; and 125 where the
-judge is none, where a text could not be kept, or where this program fails.
+Without a certificate the program makes it. PIPECHECK names another judge. docs/faults.md has the exit statuses.
 """
 import os
 import shutil

@@ -3,35 +3,32 @@
     python3 tools lint MODEL [TEST..] [QUERY..]
 
 Each slip is a line `FILE:LINE:COLUMN: KIND: ..` on standard output, and so is a refused file, with the fault's word.
-The exit status is 0 where there is no slip, 1 where there are some, 3 where a file is refused, 4 where one cannot be
-read, 5 where standard output could not be written, and 125 where this program fails.
+docs/lint.md has the exit statuses.
 """
-import re
+import os
 import sys
 from functools import partial
-from typing import Callable, Iterable, TypeVar
+from typing import Callable, Iterable, Iterator, TypeVar
 
 from tools import TOP
 from tools.lint.lines import line_of
 from tools.lint.linting import Linter, read_query_file, read_test
 from tools.lint.slips import Slip
+from tools.second.listings import ENDING as LISTING
+from tools.second.patterns import ENDING as PATTERN
 from tools.second.queries import InModel
 from tools.second.scopes import read_model
 from tools.second.standard_output import UNREAD, status_of
 from tools.second.tokens import Fault
 from tools.telling.files import sentence, unreadable
+from tools.telling.refusals import misplaced, reader
 from tools.texts.contents import Unreadable, contents, read_within
 from tools.texts.expecting import sentence_of
-from tools.texts.quoting import shown
 
 # how the name of a query ends; any other file is a test, a listing or a pattern
 QUERY = ".query"
+KINDS = {QUERY: "query", LISTING: "listing", PATTERN: "pattern"}
 Read = TypeVar("Read")
-
-
-def is_test(text: bytes) -> bool:
-    """Whether a text has the form of a test."""
-    return re.search(rb'^[ \t]*Litmus2?[ \t]+"', text, re.MULTILINE) is not None
 
 
 class Files:
@@ -51,13 +48,19 @@ class Files:
             path = self.model_path if isinstance(fault, InModel) else path
             self.is_refused = True
             print(line_of(path, self.texts[path], fault.place, f"{fault.word}: {sentence(TOP, kind, fault.word)}"))
-            expected = sentence_of(fault)
-            if expected:
-                print(f"pipecheck: {expected}", file=sys.stderr)
-            if fault.word == "syntax" and path == self.model_path and is_test(self.texts[path]):
-                form = "lint MODEL [TEST..] [QUERY..]"
-                print(f"pipecheck: {shown(path)} is a test, and stands for the model: {form}", file=sys.stderr)
+            for line in self.hints(kind, path, fault):
+                print(line, file=sys.stderr)
             return None
+
+    def hints(self, kind: str, path: str, fault: Fault) -> Iterator[str]:
+        """What could stand at a fault; and that the file is of another kind than its place and its name say, where it is."""
+        if sentence_of(fault):
+            yield f"pipecheck: {sentence_of(fault)}"
+        if (kind, path) != ("model", self.model_path):
+            kind = KINDS.get(os.path.splitext(path)[1], "test")
+        if fault.word in ("lexical", "syntax"):
+            yield from misplaced(kind, "lint MODEL [TEST..] [QUERY..]", path, self.texts[path])
+            yield from reader("lint", path, self.texts[path]) if kind == "test" else ()
 
 
 def main(model_path: str, *paths: str) -> int:
@@ -69,8 +72,7 @@ def main(model_path: str, *paths: str) -> int:
         model = files.read("model", model_path, read_model)
         tests = [files.read("test", path, partial(read_test, path)) for path in paths if path not in asked]
         if model is not None:
-            # what the page says of a word in a model it says of a query, too
-            queries = [files.read("model", path, partial(read_query_file, path, model=model)) for path in asked]
+            queries = [files.read("query", path, partial(read_query_file, path, model=model)) for path in asked]
             text = files.texts[model_path]
             found = Linter(model_path, text, model, [it for it in tests if it], [it for it in queries if it]).slips()
     except Unreadable:

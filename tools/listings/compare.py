@@ -3,10 +3,8 @@
     python3 tools compare MODEL LISTING.. LOG
 
 The states of the model come from sweeps of the built program, which is built first where it is not. Each state is a line
-on standard output, and the last line counts; what cannot be compared is told on standard error. The exit status is 0
-where the log has no state that the model does not show, 1 where it has some, and otherwise one without such an answer: 3
-where a file is refused, or a test of the log has no listing, 4 where a file cannot be read, 5 where standard output could
-not be written, 7 where the program was refused memory, and 125 where there is no program or this one fails.
+on standard output, and the last line counts; what cannot be compared is told on standard error. docs/compare.md has
+the exit statuses.
 """
 import os
 import re

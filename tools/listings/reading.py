@@ -5,19 +5,11 @@ from enum import Enum
 from typing import Callable, Iterable, Mapping, NamedTuple, Sequence
 
 from tools.lint.slips import counted
-from tools.second.listings import BLANKS, ListingReader
+from tools.second.listings import BLANKS, ListingReader, pieces
 from tools.second.tokens import Fault, Token, tokens
 
 FIRST_LINE = re.compile(rb"(X86|X86_64) +([^ \t\r\n]+)[ \t\r]*(?:\n|\Z)")
-# the pieces of a listing, with more symbols
-PIECE = re.compile(
-    rb"""(?P<blank>[ \t\r\n]+)
-       | (?P<comment>\(\*.*?\*\))
-       | (?P<name>[A-Za-z][A-Za-z0-9_]*)
-       | (?P<number>[0-9]+)
-       | (?P<symbol>/\\|\\/|=>|\((?!\*)|[{};|\[\],$:=)~%])""",
-    re.VERBOSE | re.DOTALL,
-)
+PIECE = pieces(rb"\\/|=>|%|")
 # a word with the size of what it moves, as it may be spelled
 MOVE = re.compile("MOV[LQ]?", re.IGNORECASE)
 EXCHANGE = re.compile("XCHG[LQ]?", re.IGNORECASE)

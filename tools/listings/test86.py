@@ -3,8 +3,7 @@
     python3 tools test86 FILE
 
 Of what `check86` does not read, it reads what changes no question, and says on standard error what that is, or where a refused
-listing has its fault. The exit status is 0, 3 where the listing is refused, 4 where it cannot be read, 5 where standard output
-cannot be written, and 125 where this program fails.
+listing has its fault. docs/faults.md has the exit statuses.
 """
 import os
 import sys

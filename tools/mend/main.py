@@ -2,9 +2,7 @@
 
     python3 tools mend MODEL TEST
 
-The exit status is 0 where an order is named that forbids the outcome and keeps what else the program does, 1 where there
-is none or the model does not show the outcome, 3 where a file is refused, 4 where one cannot be read, 5 where standard
-output could not be written, 7 where memory was refused, and 125 where this program fails.
+docs/mend.md has the exit statuses.
 """
 import os
 import sys
@@ -12,6 +10,7 @@ from typing import Iterator
 
 from tools import TOP
 from tools.ending import SIGNALS
+from tools.lint.asked import Asked
 from tools.mend.asking import Questions, SuiteTests, Unanswered, is_shown
 from tools.mend.copies import Outcome, free_name, program_of
 from tools.mend.orders import Found, Search
@@ -67,7 +66,8 @@ class Mending:
         self.questions = Questions(checker, folder, model, model_text, self.program, free_name(model_text, test_text))
         self.machines = Machines(TOP)
         self.memory_model = memory_model_of(model_text).name
-        self.telling = Telling(Names(model, case, model_text), self.program, self.memory_model)
+        predicates = Asked(model).predicates
+        self.telling = Telling(Names(model, case, model_text), self.program, self.memory_model, predicates)
 
     def lines(self) -> tuple[list[str], int]:
         """What is said, and the status."""
@@ -132,7 +132,7 @@ def answer(model_path: str, test_path: str) -> tuple[list[str], int]:
     calls = Calls()
     with SIGNALS.temporary_folder() as folder:
         checker = checker_of(os.environ, TOP, SECONDS, calls)
-        paths = os.path.join(folder, "given.uspec"), os.path.join(folder, f"given{os.path.splitext(test_path)[1]}")
+        paths = os.path.join(folder, "given_model"), os.path.join(folder, f"given_test{os.path.splitext(test_path)[1]}")
         for path, text in zip(paths, (model_text, test_text)):
             with open(path, "wb") as file:
                 file.write(text)

@@ -20,11 +20,12 @@ MOST_STRONGER = 24
 class Telling:
     """The words for micro-ops, nodes and outcomes."""
 
-    def __init__(self, names: Names, program: Program, memory_model: str) -> None:
+    def __init__(self, names: Names, program: Program, memory_model: str, predicates: set[str]) -> None:
         self.names = names
         self.program = program
         self.case: Case = program.case
         self.memory_model = memory_model
+        self.is_final_unasked = bool(self.case.final) and "DataFromFinalStateAtPA" not in predicates
 
     def heading(self, is_allowed: bool | None, shown: int, kept: int) -> Iterator[str]:
         """The micro-ops, the outcome, and what else the program does."""
@@ -39,6 +40,8 @@ class Telling:
             yield f"What else of this program is allowed is not known: the {shown} other outcomes that are shown count."
         else:
             yield f"Of this program {shown} other outcomes are shown, {kept} of them allowed by {self.memory_model}."
+        if self.is_final_unasked:
+            yield "No axiom asks for the value at the end, which this test states: first write one that does."
 
     def order(self, order: Order) -> str:
         return "add " + " and ".join(self.names.fact((*part.edge, True)) for part in order.parts) + self.where(order)

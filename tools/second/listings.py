@@ -1,7 +1,7 @@
 """Herd's X86 listings: bytes to the case that a listing says, by docs/tests.md."""
 import re
 from dataclasses import dataclass
-from typing import Callable
+from typing import Callable, Sequence
 
 from tools.second.cases import GREATEST_CORE, MOST_OPS, Case, ExpectationItem, Item, Location, Op, OpItem, ValueItem
 from tools.second.cases import case_of, read_items
@@ -13,14 +13,21 @@ from tools.second.tokens import Fault, Part, Reader, Token, tokens
 ENDING = ".litmus"
 BLANKS = b" \t\r"
 FIRST_LINE = re.compile(rb"X86 +([^ \t\r\n]+)[ \t\r]*(?:\n|\Z)")
-PIECE = re.compile(
-    rb"""(?P<blank>[ \t\r\n]+)
-       | (?P<comment>\(\*.*?\*\))
-       | (?P<name>[A-Za-z][A-Za-z0-9_]*)
-       | (?P<number>[0-9]+)
-       | (?P<symbol>/\\|\((?!\*)|[{};|\[\],$:=)~])""",
-    re.VERBOSE | re.DOTALL,
-)
+
+
+def pieces(more: bytes) -> re.Pattern[bytes]:
+    """The pieces of a listing, with more symbols."""
+    return re.compile(
+        rb"""(?P<blank>[ \t\r\n]+)
+           | (?P<comment>\(\*.*?\*\))
+           | (?P<name>[A-Za-z][A-Za-z0-9_]*)
+           | (?P<number>[0-9]+)
+           | (?P<symbol>""" + more + rb"""/\\|\((?!\*)|[{};|\[\],$:=)~])""",
+        re.VERBOSE | re.DOTALL,
+    )
+
+
+PIECE = pieces(b"")
 
 
 @dataclass(frozen=True)
@@ -168,6 +175,15 @@ class ListingReader(Reader):
 Register = tuple[int, str]
 
 
+def judge_head(head: Sequence[Token]) -> None:
+    """Column k has the name P and k."""
+    for number, name in enumerate(head):
+        if number > GREATEST_CORE:
+            raise Fault("core-number", name.at)
+        if name.piece != f"P{number}":
+            raise Fault("x86-column", name.at)
+
+
 class Judge:
     """Judges a listing in the order of its text, and makes the items of its case."""
 
@@ -184,7 +200,7 @@ class Judge:
         """The items, or the first fault."""
         for init in self.listing.inits:
             self.judge_state(init, self.inits, "again-initial")
-        self.judge_head()
+        judge_head(self.listing.head)
         self.judge_rows()
         for equation in self.listing.equations:
             if equation.thread is None:
@@ -209,13 +225,6 @@ class Judge:
         if location in known:
             raise Fault(fault, equation.name.at)
         known[location] = equation
-
-    def judge_head(self) -> None:
-        for number, name in enumerate(self.listing.head):
-            if number > GREATEST_CORE:
-                raise Fault("core-number", name.at)
-            if name.piece != f"P{number}":
-                raise Fault("x86-column", name.at)
 
     def judge_rows(self) -> None:
         """The instructions, and how many cells a line has."""

@@ -1,25 +1,13 @@
 """A second judge of models, tests and certificates, apart from the proved program and sharing no code with it.
 
-    python3 tools second check MODEL TEST         the verdict with its certificate
-    python3 tools second check2 MODEL TEST        the same; a refutation is of version 2
-    python3 tools second verify MODEL TEST CERT   whether CERT is a certificate of this model and test
-    python3 tools second core MODEL TEST          a minimal set of axioms that forbid the outcome, with certificates
-    python3 tools second ask MODEL TEST QUERY     whether a formula holds in all worlds, in some or in none
-    python3 tools second check86 MODEL FILE       as check, of a listing of herd's for X86
-    python3 tools second verify86 MODEL FILE CERT as verify, of a listing
-    python3 tools second verify-lifted MODEL TEST CERT
-                                               whether CERT is a lifted refutation of this model and test
-    python3 tools second lift MODEL TEST CERT     a lifted refutation in place of CERT, a refutation of version 1
-    python3 tools second sweep MODEL PATTERN      whether each combination of what the open reads may get is observable
-    python3 tools second dimacs MODEL TEST        the question for a SAT solver
-    python3 tools second smt MODEL TEST           the question for an SMT solver
+    python3 tools second WORD FILE..           what the program says to these words: all of its commands but `gen` (commands.txt)
+    python3 tools second dimacs MODEL TEST     the question for a SAT solver
+    python3 tools second smt MODEL TEST        the question for an SMT solver
 
-All text goes to standard output, in the lines and with the exit statuses that the program has: 0 observable, 1
-unobservable, 2 words that are no command, 3 a file with a fault, 4 a file that cannot be read, 5 standard output that
-fails, 6 a refused certificate; of `core`, `ask` and `sweep` 0 where no file has a fault; and 125 where this program
-itself fails, say since two ways to a verdict do not agree. A verdict is found in two ways, by a search of its own and
-by one that makes the program's choices and gives the text; they have to agree, and each certificate is judged before it
-is written. `sweep` takes its own search alone.
+All text goes to standard output, in the lines and with the exit statuses that the program has (docs/faults.md); 125 is
+where this program itself fails, say since two ways to a verdict do not agree. A verdict is found in two ways, by a
+search of its own and by one that makes the program's choices and gives the text; they have to agree, and each
+certificate is judged before it is written. `sweep` takes its own search alone.
 """
 import sys
 from functools import partial

@@ -53,7 +53,10 @@ class Rows:
             lacking = "yes or no" if row.get("allowed") not in VERDICTS else next((it for it in COLUMNS if it not in row), "")
             if lacking:
                 raise Refusal(f"the table {shown(path)} has a row without {lacking}: {quoted(chr(9).join(cells))}")
-            self.rows[row[COLUMNS[0]].lower(), row[COLUMNS[1]]] = row
+            name = row[COLUMNS[0]].lower(), row[COLUMNS[1]]
+            if self.rows.setdefault(name, row)["allowed"] != row["allowed"]:
+                raise Refusal(f"the table {shown(path)} has yes and no for one test: {quoted(chr(9).join(cells))}")
+            self.rows[name] = row
 
     @property
     def memory_models(self) -> set[str]:

@@ -16,6 +16,7 @@ TEST_ENDING = ".test"
 PATTERN_ENDING = ".pattern"
 QUERY_ENDING = ".query"
 # what a query says in comments of its own: what its answer has to be, and the test that it is asked of
+ROW = re.compile(rb"%[ \t]*(?:expect|test):", re.IGNORECASE)
 EXPECTED = re.compile(rb"%[ \t]*Expect:[ \t]*(always|sometimes|never)\s*")
 ASKED_OF = re.compile(rb"%[ \t]*Test:[ \t]*(\S(?:.*\S)?)\s*")
 # the rows of the last table stand beside the folders of the models
@@ -159,8 +160,8 @@ def row_of_query(text: bytes) -> tuple[str, str]:
 
 
 def is_row(path: str) -> bool:
-    """Whether a file of a folder is a row of a table, as a query is by its comments alone."""
-    return ending_of(path) != QUERY_ENDING or all(row_of_query(contents(path) or b""))
+    """Whether a file of a folder is a row of a table, as a query is by its comments, or is to be by one that is not right."""
+    return ending_of(path) != QUERY_ENDING or any(ROW.match(it) for _, it in comments(contents(path) or b""))
 
 
 def file_at(kind: str, path: str, name: str) -> File:

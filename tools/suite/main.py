@@ -32,7 +32,7 @@ row is shown that does not come up, `stricter` where one is missing, `swept` whe
 A query is a formula that is asked of a test (`docs/ask.md`). Comments of its own say which answer is right, always,
 sometimes or never, and name the test: `% Expect: sometimes` and `% Test: NAME`. That test is NAME.test beside the query,
 beside other tests that are named, or of examples/tests. The cell is `ok`, or `BUG (never)` with another answer. In a
-folder a query without these comments is passed over.
+folder a query with neither comment is passed over.
 
 --differ shows only the tests on which the models differ, --bad only those with a cell that is not ok. Below the table
 stand the models without a memory model; where the machine says otherwise than a test of one's own, or than the verdict

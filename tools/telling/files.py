@@ -28,8 +28,9 @@ def unreadable(paths: Sequence[str]) -> Iterator[str]:
 
 
 def sentence(top: str, kind: str, word: str) -> str:
-    """What docs/faults.md says of a fault's word, of a `model` or of a `test`; nothing where the page is missing."""
-    return row(top, f"word of a {kind}", word)
+    """What docs/faults.md says of a fault's word, of a `model`, a `test`, or a `query`, which has the words of a model; nothing
+    where the page is missing."""
+    return row(top, f"word of a {'test' if kind == 'test' else 'model'}", word).replace("no model can", f"no {kind} can")
 
 
 def row(top: str, head: str, word: str) -> str:

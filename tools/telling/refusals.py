@@ -6,12 +6,11 @@ from typing import Iterator
 
 from tools.telling.files import row, sentence
 from tools.telling.forms import Forms
+from tools.texts.contents import contents
 from tools.texts.expecting import sentence_of, syntax_fault
 from tools.texts.naming import line_and_column
 from tools.texts.quoting import shown
 
-# of a longer file no more is looked at
-LIMIT = 1_048_577
 # how much of a long line is shown, and what of it before the mark
 MOST_SHOWN, FAR, BEFORE = 120, 100, 60
 KINDS = {"model": ("MODEL",), "test": ("TEST", "FILE", "PATTERN"), "query": ("QUERY",)}
@@ -19,6 +18,7 @@ READERS = {
     "check": "check86 reads it", "check2": "check86 reads it", "verify": "verify86 reads it",
     "check86": "check reads it", "verify86": "verify reads it",
 }
+LISTING = re.compile(rb"[ \t]*X86[ \t]")
 INSTRUCTION = re.compile(rb"[A-Z$]|(?:mov|xchg|mfence|lock|add|sub|inc|dec|cmp|xadd|xor|and|or|j)[a-z]*[ \t|;]")
 OPERAND = re.compile(rb"(?:[|]|(?:MOV|mov)[^|]*,|LOCK|lock)[ \t]*$")
 
@@ -44,12 +44,6 @@ def refusal_of(said: str) -> Refusal:
     return Refusal(kind, word, int(line), int(column))
 
 
-def contents(path: str) -> bytes:
-    """The bytes of a file, up to one more than the limit."""
-    with open(path, "rb") as file:
-        return file.read(LIMIT)
-
-
 def marked_line(data: bytes, line: int, column: int) -> Iterator[str]:
     """The line, or of a long one the part around the column, with a mark under the column. Each byte takes one column: `?` stands
     for those that are no printable ASCII."""
@@ -62,8 +56,7 @@ def marked_line(data: bytes, line: int, column: int) -> Iterator[str]:
 
 def place_of(top: str, path: str, refusal: Refusal) -> Iterator[str]:
     """The place in the form that editors jump to, the fault's sentence and the line."""
-    kind = "test" if refusal.kind == "test" else "model"
-    yield f"{shown(path)}:{refusal.place}: {refusal.word}: {sentence(top, kind, refusal.word)}"
+    yield f"{shown(path)}:{refusal.place}: {refusal.word}: {sentence(top, refusal.kind, refusal.word)}"
     yield from marked_line(contents(path), refusal.line, refusal.column)
 
 
@@ -72,24 +65,23 @@ def begins_with(words: bytes, data: bytes) -> bool:
     return re.search(rb"^[ \t]*(?:" + words + rb')[ \t]+(?:"|[0-9])', data, re.MULTILINE) is not None
 
 
-def expected(word: str, kinds: list[str], path: str, refusal: Refusal) -> Iterator[str]:
-    """What could stand at a fault of syntax; and that a file is of the other kind, where it is."""
-    kind = refusal.kind
-    if kind == "test" and word.endswith("86"):
-        kind = "listing"
-    elif kind == "test" and word == "sweep":
-        kind = "pattern"
+def expected(kind: str, path: str, refusal: Refusal) -> Iterator[str]:
+    """What could stand at a fault of syntax of a model, a query, a test, a pattern or a listing."""
     data = contents(path)
     fault = syntax_fault(kind, data)
     if fault is not None and line_and_column(data, fault.place) == refusal.place and sentence_of(fault):
         yield f"pipecheck: {sentence_of(fault)}"
-    pattern = syntax_fault("pattern", data) if kind == "test" else fault
-    if fault is not None and (pattern is None or pattern.place > fault.place):
+
+
+def misplaced(kind: str, form: str, path: str, data: bytes) -> Iterator[str]:
+    """That a file with a fault of tokens or of syntax is of another kind than this form asks for, where it is."""
+    fault, pattern = (syntax_fault(it, data) for it in ("test", "pattern"))
+    if kind == "test" and fault is not None and (pattern is None or pattern.place > fault.place):
         yield "pipecheck: a read with an open value makes this a pattern: sweep MODEL PATTERN"
-    form = " ".join([word, *kinds])
-    if kind == "model" and begins_with(b"Litmus2?", data):
-        yield f"pipecheck: {shown(path)} is a test, and stands for the model: {form}"
-    if kind in ("test", "pattern") and begins_with(b"StageName|Axiom|DefineMacro", data):
+    is_listing = LISTING.match(data) is not None
+    if kind == "model" and (is_listing or begins_with(b"Litmus2?", data)):
+        yield f"pipecheck: {shown(path)} is a {'listing' if is_listing else 'test'}, and stands for the model: {form}"
+    if kind in ("test", "pattern", "listing") and begins_with(b"StageName|Axiom|DefineMacro", data):
         yield f"pipecheck: {shown(path)} is a model, and stands for the test: {form}"
 
 
@@ -101,12 +93,11 @@ def macro_of(path: str, model: str, refusal: Refusal) -> Iterator[str]:
         yield f"pipecheck: a macro has this name: ExpandMacro {name.decode('ascii')}"
 
 
-def reader(word: str, path: str) -> Iterator[str]:
+def reader(word: str, path: str, data: bytes) -> Iterator[str]:
     """Which command reads the file, where it is a listing of herd's that a command for tests got, or a test that a command for
     listings got."""
-    data = contents(path)
     said = READERS.get(word, f"check86 and verify86 read it, and test86 writes it as a test, which {word} takes")
-    is_listing = re.match(rb"[ \t]*X86[ \t]", data) is not None
+    is_listing = LISTING.match(data) is not None
     if word.endswith("86") and not is_listing and re.search(rb'^[ \t]*Litmus2?[ \t]*"', data, re.MULTILINE):
         yield f"pipecheck: {shown(path)} is a test of this project's: {said}"
     elif not word.endswith("86") and is_listing:
@@ -163,16 +154,20 @@ def listing_lines(top: str, said: str, path: str) -> Iterator[str]:
 def told(top: str, said: str, words: list[str]) -> Iterator[str]:
     """Where the file that the program refuses by this line has its fault."""
     refusal = refusal_of(said)
-    kinds = Forms(top).kinds_of(words)
+    kinds, asked = Forms(top).kinds_of(words), refusal.kind
+    if asked == "test":
+        asked = "listing" if words[0].endswith("86") else "pattern" if words[0] == "sweep" else asked
     for kind, path in zip(kinds, words[1:]):
         if kind in KINDS[refusal.kind] and os.path.isfile(path):
             yield from place_of(top, path, refusal)
             if refusal.word == "syntax":
-                yield from expected(words[0], kinds, path, refusal)
+                yield from expected(asked, path, refusal)
+            if refusal.word in ("lexical", "syntax"):
+                yield from misplaced(asked, " ".join([words[0], *kinds]), path, contents(path))
             if refusal.word == "predicate-unknown":
                 yield from macro_of(path, words[1], refusal)
-            if refusal.kind == "test" and words[0].endswith("86"):
+            if asked == "listing":
                 yield from left_out(top, path, refusal)
             if refusal.kind == "test":
-                yield from reader(words[0], path)
+                yield from reader(words[0], path, contents(path))
             return

@@ -6,6 +6,7 @@ from tools.second.tokens import PIECE
 
 FORM = "% Memory model: NAME"
 NAMES = re.compile(rb"%[ \t]*memory model:[ \t]*([a-z0-9_-]+)\s*", re.IGNORECASE)
+MORE = re.compile(rb"%[ \t]*memory model:", re.IGNORECASE)
 # one that stands in another comment, up to the end of a line or of that comment
 INSIDE = re.compile(rb"%[ \t]*memory model:[ \t]*[a-z0-9_-]+\s*?(?:\*\)|$)", re.IGNORECASE | re.MULTILINE)
 
@@ -33,6 +34,7 @@ def comments(text: bytes) -> Iterator[tuple[int, bytes]]:
 def memory_model_of(text: bytes) -> Named:
     """The memory model that the text of a model names. It names one once, and never inside another comment."""
     found: list[tuple[int, str]] = []
+    other = Named("", "the model names no memory model")
     for at, comment in comments(text):
         names = NAMES.fullmatch(comment)
         inside = INSIDE.search(comment, 1)
@@ -40,6 +42,8 @@ def memory_model_of(text: bytes) -> Named:
             found.append((at, names.group(1).decode("ascii").lower()))
         elif inside is not None:
             return Named("", "a memory model is named inside another comment", at + inside.start())
+        elif MORE.match(comment) is not None:
+            other = Named("", f"the comment on a memory model is not {FORM}", at)
     if len(found) > 1:
         return Named("", "a memory model is named a second time", found[1][0])
-    return Named(found[0][1]) if found else Named("", "the model names no memory model")
+    return Named(found[0][1]) if found else other
