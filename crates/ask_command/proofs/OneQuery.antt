@@ -19,7 +19,7 @@ one_whole_formula bytes f g x y =
 
 accepted_alone : (bytes : List ℕ) (f : Written) (ts : List Token) (fault : TokenFault) → FormulaOf bytes f → Spells bytes ts
     → IsFirstTokenFault IsMarkedFormula (terminals ts) fault → ⊥
-accepted_alone bytes f ts fault x spelled is = no_fault_of_accepted IsMarkedFormula bytes x.tokens ts fault x.spelled spelled x.accepted is
+accepted_alone bytes f ts fault x spelled is = no_fault_of_accepted terminals IsMarkedFormula bytes x.tokens ts fault x.spelled spelled x.accepted is
 
 -- a query without a fault is not refused
 pub no_fault_beside : (m : WrittenModel) (bytes : List ℕ) (f : Written) → SaysQuery m bytes f → (fault : InputFault) → IsQueryFault m bytes fault → ⊥
@@ -41,19 +41,19 @@ one_fault m bytes _ _ (lexical x) (depth spelled f at) = absurd (spells-no_fault
 one_fault m bytes _ _ (lexical x) (of_tree f is) = absurd (spells-no_fault f.spelled x)
 one_fault m bytes _ _ (syntax spelled f at) (lexical y) = absurd (spells-no_fault spelled y)
 one_fault m bytes _ _ (syntax {ts = ts} {k = k} {at = p} spelled f at) (syntax {ts = us} {k = l} {at = q} other g there) =
-    let same = one_token_fault IsMarkedFormula bytes ts us (a_syntax_fault k) (a_syntax_fault l) spelled other f g in
+    let same = one_token_fault terminals IsMarkedFormula bytes ts us (a_syntax_fault k) (a_syntax_fault l) spelled other f g in
     ap (fault_at Query Syntax) (one_token_place bytes ts us (a_syntax_fault k) (a_syntax_fault l) p q spelled other same at there)
 one_fault m bytes _ _ (syntax {ts = ts} {k = k} spelled f at) (depth {ts = us} {k = l} other g there) =
-    let same = one_token_fault IsMarkedFormula bytes ts us (a_syntax_fault k) (a_depth_fault l) spelled other f g in
+    let same = one_token_fault terminals IsMarkedFormula bytes ts us (a_syntax_fault k) (a_depth_fault l) spelled other f g in
     absurd (cc)
 one_fault m bytes _ _ (syntax {ts = ts} {k = k} spelled f at) (of_tree {f = g} x is) =
     absurd (accepted_alone bytes g ts (a_syntax_fault k) x spelled f)
 one_fault m bytes _ _ (depth spelled f at) (lexical y) = absurd (spells-no_fault spelled y)
 one_fault m bytes _ _ (depth {ts = ts} {k = k} spelled f at) (syntax {ts = us} {k = l} other g there) =
-    let same = one_token_fault IsMarkedFormula bytes ts us (a_depth_fault k) (a_syntax_fault l) spelled other f g in
+    let same = one_token_fault terminals IsMarkedFormula bytes ts us (a_depth_fault k) (a_syntax_fault l) spelled other f g in
     absurd (cc)
 one_fault m bytes _ _ (depth {ts = ts} {k = k} {at = p} spelled f at) (depth {ts = us} {k = l} {at = q} other g there) =
-    let same = one_token_fault IsMarkedFormula bytes ts us (a_depth_fault k) (a_depth_fault l) spelled other f g in
+    let same = one_token_fault terminals IsMarkedFormula bytes ts us (a_depth_fault k) (a_depth_fault l) spelled other f g in
     ap (fault_at Query (Depth MAX_OPENERS)) (one_token_place bytes ts us (a_depth_fault k) (a_depth_fault l) p q spelled other same at there)
 one_fault m bytes _ _ (depth {ts = ts} {k = k} spelled f at) (of_tree {f = g} x is) =
     absurd (accepted_alone bytes g ts (a_depth_fault k) x spelled f)

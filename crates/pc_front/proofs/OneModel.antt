@@ -1,5 +1,5 @@
 -- Bytes are one whole model at most, and none where they have a fault; and they have one first fault at most.
-use Rattle.std.proofs.Common.{◌≡◌, ℕ, List, None, refl, sym, ◌∙◌, ap, subst}
+use Rattle.std.proofs.Common.{◌≡◌, ℕ, List, None, unwrap_or, refl, sym, ◌∙◌, ap, subst}
 use Rattle.pc_common.specs.declared.{place.Place.{Place}, fault.FaultKind.{FaultKind}}
 use Rattle.ll_grammar.specs.{FirstFault.{IsFirstTokenFault}, declared.fault.Fault.{Fault as TokenFault}}
 use Rattle.ll_grammar.specs.declared.fault.Fault.TheVariants.{Syntax as a_syntax_fault, Depth as a_depth_fault}
@@ -16,7 +16,7 @@ one_whole_model bytes m n x y =
 
 accepted_alone : (bytes : List ℕ) (m : WrittenModel) (ts : List Token) (f : TokenFault) → ModelOf bytes m → Spells bytes ts
     → IsFirstTokenFault IsMarkedModel (terminals ts) f → ⊥
-accepted_alone bytes m ts f x spelled fault = no_fault_of_accepted IsMarkedModel bytes x.tokens ts f x.spelled spelled x.accepted fault
+accepted_alone bytes m ts f x spelled fault = no_fault_of_accepted terminals IsMarkedModel bytes x.tokens ts f x.spelled spelled x.accepted fault
 
 -- a model without a fault is not refused
 pub no_whole_fault : (bytes : List ℕ) (m : WrittenModel) → ModelOf bytes m → first_model_fault m ≡ None
@@ -38,19 +38,19 @@ one_model_fault bytes _ _ p q (lexical x) (depth spelled f at) = absurd (spells-
 one_model_fault bytes _ _ p q (lexical x) (of_tree m is) = absurd (spells-no_fault m.spelled x)
 one_model_fault bytes _ _ p q (syntax spelled f at) (lexical y) = absurd (spells-no_fault spelled y)
 one_model_fault bytes _ _ p q (syntax {ts = ts} {k = k} spelled f at) (syntax {ts = us} {k = l} other g there) =
-    let same = one_token_fault IsMarkedModel bytes ts us (a_syntax_fault k) (a_syntax_fault l) spelled other f g in
+    let same = one_token_fault terminals IsMarkedModel bytes ts us (a_syntax_fault k) (a_syntax_fault l) spelled other f g in
     (refl, one_token_place bytes ts us (a_syntax_fault k) (a_syntax_fault l) p q spelled other same at there)
 one_model_fault bytes _ _ p q (syntax {ts = ts} {k = k} spelled f at) (depth {ts = us} {k = l} other g there) =
-    let same = one_token_fault IsMarkedModel bytes ts us (a_syntax_fault k) (a_depth_fault l) spelled other f g in
+    let same = one_token_fault terminals IsMarkedModel bytes ts us (a_syntax_fault k) (a_depth_fault l) spelled other f g in
     absurd (cc)
 one_model_fault bytes _ _ p q (syntax {ts = ts} {k = k} spelled f at) (of_tree {m = m} x is) =
     absurd (accepted_alone bytes m ts (a_syntax_fault k) x spelled f)
 one_model_fault bytes _ _ p q (depth spelled f at) (lexical y) = absurd (spells-no_fault spelled y)
 one_model_fault bytes _ _ p q (depth {ts = ts} {k = k} spelled f at) (syntax {ts = us} {k = l} other g there) =
-    let same = one_token_fault IsMarkedModel bytes ts us (a_depth_fault k) (a_syntax_fault l) spelled other f g in
+    let same = one_token_fault terminals IsMarkedModel bytes ts us (a_depth_fault k) (a_syntax_fault l) spelled other f g in
     absurd (cc)
 one_model_fault bytes _ _ p q (depth {ts = ts} {k = k} spelled f at) (depth {ts = us} {k = l} other g there) =
-    let same = one_token_fault IsMarkedModel bytes ts us (a_depth_fault k) (a_depth_fault l) spelled other f g in
+    let same = one_token_fault terminals IsMarkedModel bytes ts us (a_depth_fault k) (a_depth_fault l) spelled other f g in
     (refl, one_token_place bytes ts us (a_depth_fault k) (a_depth_fault l) p q spelled other same at there)
 one_model_fault bytes _ _ p q (depth {ts = ts} {k = k} spelled f at) (of_tree {m = m} x is) =
     absurd (accepted_alone bytes m ts (a_depth_fault k) x spelled f)

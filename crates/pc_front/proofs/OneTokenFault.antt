@@ -4,23 +4,24 @@ use Rattle.pc_common.specs.declared.place.Place.{Place}
 use Rattle.ll_grammar.specs.{FirstFault.{IsAccepted, IsFirstTokenFault}, declared.fault.Fault.{Fault, TheVariants.{Syntax, Depth}}}
 use Rattle.ll_grammar.proofs.Faults.{one_answer}
 use Rattle.uspec_lexer.{specs.{Token.{Token, token_place}, Spells.{Spells}}, proofs.SpellsLaws.{spells-unique}}
-use Rattle.uspec_parser.specs.{declared.terminal.Terminal.{Terminal}, Answers.{terminals}}
 
 pub place_is : (p q : Place) → p.offset ≡ q.offset → p ≡ q
 place_is p q same = λ i. record { offset = same i }
 
 -- accepted tokens have no fault
-pub no_fault_of_accepted : (IsMarked : List Terminal → List Bool → Type 0) (bytes : List ℕ) (ts us : List Token) (f : Fault) → Spells bytes ts → Spells bytes us
+pub no_fault_of_accepted : {C : Type 0} (terminals : List Token → List C) (IsMarked : List C → List Bool → Type 0) (bytes : List ℕ)
+    → (ts us : List Token) (f : Fault) → Spells bytes ts → Spells bytes us
     → IsAccepted IsMarked (terminals ts) → IsFirstTokenFault IsMarked (terminals us) f → ⊥
-no_fault_of_accepted IsMarked bytes ts us f spelled other accepted fault =
+no_fault_of_accepted terminals IsMarked bytes ts us f spelled other accepted fault =
     let P : List Token → Type 0 = λ vs. IsFirstTokenFault IsMarked (terminals vs) f in
     let here = one_answer IsMarked (terminals ts) None (Some f) accepted (subst P (spells-unique other spelled) fault) in
     cc
 
 -- tokens have one first fault
-pub one_token_fault : (IsMarked : List Terminal → List Bool → Type 0) (bytes : List ℕ) (ts us : List Token) (f g : Fault) → Spells bytes ts → Spells bytes us
+pub one_token_fault : {C : Type 0} (terminals : List Token → List C) (IsMarked : List C → List Bool → Type 0) (bytes : List ℕ)
+    → (ts us : List Token) (f g : Fault) → Spells bytes ts → Spells bytes us
     → IsFirstTokenFault IsMarked (terminals ts) f → IsFirstTokenFault IsMarked (terminals us) g → f ≡ g
-one_token_fault IsMarked bytes ts us f g spelled other x y =
+one_token_fault terminals IsMarked bytes ts us f g spelled other x y =
     let P : List Token → Type 0 = λ vs. IsFirstTokenFault IsMarked (terminals vs) g in
     let same = one_answer IsMarked (terminals ts) (Some f) (Some g) x (subst P (spells-unique other spelled) y) in
     ap (λ o. unwrap_or o f) same
