@@ -6,7 +6,6 @@
 Each test whose line is another is printed. The status is 1 where --check finds one.
 """
 import os
-import sys
 
 from tools import TOP
 from tools.agree.table import rows_of
@@ -31,9 +30,9 @@ def with_comment(text: str, said: str) -> str:
     return "\n".join([first, said] + ([] if second.startswith(BEGINNINGS) else [second]) + rest)
 
 
-def main(words: list[str]) -> int:
+def main(*words: str) -> int:
     """Writes the lines, or only compares them, and answers the exit status."""
-    if words not in ([], ["--check"]):
+    if words not in ((), ("--check",)):
         raise SystemExit(__doc__)
     tests: dict[str, dict[str, bool]] = {}
     for memory_model, test, is_allowed in rows_of(""):
@@ -54,7 +53,3 @@ def main(words: list[str]) -> int:
             with open(path, "w", encoding="ascii") as file:
                 file.write(new)
     return 1 if is_differing and words else 0
-
-
-if __name__ == "__main__":
-    sys.exit(main(sys.argv[1:]))

@@ -14,7 +14,6 @@ import contextlib
 import fcntl
 import os
 import shutil
-import sys
 from typing import Callable, Iterator
 
 from tools import TOP
@@ -143,7 +142,3 @@ def main(work: str, *words: str) -> int:
         put_over("")
         raise
     return 0
-
-
-if __name__ == "__main__":
-    sys.exit(SIGNALS.status_or_end(lambda: main(*sys.argv[1:])))

@@ -5,13 +5,12 @@
 
 The exit status is 0, or 125 where the files are none that the program can have answered.
 """
-import sys
 from typing import Iterator
 
 from tools.explain.files import contents
 from tools.second.models import Axiom
 from tools.second.scopes import read_model
-from tools.second.standard_output import FAILED, status_of
+from tools.second.standard_output import FAILED
 from tools.second.tokens import Fault, tokens
 from tools.texts.answers import AnswerRefused, Core, read_answer
 from tools.texts.naming import line_and_column
@@ -45,7 +44,3 @@ def main(word: str, model_path: str, other_path: str) -> int:
         return FAILED
     print("".join(f"{line}\n" for line in lines), end="")
     return 0
-
-
-if __name__ == "__main__":
-    sys.exit(status_of(main, sys.argv[1:]))

@@ -9,7 +9,6 @@ judge is none, where a text could not be kept, or where this program fails.
 import os
 import shutil
 import signal
-import sys
 import tempfile
 from contextlib import contextmanager, suppress
 from typing import Iterator, Sequence
@@ -20,7 +19,7 @@ from tools.explain.files import contents, explain_files, parts_of
 from tools.second.listings import ENDING
 from tools.second.queries import InModel
 from tools.second.scopes import read_model
-from tools.second.standard_output import FAILED, UNREAD, UNWRITTEN, status_of
+from tools.second.standard_output import FAILED, UNREAD, UNWRITTEN
 from tools.second.tokens import Fault
 from tools.suite.calling import Calls, limited, memory_limit, side_by_side
 from tools.suite.programs import command_of
@@ -234,7 +233,3 @@ def main(program: str, *names: str) -> int:
     except (AnswerRefused, Fault, TooLarge, UnicodeDecodeError) as problem:
         tell(f"explain: not explained: {problem}")
     return FAILED
-
-
-if __name__ == "__main__":
-    sys.exit(SIGNALS.status_or_end(lambda: status_of(main, sys.argv[1:])))

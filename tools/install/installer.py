@@ -491,6 +491,11 @@ def install(program: str, *words: str) -> int:
 def main(work: str, *words: str) -> int:
     """Does it, and says what hinders it."""
     SIGNALS.receive()
+    os.umask(0o022)
+    for stream in (sys.stdout, sys.stderr):
+        # a name need not be UTF-8
+        if isinstance(stream, io.TextIOWrapper):
+            stream.reconfigure(errors="surrogateescape")
     try:
         return judge(*words) if work == "judge" else install(*words)
     except (Refused, Unmade) as problem:
@@ -498,12 +503,3 @@ def main(work: str, *words: str) -> int:
     except OSError as error:
         print(f"install: {error.filename2 or error.filename or ' '.join(words[-1:])}: {error.strerror}", file=sys.stderr)
     return 1
-
-
-if __name__ == "__main__":
-    os.umask(0o022)
-    for stream in (sys.stdout, sys.stderr):
-        # a name need not be UTF-8
-        if isinstance(stream, io.TextIOWrapper):
-            stream.reconfigure(errors="surrogateescape")
-    sys.exit(SIGNALS.status_or_end(lambda: main(*sys.argv[1:])))

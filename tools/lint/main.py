@@ -17,7 +17,7 @@ from tools.lint.linting import Linter, read_query_file, read_test
 from tools.lint.slips import Slip
 from tools.second.queries import InModel
 from tools.second.scopes import read_model
-from tools.second.standard_output import UNREAD, status_of
+from tools.second.standard_output import UNREAD
 from tools.second.tokens import Fault
 from tools.telling.files import sentence, unreadable
 from tools.texts.contents import Unreadable, contents, read_within
@@ -84,7 +84,3 @@ def main(model_path: str, *paths: str) -> int:
     if files.is_refused:
         return 3
     return 1 if count else 0
-
-
-if __name__ == "__main__":
-    sys.exit(status_of(main, sys.argv[1:]))

@@ -10,7 +10,6 @@ not be written, 7 where the program was refused memory, and 125 where there is n
 """
 import os
 import re
-import sys
 from collections import Counter
 from functools import partial
 from typing import Mapping, Sequence
@@ -24,7 +23,7 @@ from tools.listings.logs import Log, Result
 from tools.listings.programs import LOCKED, Program
 from tools.listings.reading import Notes
 from tools.second.scopes import read_model
-from tools.second.standard_output import FAILED, UNREAD, status_of
+from tools.second.standard_output import FAILED, UNREAD
 from tools.second.tokens import Fault
 from tools.suite.calling import ENDING, Calls, side_by_side
 from tools.suite.pairs import Checker
@@ -205,7 +204,3 @@ def main(model: str, *paths: str) -> int:
     for line in lines:
         print(line)
     return status
-
-
-if __name__ == "__main__":
-    sys.exit(SIGNALS.status_or_end(lambda: status_of(main, sys.argv[1:])))

@@ -7,14 +7,13 @@ listing has its fault. The exit status is 0, 3 where the listing is refused, 4 w
 cannot be written, and 125 where this program fails.
 """
 import os
-import sys
 
 from tools import TOP
 from tools.lint.lines import line_of
 from tools.listings.programs import Loaded, Program
 from tools.listings.reading import Beyond, Notes
 from tools.second.cases import Location
-from tools.second.standard_output import UNREAD, status_of
+from tools.second.standard_output import UNREAD
 from tools.second.tokens import Fault
 from tools.suite.telling import tell
 from tools.telling.files import unreadable
@@ -102,7 +101,3 @@ def main(path: str) -> int:
     for place, sentence in notes.lines():
         tell(line_of(path, data, place, sentence))
     return 0
-
-
-if __name__ == "__main__":
-    sys.exit(status_of(main, sys.argv[1:]))

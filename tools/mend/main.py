@@ -18,7 +18,7 @@ from tools.mend.orders import Found, Search
 from tools.mend.telling import MOST_CHOICES, MOST_SHOWN, MOST_STRONGER, TITLE, Telling
 from tools.second.listings import ENDING
 from tools.second.scopes import read_model
-from tools.second.standard_output import FAILED, UNREAD, status_of
+from tools.second.standard_output import FAILED, UNREAD
 from tools.suite.allowing import Machines
 from tools.suite.calling import Calls, side_by_side
 from tools.suite.pairs import Checker
@@ -165,7 +165,3 @@ def main(model_path: str, test_path: str) -> int:
     for line in within(lines, width_of_output()):
         print(line)
     return status
-
-
-if __name__ == "__main__":
-    sys.exit(SIGNALS.status_or_end(lambda: status_of(main, sys.argv[1:])))

@@ -13,8 +13,6 @@ from collections.abc import Iterator
 from dataclasses import dataclass
 from itertools import takewhile
 
-sys.dont_write_bytecode = True
-
 from tools import TOP
 from tools.pages.antt import Fault, first_sentence
 
@@ -118,7 +116,3 @@ def main(*words: str) -> int:
         print(f"crates: {fault}", file=sys.stderr)
         return 1
     return 0
-
-
-if __name__ == "__main__":
-    sys.exit(main(*sys.argv[1:]))

@@ -176,8 +176,10 @@ def pairs(asked: Words, environ: Mapping[str, str], top: str, seconds: float, jo
     return status
 
 
-def answer(words: Sequence[str]) -> int:
+def main(*words: str) -> int:
     """Runs the suite, and says what went wrong with it."""
+    sys.setrecursionlimit(RECURSION)
+    open_streams()
     SIGNALS.receive(ENDING)
     try:
         if "--help" in words:
@@ -197,10 +199,3 @@ def answer(words: Sequence[str]) -> int:
         # Python's own status for this is 1, which says that there are bugs
         tell(traceback.format_exc(), end="")
     return NO_TABLE
-
-
-if __name__ == "__main__":
-    sys.setrecursionlimit(RECURSION)
-    open_streams()
-    # where a signal ended the suite it ends this process, too, once nothing is left behind
-    sys.exit(SIGNALS.status_or_end(lambda: answer(sys.argv[1:])))

@@ -5,7 +5,6 @@
 A line `word WORD SENTENCE`, with a tab before the sentence, is a word that may stand there, and `file .ENDING` says that
 a file with this ending may, `file` that any file may. Where a file may stand, a folder may.
 """
-import sys
 from typing import Iterator
 
 from tools import TOP
@@ -84,7 +83,3 @@ def main(*before: str) -> None:
         found = [*words(commands(forms)), "word --help\tShows these forms."]
     for line in dict.fromkeys(found):
         print(line)
-
-
-if __name__ == "__main__":
-    main(*sys.argv[1:])
