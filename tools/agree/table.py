@@ -4,11 +4,10 @@
     python3 tools table translation >examples/translation/memory-models.tsv
 
 The first has the tests of examples/tests, and the listings of examples/x86, whose names keep their endings; those of
-examples/locked, with locked instructions, have rows for the machines that take them. The second has the tests with
-page-table entries, for the machine that has them. Each row is found by running the machine of the memory model. Where a
-paper states the same outcome of the same test, the row names it too. The last column is the SHA-256 hash of the test's
-bytes: examples/suite takes a row for these bytes alone. So the tables are written anew where a machine, a test or a
-byte of a test is new. """
+examples/locked, with locked instructions, have rows for the machines that take them. The second has the tests with page-table
+entries, for the machine that has them. Each row is found by running the machine of the memory model. Where a paper states the
+same outcome of the same test, the row names it too. The last column is the SHA-256 hash of the test's bytes: examples/suite takes
+a row for these bytes alone. So the tables are written anew where a machine, a test or a byte of a test is new. """
 import os
 from glob import escape, glob
 from hashlib import sha256

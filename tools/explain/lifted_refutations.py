@@ -199,8 +199,7 @@ class LiftedRefutation(Branches[Noted]):
     # the facts
 
     def part(self, above: Noted, part: Fact, place: int, name: str) -> Noted:
-        """A part of a fact: the member of a list at a place, the body of a quantifier at what has this name, or a
-        side."""
+        """A part of a fact: the member of a list at a place, the body of a quantifier at what has this name, or a side."""
         assert isinstance(above.fact, Said)
         formula, origin = above.fact.formula, above.origin
         values = above.values

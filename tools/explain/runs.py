@@ -68,8 +68,7 @@ class Run:
             yield from (self.edge(edge, origins) for edge in asked)
 
     def table(self) -> list[str]:
-        """One order of the run. Where the columns of all cores are wider than a line may be, each line names its
-        core."""
+        """One order of the run. Where the columns of all cores are wider than a line may be, each line names its core."""
         cores = sorted({self.case.ops[node[0]].core for node in self.nodes})
         order = self.order()
         cells = {node: self.cell(node) for node in order}

@@ -1,10 +1,9 @@
 """Nodes that a world may have for nothing.
 
-An axiom *gives* a node where it can't be true without it, whichever side of an `or` is taken. It *asks for* each node
-that it names. It *denies* one by `~NodeExists`, or by a premise that names it and a conclusion that more nodes and more
-order do not make true. A node that some axiom asks for, none gives and none denies is free: a world has it or not, as
-it likes. Which nodes an axiom may name, in any test, its places say: by their stage, their core, and the access of their
-micro-op.
+An axiom *gives* a node where it can't be true without it, whichever side of an `or` is taken. It *asks for* each node that it
+names. It *denies* one by `~NodeExists`, or by a premise that names it and a conclusion that more nodes and more order do not make
+true. A node that some axiom asks for, none gives and none denies is free: a world has it or not, as it likes. Which nodes an
+axiom may name, in any test, its places say: by their stage, their core, and the access of their micro-op.
 """
 from dataclasses import dataclass
 from typing import Iterable, Iterator, NamedTuple

@@ -48,8 +48,7 @@ class Comparison:
 
     @property
     def variables(self) -> list[Variable]:
-        """Those of the states of the log, by the names that the listing has; where it has no state, those of the
-        condition."""
+        """Those of the states of the log, by the names that the listing has; where it has no state, those of the condition."""
         if not self.result.states:
             return self.program.condition.variables
         is_wide = self.program.written.is_wide

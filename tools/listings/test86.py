@@ -39,8 +39,7 @@ def test_of(data: bytes, notes: Notes) -> str:
 
 
 def test_of_herd(data: bytes, notes: Notes) -> str:
-    """The text of the test that a listing says, or the listing's first fault. What is read of it beyond `check86` is
-    noted."""
+    """The text of the test that a listing says, or the listing's first fault. What is read of it beyond `check86` is noted."""
     program = Program(data, notes)
     if program.reloads:
         raise Fault("x86-reload", program.reloads[0].at)

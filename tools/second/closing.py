@@ -1,9 +1,8 @@
 """What is closed on a branch, asked literal by literal: nothing is asserted in trial.
 
-The *alternatives* of a disjunction are its members, and where a member is a disjunction again, the alternatives of that
-one. A part is *closed* where a literal that it asserts would clash by itself. An alternative is *as good as closed* also
-where two literals would clash together: two of its own, or one of its own and one of each alternative of a disjunction
-that it asserts.
+The *alternatives* of a disjunction are its members, and where a member is a disjunction again, the alternatives of that one. A
+part is *closed* where a literal that it asserts would clash by itself. An alternative is *as good as closed* also where two
+literals would clash together: two of its own, or one of its own and one of each alternative of a disjunction that it asserts.
 """
 from tools.second.orders import Order
 from tools.second.positions import Leaf, Positions, Signed

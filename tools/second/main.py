@@ -14,12 +14,11 @@
     python3 tools second dimacs MODEL TEST        the question for a SAT solver
     python3 tools second smt MODEL TEST           the question for an SMT solver
 
-All text goes to standard output, in the lines and with the exit statuses that the program has: 0 observable, 1
-unobservable, 2 words that are no command, 3 a file with a fault, 4 a file that cannot be read, 5 standard output that
-fails, 6 a refused certificate; of `core`, `ask` and `sweep` 0 where no file has a fault; and 125 where this program
-itself fails, say since two ways to a verdict do not agree. A verdict is found in two ways, by a search of its own and
-by one that makes the program's choices and gives the text; they have to agree, and each certificate is judged before it
-is written. `sweep` takes its own search alone.
+All text goes to standard output, in the lines and with the exit statuses that the program has: 0 observable, 1 unobservable, 2
+words that are no command, 3 a file with a fault, 4 a file that cannot be read, 5 standard output that fails, 6 a refused
+certificate; of `core`, `ask` and `sweep` 0 where no file has a fault; and 125 where this program itself fails, say since two ways
+to a verdict do not agree. A verdict is found in two ways, by a search of its own and by one that makes the program's choices and
+gives the text; they have to agree, and each certificate is judged before it is written. `sweep` takes its own search alone.
 """
 import sys
 from functools import partial

@@ -1,8 +1,7 @@
 """The nested tree as numbered positions, and its nodes as numbers: what refutations speak of.
 
-Positions are counted in preorder over conjunctions, disjunctions and literals, from 0 at the root. Nodes are numbered
-as they are first seen in that order, the first end of an edge before the second. A tree that is a constant has no
-position.
+Positions are counted in preorder over conjunctions, disjunctions and literals, from 0 at the root. Nodes are numbered as they are
+first seen in that order, the first end of an edge before the second. A tree that is a constant has no position.
 """
 import re
 from dataclasses import dataclass

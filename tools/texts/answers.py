@@ -45,8 +45,7 @@ class Core:
 
 @dataclass(frozen=True)
 class Asked:
-    """An answer of `ask`: its word, the certificate of the model with the formula as an axiom, and that with its
-    denial."""
+    """An answer of `ask`: its word, the certificate of the model with the formula as an axiom, and that with its denial."""
 
     word: str
     parts: list[Part]
@@ -134,8 +133,7 @@ class ModelOfPart:
 
 
 def model_of(answer: Answer, part: Part, model: Model, text: bytes, query: bytes) -> ModelOfPart:
-    """The model that a certificate of an answer is of. The query is one that is read beside the model without a
-    fault."""
+    """The model that a certificate of an answer is of. The query is one that is read beside the model without a fault."""
     if isinstance(answer, Core):
         kept = answer.kept
         if kept is None:

@@ -1,7 +1,6 @@
 """The test that a listing of herd's says, as a text that every command takes.
 
-The names of the listing stand in comments: of its threads, locations and registers, and what its author wrote beside
-them.
+The names of the listing stand in comments: of its threads, locations and registers, and what its author wrote beside them.
 """
 from dataclasses import replace
 from typing import Iterable, Iterator
