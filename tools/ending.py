@@ -59,13 +59,18 @@ class Signals:
         if self.number != 0:
             raise Interrupted(self.number)
 
-    def lock(self, file: int) -> None:
-        """Locks an open file, once no other process has it locked."""
+    def lock(self, file: int, tell: Callable[[], None]) -> None:
+        """Locks an open file, once no other process has it locked. Where one has, that is told first."""
+        is_told = False
         while True:
             with suppress(BlockingIOError):
                 fcntl.flock(file, fcntl.LOCK_EX | fcntl.LOCK_NB)
                 return
-            time.sleep(MOMENT)
+            if is_told:
+                time.sleep(MOMENT)
+            else:
+                tell()
+            is_told = True
             self.look()
 
     @contextmanager

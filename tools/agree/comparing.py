@@ -14,7 +14,6 @@ from tools.agree.litmus import Reads, Test, Value, test_of_text
 from tools.agree.verdicts import is_alike, runs, value_of, words_of
 from tools.agree.working import Unusable
 from tools.lint.asked import Asked
-from tools.lint.lines import line_of
 from tools.second.cases import Case
 from tools.second.listings import read_file_items
 from tools.second.models import Model
@@ -30,7 +29,7 @@ from tools.suite.telling import Refusal
 from tools.telling.files import sentence
 from tools.texts.contents import Read, Unreadable, contents, read_within
 from tools.texts.memory_models import memory_model_of
-from tools.texts.quoting import shown
+from tools.texts.quoting import line_of, shown
 
 READ = re.compile(rb"(\(\s*Read\b[^()]*(?:\([^()]*\)\s*){2})\(\s*(?:Data|Maps)[^()]*\)")
 OPEN = rb"\1(Data Any)"

@@ -6,7 +6,6 @@ alone, and the next comparison of that name takes its place.
 """
 import json
 import os
-import stat
 import time
 from contextlib import suppress
 from dataclasses import asdict, dataclass, field, fields, replace
@@ -22,7 +21,7 @@ from tools.agree.small_programs import Family, Shape
 from tools.agree.working import Counts, Unusable, Workers, tell
 from tools.second.patterns import MOST_ROWS
 from tools.suite.files import digest_of
-from tools.suite.keeping import write_anew
+from tools.suite.keeping import own_contents, write_anew
 from tools.suite.telling import Progress as Meter
 from tools.texts.quoting import shown
 
@@ -53,7 +52,7 @@ class Kept:
     def read(self, count: int) -> Progress:
         """What a comparison of so many programs has got; nothing where the file is none that this module writes."""
         try:
-            found = json.loads(small_file(self.place))
+            found = json.loads(own_contents(self.place, MOST_BYTES))
             return progress_of(found, count) if found["origin"] == self.origin else Progress()
         except (OSError, ValueError, TypeError, KeyError, RecursionError):
             return Progress()
@@ -86,14 +85,6 @@ def progress_of(found: dict[str, object], count: int) -> Progress:
     if smallest is not None and not (isinstance(smallest, int) and 0 <= smallest < counts.done):
         raise ValueError(smallest)
     return Progress(counts, smallest)
-
-
-def small_file(path: str) -> bytes:
-    """The bytes of a small file. No link is followed, and nothing waits for a pipe."""
-    with os.fdopen(os.open(path, os.O_RDONLY | os.O_NOFOLLOW | os.O_NONBLOCK | os.O_CLOEXEC), "rb") as file:
-        if not stat.S_ISREG(os.fstat(file.fileno()).st_mode):
-            raise ValueError(path)
-        return file.read(MOST_BYTES)
 
 
 def digest_of_files(*paths: str) -> str:

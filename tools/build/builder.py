@@ -11,7 +11,6 @@ here, and removes the copy.
 from __future__ import annotations
 
 import contextlib
-import fcntl
 import os
 import shutil
 from typing import Callable, Iterator
@@ -53,11 +52,7 @@ def refuse(what: str) -> None:
 def in_turn(kind: str) -> Iterator[None]:
     """While no other call makes that program, or clears it away."""
     with open(f"{OUT}/{kind}_lock", "wb") as lock:
-        try:
-            fcntl.flock(lock, fcntl.LOCK_EX | fcntl.LOCK_NB)
-        except BlockingIOError:
-            say("another call is building the program: waiting for it")
-            SIGNALS.lock(lock.fileno())
+        SIGNALS.lock(lock.fileno(), lambda: say("another call is building the program: waiting for it"))
         yield
 
 

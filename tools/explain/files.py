@@ -1,6 +1,7 @@
 """What is said of a file, in the words of the model: a certificate, or an answer of `core` or of `ask`. Each certificate has to be
 one that a judge accepted."""
 from itertools import chain
+from pathlib import Path
 from typing import Iterator
 
 from tools.explain.lifted_refutations import LiftedRefutation
@@ -12,9 +13,9 @@ from tools.second.models import Axiom, Model
 from tools.second.queries import read_query
 from tools.second.scopes import read_model
 from tools.texts.answers import Answer, Asked, Core, Part, is_answer, model_of, read_answer
-from tools.texts.naming import Names, case_with_names, line_and_column
+from tools.texts.naming import Names, case_with_names
 from tools.texts.origins import TracedPositions
-from tools.texts.quoting import shown
+from tools.texts.quoting import line_and_column, shown
 from tools.texts.wrapping import width_of_output, within
 
 VERDICTS = {
@@ -30,21 +31,15 @@ WORDS = {
 ADDED = {"with": "the query", "against": "the denial of the query"}
 
 
-def contents(path: str) -> bytes:
-    """The bytes of a file."""
-    with open(path, "rb") as file:
-        return file.read()
-
-
 def explain_files(
     model_name: str, model_path: str, test_path: str, certificate_path: str, query_path: str = "", query_name: str = ""
 ) -> Iterator[str]:
     """The lines that are said of the certificate or answer, which judges have accepted, as wide as the output may be. An answer
     of `ask` has a query beside it. The model is called by its name, and so is the query where it has one."""
-    text, data, width = contents(model_path), contents(certificate_path), width_of_output()
-    model, case = read_model(text), case_with_names(test_path, contents(test_path))
+    text, data, width = Path(model_path).read_bytes(), Path(certificate_path).read_bytes(), width_of_output()
+    model, case = read_model(text), case_with_names(test_path, Path(test_path).read_bytes())
     if is_answer(data):
-        query = contents(query_path) if query_path else b""
+        query = Path(query_path).read_bytes() if query_path else b""
         lines = explain_answer(model, case, text, model_name, read_answer(data, model), query, query_name or query_path, width)
     else:
         lines = explain(model, case, text, model_name, data.decode("ascii").split("\n")[:-1], width)

@@ -11,11 +11,12 @@ import shutil
 import signal
 import tempfile
 from contextlib import contextmanager, suppress
+from pathlib import Path
 from typing import Iterator, Sequence
 
 from tools import TOP
 from tools.ending import SIGNALS
-from tools.explain.files import contents, explain_files, parts_of
+from tools.explain.files import explain_files, parts_of
 from tools.second.listings import ENDING
 from tools.second.queries import InModel
 from tools.second.scopes import read_model
@@ -27,9 +28,8 @@ from tools.suite.telling import Refusal, tell
 from tools.telling.files import unreadable
 from tools.telling.refusals import place_of, refusal_of, told
 from tools.texts.answers import AnswerRefused, is_answer, read_answer
-from tools.texts.naming import line_and_column
 from tools.texts.origins import TooLarge
-from tools.texts.quoting import quoted
+from tools.texts.quoting import line_and_column, quoted
 
 # how long a model, a test or a query may be, and a certificate
 MOST, MOST_OF_CERTIFICATE = 1_048_576, 67_108_864
@@ -148,12 +148,12 @@ def judge_answer(judge: Judge, word: str, names: Sequence[str], paths: list[str]
     status, text = judge.call(word, paths[:3])
     if status != CERTIFICATE_REFUSED:
         raise meaning(status, text, word, names[:3])
-    model_text, data = contents(paths[0]), contents(paths[2])
+    model_text, data = Path(paths[0]).read_bytes(), Path(paths[2]).read_bytes()
     if data.startswith(b"ask ") is not (len(paths) == 4):
         raise failed(ONLY_ASK if len(paths) == 4 else f"an answer of ask is explained beside its query: {FORM}")
     model = read_model(model_text)
     try:
-        query = contents(paths[3]) if len(paths) == 4 else b""
+        query = Path(paths[3]).read_bytes() if len(paths) == 4 else b""
     except OSError as error:
         raise Unexplained(UNREAD, list(unreadable(names[3:]))) from error
     try:

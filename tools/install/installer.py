@@ -32,7 +32,7 @@ import unicodedata
 from collections.abc import Iterator, Sequence
 from contextlib import ExitStack, contextmanager, suppress
 from dataclasses import dataclass
-from functools import reduce
+from functools import partial, reduce
 from operator import or_
 
 import tools
@@ -434,12 +434,13 @@ class Installation:
         try:
             folder = os.open(self.at(name), os.O_RDONLY)
             self.locks.callback(os.close, folder)
-            fcntl.flock(folder, fcntl.LOCK_EX | fcntl.LOCK_NB)
+            if waits:
+                tell = partial(print, f"install: another call works in {self.at(name)}: waiting for it", file=sys.stderr)
+                SIGNALS.lock(folder, tell)
+            else:
+                fcntl.flock(folder, fcntl.LOCK_EX | fcntl.LOCK_NB)
         except BlockingIOError:
-            if not waits:
-                return False
-            print(f"install: another call works in {self.at(name)}: waiting for it", file=sys.stderr)
-            SIGNALS.lock(folder)
+            return False
         except OSError:
             return True
         if not self.is_at(folder, name):

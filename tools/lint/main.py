@@ -12,7 +12,6 @@ from functools import partial
 from typing import Callable, Iterable, TypeVar
 
 from tools import TOP
-from tools.lint.lines import line_of
 from tools.lint.linting import Linter, read_query_file, read_test
 from tools.lint.slips import Slip
 from tools.second.queries import InModel
@@ -22,7 +21,7 @@ from tools.second.tokens import Fault
 from tools.telling.files import sentence, unreadable
 from tools.texts.contents import Unreadable, contents, read_within
 from tools.texts.expecting import sentence_of
-from tools.texts.quoting import shown
+from tools.texts.quoting import line_of, shown
 
 # how the name of a query ends; any other file is a test, a listing or a pattern
 QUERY = ".query"

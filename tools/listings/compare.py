@@ -17,7 +17,6 @@ from typing import Mapping, Sequence
 from tools import TOP
 from tools.ending import SIGNALS
 from tools.lint.asked import Asked
-from tools.lint.lines import line_of
 from tools.listings.comparing import MOST_SWEEPS, Comparison, Sweep, Swept, Unasked, swept
 from tools.listings.logs import Log, Result
 from tools.listings.programs import LOCKED, Program
@@ -31,7 +30,7 @@ from tools.suite.programs import checker_of
 from tools.suite.telling import Refusal, tell
 from tools.telling.files import unreadable
 from tools.texts.contents import Unreadable, contents, read_within
-from tools.texts.quoting import shown
+from tools.texts.quoting import line_of, shown
 
 LOG_LIMIT = 67_108_864
 # a sweep has no limit of time of its own

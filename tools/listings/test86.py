@@ -9,7 +9,6 @@ cannot be written, and 125 where this program fails.
 import os
 
 from tools import TOP
-from tools.lint.lines import line_of
 from tools.listings.programs import Loaded, Program
 from tools.listings.reading import Beyond, Notes
 from tools.second.cases import Location
@@ -19,7 +18,7 @@ from tools.suite.telling import tell
 from tools.telling.files import unreadable
 from tools.telling.refusals import listing_lines
 from tools.texts.contents import Unreadable, contents, read_within
-from tools.texts.naming import line_and_column
+from tools.texts.quoting import line_and_column, line_of
 from tools.texts.writing_tests import notes as comments
 from tools.texts.writing_tests import test_of_listing, within_limit
 

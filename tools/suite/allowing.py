@@ -12,12 +12,11 @@ from contextlib import suppress
 from dataclasses import dataclass, field
 from glob import glob
 
-from tools.lint.lines import line_of
 from tools.suite.calling import GRACE, PYTHON, Calls, limited, memory_limit
 from tools.suite.files import Copies, File
 from tools.suite.telling import Refusal
 from tools.texts.memory_models import FORM, memory_model_of
-from tools.texts.quoting import quoted, shown
+from tools.texts.quoting import line_of, quoted, shown
 
 # a file of tools/agree/machines that is a machine
 MACHINE = re.compile(r"^def outcomes\(", re.MULTILINE)

@@ -5,7 +5,6 @@ from contextlib import suppress
 from functools import partial
 from typing import Sequence
 
-from tools.lint.lines import line_of
 from tools.second.cores import without
 from tools.second.scopes import read_model
 from tools.second.tokens import Fault
@@ -16,6 +15,7 @@ from tools.suite.pairs import TIME, Checker, Found
 from tools.suite.running import checked
 from tools.suite.telling import Refusal, aligned
 from tools.texts.answers import cut_text
+from tools.texts.quoting import line_of
 
 NEEDED = "untested or not needed"
 

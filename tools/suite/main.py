@@ -87,7 +87,7 @@ from tools.suite.pairs import BUG, NOT_TAKEN, OBSERVABLE, OK, STRICTER, SWEPT, T
 from tools.suite.programs import checker_of, program_digest
 from tools.suite.running import Suite
 from tools.suite.telling import Refusal, Unread, open_streams, put, tell, width_of_terminal
-from tools.suite.words import BASELINE, JUNIT, SARIF, Words, folder_of, number_of_jobs, number_of_seconds, read_words
+from tools.suite.words import BASELINE, JUNIT, SARIF, Words, folder_of, limits_of, read_words
 from tools.texts.quoting import shown
 
 NO_TABLE = 2
@@ -122,7 +122,7 @@ def status_of(cells: Collection[str]) -> int:
 
 def suite(words: Sequence[str], environ: Mapping[str, str], top: str) -> int:
     """Runs what the words ask for, prints the table and answers the status."""
-    seconds, jobs = number_of_seconds(environ), number_of_jobs(environ)
+    seconds, jobs = limits_of(environ)
     asked = read_words(words, environ, top)
     if "--axioms" not in asked.options:
         return pairs(asked, environ, top, seconds, jobs)

@@ -107,14 +107,10 @@ def files_in(folder: str, endings: Sequence[str]) -> list[str]:
     return found
 
 
-def number_of_seconds(environ: Mapping[str, str]) -> float:
-    """The limit of one call."""
-    return number_in(environ, "SUITE_SECONDS", SECONDS, "20", "a number above 0")
-
-
-def number_of_jobs(environ: Mapping[str, str]) -> int:
-    """How many calls run side by side."""
-    return int(number_in(environ, "SUITE_JOBS", JOBS, str(len(os.sched_getaffinity(0))), "a number from 1 to 9999"))
+def limits_of(environ: Mapping[str, str]) -> tuple[float, int]:
+    """The limit of one call, in seconds, and how many calls run side by side."""
+    seconds = number_in(environ, "SUITE_SECONDS", SECONDS, "20", "a number above 0")
+    return seconds, int(number_in(environ, "SUITE_JOBS", JOBS, str(len(os.sched_getaffinity(0))), "a number from 1 to 9999"))
 
 
 def number_in(environ: Mapping[str, str], name: str, form: re.Pattern[str], default: str, kind: str) -> float:

@@ -6,12 +6,10 @@ from typing import Iterator
 
 from tools.telling.files import row, sentence
 from tools.telling.forms import Forms
+from tools.texts.contents import contents
 from tools.texts.expecting import sentence_of, syntax_fault
-from tools.texts.naming import line_and_column
-from tools.texts.quoting import shown
+from tools.texts.quoting import line_and_column, shown
 
-# of a longer file no more is looked at
-LIMIT = 1_048_577
 # how much of a long line is shown, and what of it before the mark
 MOST_SHOWN, FAR, BEFORE = 120, 100, 60
 KINDS = {"model": ("MODEL",), "test": ("TEST", "FILE", "PATTERN"), "query": ("QUERY",)}
@@ -42,12 +40,6 @@ def refusal_of(said: str) -> Refusal:
     _, kind, word, _, place = said.split()
     line, _, column = place.partition(":")
     return Refusal(kind, word, int(line), int(column))
-
-
-def contents(path: str) -> bytes:
-    """The bytes of a file, up to one more than the limit."""
-    with open(path, "rb") as file:
-        return file.read(LIMIT)
 
 
 def marked_line(data: bytes, line: int, column: int) -> Iterator[str]:
