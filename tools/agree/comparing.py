@@ -2,7 +2,6 @@
 import os
 import re
 import subprocess
-from dataclasses import dataclass
 from functools import lru_cache
 from importlib import import_module
 from types import ModuleType
@@ -57,8 +56,7 @@ class Pair(NamedTuple):
         return self.is_opened or self.test.endswith(PATTERN)
 
 
-@dataclass(frozen=True)
-class Other:
+class Other(NamedTuple):
     """What a model is compared with: a machine by its name, or another model by its path."""
 
     name: str

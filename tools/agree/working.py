@@ -14,7 +14,7 @@ from itertools import islice
 from multiprocessing import active_children, get_context, parent_process
 from threading import Thread
 from types import TracebackType
-from typing import Callable, Generic, Iterable, Iterator, TypeVar
+from typing import Callable, Generic, Iterable, Iterator, NamedTuple, TypeVar
 
 from tools.ending import PATIENCE, SIGNALS
 from tools.second.standard_output import FAILED
@@ -34,8 +34,7 @@ class Unusable(Exception):
     """Nothing can be compared, and why."""
 
 
-@dataclass(frozen=True)
-class Failed:
+class Failed(NamedTuple):
     """A task that was not judged, and why."""
 
     why: str

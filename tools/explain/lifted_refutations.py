@@ -1,6 +1,6 @@
 """A lifted refutation in the words of the model. The text has to be one that a judge accepted."""
 from dataclasses import dataclass, replace
-from typing import Iterator, Sequence
+from typing import Iterator, NamedTuple, Sequence
 
 from tools.explain.branches import Branches
 from tools.explain.clashes import clash_heading, clash_reason
@@ -37,8 +37,7 @@ def literal(noted: Noted) -> NamedFact:
     return noted.fact.start, noted.fact.end, noted.fact.wanted
 
 
-@dataclass(frozen=True)
-class ClosedBy:
+class ClosedBy(NamedTuple):
     """A line that closes a branch: its word, and its facts with their numbers."""
 
     word: str

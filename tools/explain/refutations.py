@@ -1,7 +1,6 @@
 """A refutation in the words of the model. The text has to be one that a judge accepted."""
-from dataclasses import dataclass
 from itertools import islice
-from typing import Iterator
+from typing import Iterator, NamedTuple
 
 from tools.explain.branches import Branches
 from tools.explain.clashes import clash_heading, clash_reason, is_long
@@ -18,8 +17,7 @@ MOST_PARTS = 12
 Side = list[Signed]
 
 
-@dataclass(frozen=True)
-class Source:
+class Source(NamedTuple):
     """What asserted a fact of the present branch: a position, and the split whose side has it, by its name; without one
     it holds on every branch."""
 

@@ -5,7 +5,6 @@ names. It *denies* one by `~NodeExists`, or by a premise that names it and a con
 true. A node that some axiom asks for, none gives and none denies is free: a world has it or not, as it likes. Which nodes an
 axiom may name, in any test, its places say: by their stage, their core, and the access of their micro-op.
 """
-from dataclasses import dataclass
 from typing import Iterable, Iterator, NamedTuple
 
 from tools.lint.slips import Slip, TestFile
@@ -134,8 +133,7 @@ class FreeNodes:
         return Slip(self.path, term.stage.at, "free-node", stage, f"no axiom gives stage {stage} to {micro_op}, and {free}")
 
 
-@dataclass(frozen=True)
-class Use:
+class Use(NamedTuple):
     """What a formula does to nodes where nodes and edges decide it. Sets of nodes are numbers with a bit for each."""
 
     given: int = 0

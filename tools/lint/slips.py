@@ -1,7 +1,7 @@
 """What lint says: a slip of a file, and the comments that say what is meant."""
 import re
 from dataclasses import dataclass, replace
-from typing import Callable, Iterable, Iterator
+from typing import Callable, Iterable, Iterator, NamedTuple
 
 from tools.second.cases import Case, Item, OpItem
 from tools.second.models import Axiom, Formula, Macro
@@ -25,8 +25,7 @@ class Slip:
     sentence: str
 
 
-@dataclass(frozen=True)
-class TestFile:
+class TestFile(NamedTuple):
     """A test with its path and its text."""
 
     path: str
@@ -40,8 +39,7 @@ class TestFile:
         return [item for item in self.items if isinstance(item, OpItem)]
 
 
-@dataclass(frozen=True)
-class QueryFile:
+class QueryFile(NamedTuple):
     """A query with its path, its text, and where its formula begins."""
 
     path: str

@@ -3,10 +3,9 @@ that it answers with are graphs: which of their nodes are before which."""
 import os
 import tempfile
 from collections import Counter
-from dataclasses import dataclass
 from functools import cache
 from graphlib import TopologicalSorter
-from typing import Callable, Iterable, Iterator, Sequence
+from typing import Callable, Iterable, Iterator, NamedTuple, Sequence
 
 from tools.mend.copies import Final, Outcome, Program, text_of
 from tools.second.meaning import Node
@@ -195,8 +194,7 @@ def is_shown(checker: Checker, word: str, model_path: str, test_path: str) -> bo
     return answer_of(checker, word, model_path, test_path, statuses=STATUSES).startswith(b"observable")
 
 
-@dataclass(frozen=True)
-class Counts:
+class Counts(NamedTuple):
     """How many tests a memory model allows and a model shows, and of how many of these that changes; the same of those
     that it forbids."""
 

@@ -7,7 +7,7 @@ edges that this run has are known; where none has, all of them are.
 """
 from dataclasses import dataclass, replace
 from functools import partial
-from typing import Iterable, Iterator, Sequence
+from typing import Iterable, Iterator, NamedTuple, Sequence
 
 from tools.mend.asking import Edge, Questions, World
 from tools.mend.copies import Outcome
@@ -46,8 +46,7 @@ class Order:
         return any(part.where for part in self.parts)
 
 
-@dataclass(frozen=True)
-class Found:
+class Found(NamedTuple):
     """The orders that lose least, the nearest first; those that order more than one of these; and where all lose some, the
     choices of two edges that lose none."""
 

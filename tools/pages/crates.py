@@ -10,8 +10,8 @@ import os
 import re
 import sys
 from collections.abc import Iterator
-from dataclasses import dataclass
 from itertools import takewhile
+from typing import NamedTuple
 
 from tools import TOP
 from tools.pages.antt import Fault, first_sentence
@@ -20,8 +20,7 @@ from tools.pages.antt import Fault, first_sentence
 NO_CLAUSE = "tests of crates"
 
 
-@dataclass
-class Crate:
+class Crate(NamedTuple):
     """A crate: its name, the heading that it stands under, and what it stands on."""
 
     name: str

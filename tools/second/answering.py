@@ -28,8 +28,7 @@ level, its steps close the branch that was split, so that they stand for the spl
 side does not, its steps do. Where both sides need it, the split needs the levels of both but its own, and the one of its choice.
 """
 from copy import copy
-from dataclasses import dataclass
-from typing import Iterator
+from typing import Iterator, NamedTuple
 
 from tools.second.closing import Alternatives
 from tools.second.conflicts import Failures
@@ -37,8 +36,7 @@ from tools.second.orders import Order
 from tools.second.positions import Clash, Inner, Leaf, Positions, Signed
 
 
-@dataclass(frozen=True)
-class Graph:
+class Graph(NamedTuple):
     """The present nodes by number, and the asserted edges in the order of first assertion."""
 
     nodes: list[int]

@@ -9,7 +9,7 @@ are one time (Lecoutre and others 2009, Moskewicz and others 2001). And where a 
 side is searched by the splits that were needed on the left, in the same order.
 """
 from dataclasses import dataclass, field
-from typing import Sequence
+from typing import NamedTuple, Sequence
 
 from tools.second.positions import Signed
 
@@ -26,8 +26,7 @@ class Script:
     right: "Script | None"
 
 
-@dataclass(frozen=True)
-class Failure:
+class Failure(NamedTuple):
     """The levels that a failure needs, with the splits."""
 
     levels: frozenset[int]

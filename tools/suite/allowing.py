@@ -11,6 +11,7 @@ import time
 from contextlib import suppress
 from dataclasses import dataclass, field
 from glob import glob
+from typing import NamedTuple
 
 from tools.suite.calling import GRACE, PYTHON, Calls, limited, memory_limit
 from tools.suite.files import Copies, File
@@ -98,8 +99,7 @@ def line_of_unnamed(model: File, known: set[str]) -> str:
     return line_of(model.path, text, named.at, said)
 
 
-@dataclass(frozen=True)
-class Answer:
+class Answer(NamedTuple):
     """What a machine says of a test: whether it comes up, or which rows of a pattern do. Nothing where it does not run
     such tests; or it is late, or fails, and how."""
 

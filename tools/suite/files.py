@@ -4,7 +4,7 @@ import os
 import re
 import stat
 from dataclasses import dataclass, replace
-from typing import Iterable, Sequence
+from typing import Iterable, NamedTuple, Sequence
 
 from tools.suite.telling import Refusal
 from tools.texts import contents as reading
@@ -24,8 +24,7 @@ CELLS = "cells"
 PART = ".part"
 
 
-@dataclass(frozen=True)
-class Kind:
+class Kind(NamedTuple):
     """What checks a test, and what judges its certificate; a sweep has none, and an answer several."""
 
     check: str

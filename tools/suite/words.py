@@ -1,8 +1,7 @@
 """The words and the variables of the environment that the suite is called with."""
 import os
 import re
-from dataclasses import dataclass
-from typing import Mapping, Sequence
+from typing import Mapping, NamedTuple, Sequence
 
 from tools.suite.files import (
     KINDS, MODEL_ENDING, File, ending_of, is_row, is_test, judge_distinct, judge_present, model_file, test_file
@@ -18,8 +17,7 @@ BASELINE, JUNIT, SARIF = "--baseline", "--junit", "--sarif"
 OPTIONS_OF_PATHS = (BASELINE, JUNIT, SARIF)
 
 
-@dataclass(frozen=True)
-class Words:
+class Words(NamedTuple):
     """What the suite is asked for: options, some with a path, models and tests."""
 
     options: Mapping[str, str]

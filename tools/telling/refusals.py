@@ -1,8 +1,7 @@
 """Where a refused file has its fault, what could stand there, and which command reads the file."""
 import os
 import re
-from dataclasses import dataclass
-from typing import Iterator
+from typing import Iterator, NamedTuple
 
 from tools.telling.files import row, sentence
 from tools.telling.forms import Forms
@@ -21,8 +20,7 @@ INSTRUCTION = re.compile(rb"[A-Z$]|(?:mov|xchg|mfence|lock|add|sub|inc|dec|cmp|x
 OPERAND = re.compile(rb"(?:[|]|(?:MOV|mov)[^|]*,|LOCK|lock)[ \t]*$")
 
 
-@dataclass(frozen=True)
-class Refusal:
+class Refusal(NamedTuple):
     """What the program refuses: a model, a test or a query, by the word of its fault, at a line and a column."""
 
     kind: str

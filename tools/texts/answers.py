@@ -5,7 +5,8 @@ them with the text of its model.
 """
 import re
 from bisect import bisect
-from dataclasses import dataclass, replace
+from dataclasses import replace
+from typing import NamedTuple
 
 from tools.second.cores import with_axioms, without
 from tools.second.models import Axiom, Model, ModelReader, Not
@@ -25,8 +26,7 @@ class AnswerRefused(Exception):
         self.line = line
 
 
-@dataclass(frozen=True)
-class Part:
+class Part(NamedTuple):
     """A certificate in an answer: the line above it, the number of its first line, its lines."""
 
     heading: str
@@ -34,8 +34,7 @@ class Part:
     lines: list[str]
 
 
-@dataclass(frozen=True)
-class Core:
+class Core(NamedTuple):
     """An answer of `core`: the axioms of the set by their numbers, or none; the certificate of the set, or of the model
     where there is none, and then one for each axiom left out."""
 
@@ -43,8 +42,7 @@ class Core:
     parts: list[Part]
 
 
-@dataclass(frozen=True)
-class Asked:
+class Asked(NamedTuple):
     """An answer of `ask`: its word, the certificate of the model with the formula as an axiom, and that with its denial."""
 
     word: str
@@ -121,8 +119,7 @@ class AnswerReader:
         return Asked(word, [self.certificate(self.expect("with"), holds), self.certificate(self.expect("against"), fails)])
 
 
-@dataclass(frozen=True)
-class ModelOfPart:
+class ModelOfPart(NamedTuple):
     """The model that a certificate is of. Places in it are places in `text`, which begins with the whole model, and
     behind it has the query from `query_at` on. `written` is a file that says the model."""
 

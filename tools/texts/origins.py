@@ -1,6 +1,7 @@
 """Where in the model each position of the nested tree comes from: the axiom, the micro-ops and cores that its quantifiers
 took, the macro, and the label of an edge."""
 from dataclasses import dataclass
+from typing import NamedTuple
 
 from tools.second.cases import Case
 from tools.second.grounding import Grounder, Group, Literal, Tree, nested
@@ -19,8 +20,7 @@ class TooLarge(Exception):
     """The axioms say more of a test than is traced."""
 
 
-@dataclass(frozen=True)
-class Taken:
+class Taken(NamedTuple):
     """What a quantifier took: its name, whether it is over micro-ops, and the value; and whether that is one of which some
     value is enough."""
 
