@@ -8,8 +8,6 @@
 The status is 0 where it is done. What stood before is kept until then. A signal that asks for an end ends all that was started
 here, and removes the copy.
 """
-from __future__ import annotations
-
 import contextlib
 import os
 import shutil

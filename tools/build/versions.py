@@ -1,6 +1,4 @@
 """What `--version` says in a checkout: its commit, the logic that the program was proved by, and which program stands."""
-from __future__ import annotations
-
 import hashlib
 import os
 import subprocess

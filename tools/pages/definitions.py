@@ -10,8 +10,6 @@ A WORD is `observable`, the first word of a command, or `all`. Definitions are f
 file is shown with its first sentence, and where only a part of it is reached, with the names of that part. Lines are
 those of definitions: a blank line, a comment and an import are none.
 """
-from __future__ import annotations
-
 import glob
 import os
 import re
