@@ -13,12 +13,14 @@ import tempfile
 import time
 from contextlib import contextmanager, suppress
 from types import FrameType
-from typing import Callable, Iterable, Iterator
+from typing import Callable, Iterable, Iterator, TypeVar
 
 # what a terminal, a shell and `timeout` send
 ENDING = (signal.SIGHUP, signal.SIGINT, signal.SIGQUIT, signal.SIGTERM)
 # how long the main thread waits before it looks whether there was a signal, and whether a file is free, in seconds
 PATIENCE, MOMENT = 1.0, 0.1
+
+Given = TypeVar("Given")
 
 
 class Interrupted(BaseException):
@@ -58,6 +60,13 @@ class Signals:
         """Raises `Interrupted` again, where a signal came and it was lost."""
         if self.number != 0:
             raise Interrupted(self.number)
+
+    def patient(self, wait: Callable[[float], Given], late: type[Exception]) -> Given:
+        """What this gives that waits for so many seconds at most, and raises this where there is nothing yet."""
+        while True:
+            with suppress(late):
+                return wait(PATIENCE)
+            self.look()
 
     def lock(self, file: int, tell: Callable[[], None]) -> None:
         """Locks an open file, once no other process has it locked. Where one has, that is told first."""

@@ -205,10 +205,6 @@ class Installation:
         tree = self.led_to(IN_USE) or IN_USE
         return tree if tree in self.trees() else None
 
-    def serves(self, tree: str) -> bool:
-        """Whether a link leads to the tree."""
-        return any(self.led_to(name) == tree for name in (IN_USE, *LINKS))
-
     def is_ours(self, name: str, known: Listing) -> bool:
         """Whether an installation made what has the name: a link into a tree, or a file of the former layout."""
         path = self.at(name)
@@ -388,7 +384,7 @@ class Installation:
                 self.fill(fresh, program, version)
                 self.put_in_use(fresh)
             except BaseException:
-                if not self.serves(fresh):
+                if not any(self.led_to(name) == fresh for name in (IN_USE, *LINKS)):
                     with SIGNALS.held(), suppress(OSError):
                         self.take_parts()
                         self.take_all_but(in_use, self.listing(in_use) if in_use else Listing())
@@ -402,11 +398,10 @@ class Installation:
         """Takes away what is installed, and what an install that was ended left."""
         with self.alone():
             had_parts = self.take_parts()
-            if not self.trees():
-                if not had_parts:
-                    raise Refused(f"nothing is installed under {self.path}")
-                return
-            self.take_all_but(None, Listing())
+            if self.trees():
+                self.take_all_but(None, Listing())
+            elif not had_parts:
+                raise Refused(f"nothing is installed under {self.path}")
 
     # one call at a time
 

@@ -6,10 +6,9 @@ Each slip is a line `FILE:LINE:COLUMN: KIND: ..` on standard output, and so is a
 The exit status is 0 where there is no slip, 1 where there are some, 3 where a file is refused, 4 where one cannot be
 read, 5 where standard output could not be written, and 125 where this program fails.
 """
-import re
 import sys
 from functools import partial
-from typing import Callable, Iterable, TypeVar
+from typing import Callable, Iterable
 
 from tools import TOP
 from tools.lint.linting import Linter, read_query_file, read_test
@@ -19,18 +18,13 @@ from tools.second.scopes import read_model
 from tools.second.standard_output import UNREAD
 from tools.second.tokens import Fault
 from tools.telling.files import sentence, unreadable
-from tools.texts.contents import Unreadable, contents, read_within
+from tools.telling.refusals import begins_with
+from tools.texts.contents import Read, Unreadable, contents, read_within
 from tools.texts.expecting import sentence_of
 from tools.texts.quoting import line_of, shown
 
 # how the name of a query ends; any other file is a test, a listing or a pattern
 QUERY = ".query"
-Read = TypeVar("Read")
-
-
-def is_test(text: bytes) -> bool:
-    """Whether a text has the form of a test."""
-    return re.search(rb'^[ \t]*Litmus2?[ \t]+"', text, re.MULTILINE) is not None
 
 
 class Files:
@@ -53,7 +47,7 @@ class Files:
             expected = sentence_of(fault)
             if expected:
                 print(f"pipecheck: {expected}", file=sys.stderr)
-            if fault.word == "syntax" and path == self.model_path and is_test(self.texts[path]):
+            if fault.word == "syntax" and path == self.model_path and begins_with(rb'Litmus2?(?=[ \t]+")', self.texts[path]):
                 form = "lint MODEL [TEST..] [QUERY..]"
                 print(f"pipecheck: {shown(path)} is a test, and stands for the model: {form}", file=sys.stderr)
             return None
@@ -80,6 +74,4 @@ def main(model_path: str, *paths: str) -> int:
     for slip in found:
         print(line_of(slip.path, files.texts[slip.path], slip.at, f"{slip.kind}: {slip.sentence}"))
         count += 1
-    if files.is_refused:
-        return 3
-    return 1 if count else 0
+    return 3 if files.is_refused else 1 if count else 0

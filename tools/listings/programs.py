@@ -3,7 +3,8 @@ from dataclasses import replace
 from typing import Mapping, NamedTuple
 
 from tools.listings.reading import Beyond, HerdReader, Instruction, Notes, Variable
-from tools.second.cases import GREATEST_CORE, MOST_OPS, Location, Op
+from tools.second.cases import MOST_OPS, Location, Op
+from tools.second.listings import judge_head
 from tools.second.tokens import Fault, Token
 from tools.texts.writing_tests import op_text, printable, value_line, written
 
@@ -38,11 +39,7 @@ class Program:
         self.texts: list[str] = []
         for start in written.starts:
             self.judge_start(*start)
-        for number, name in enumerate(written.head):
-            if number > GREATEST_CORE:
-                raise Fault("core-number", name.at)
-            if name.piece != f"P{number}":
-                raise Fault("x86-column", name.at)
+        judge_head(written.head)
         self.judge_rows()
         for variable in self.condition.variables:
             if variable.thread is None:

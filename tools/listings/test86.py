@@ -16,7 +16,7 @@ from tools.second.standard_output import UNREAD
 from tools.second.tokens import Fault
 from tools.suite.telling import tell
 from tools.telling.files import unreadable
-from tools.telling.refusals import listing_lines
+from tools.telling.refusals import left_out, place_of, refusal_of
 from tools.texts.contents import Unreadable, contents, read_within
 from tools.texts.quoting import line_and_column, line_of
 from tools.texts.writing_tests import notes as comments
@@ -91,8 +91,9 @@ def main(path: str) -> int:
     except Fault as fault:
         said = f"refused test {fault.word} at {line_and_column(data, fault.place)}"
         print(said, flush=True)
+        refusal = refusal_of(said)
         # what can be read only once is gone
-        for line in listing_lines(TOP, said, path) if os.path.isfile(path) else ():
+        for line in [*place_of(TOP, path, refusal), *left_out(TOP, path, refusal)] if os.path.isfile(path) else ():
             tell(line)
         return 3
     print(text, end="")

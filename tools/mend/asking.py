@@ -132,8 +132,7 @@ class Questions:
 
     def pattern(self, final: Final) -> bytes:
         """The program with its reads open, and these final values."""
-        case = self.program.case_of(Outcome(self.program.stated.reads, final))
-        return text_of(case, self.name, self.program.opens)
+        return text_of(self.program.case_of(Outcome(self.program.stated.reads, final)), self.name, self.program.opens)
 
     def shown(self, model_path: str) -> Iterator[Outcome]:
         """The outcomes of the program that a model shows."""
@@ -219,15 +218,12 @@ class SuiteTests:
                 if is_allowed is not None and self.is_shown(model_path, test):
                     self.shown[is_allowed].append(test)
 
-    @property
-    def is_known(self) -> bool:
-        """Whether there is a test that the memory model says something of, and that the model shows."""
-        return any(self.shown.values())
-
     def is_shown(self, model_path: str, test: File) -> bool:
         return is_shown(self.checker, "check", model_path, test.path)
 
-    def counts(self, model_path: str) -> Counts:
-        """What a model with one axiom more changes."""
+    def counts(self, model_path: str) -> Counts | None:
+        """What a model with one axiom more changes; None where the model shows no test that the memory model says something of."""
+        if not any(self.shown.values()):
+            return None
         gone = {it: sum(not self.is_shown(model_path, test) for test in tests) for it, tests in self.shown.items()}
         return Counts(gone[True], len(self.shown[True]), gone[False], len(self.shown[False]))

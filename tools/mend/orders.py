@@ -7,6 +7,7 @@ edges that this run has are known; where none has, all of them are.
 """
 from dataclasses import dataclass, replace
 from functools import partial
+from itertools import accumulate
 from typing import Iterable, Iterator, NamedTuple, Sequence
 
 from tools.mend.asking import Edge, Questions, World
@@ -193,7 +194,7 @@ class Search:
             fewer = self.unseen(worlds, {order: edges[order] for order in left})
             together = together * 2 if len(fewer) < len(left) else max(together // 2, FEW_TOGETHER)
             if len(fewer) == len(left):
-                count = fitting([len(edges[order]) for order in left])
+                count = sum(total <= AT_ONCE for total in accumulate(len(edges[order]) for order in left)) or 1
                 worlds = self.questions.worlds(outcome, [edges[order] for order in left[:count]])
                 if worlds:
                     fewer = self.unseen(worlds, {order: edges[order] for order in left})
@@ -256,9 +257,8 @@ class Search:
     def kinship(self, edge: Edge) -> int:
         """0 where two micro-ops are one, share an address, or are of one core and one of them is a fence."""
         one, other = self.case.ops[edge[0][0]], self.case.ops[edge[1][0]]
-        if one.pa is None or other.pa is None:
-            return 0 if one.core == other.core else 1
-        return 0 if one.pa == other.pa else 1
+        is_akin = one.core == other.core if None in (one.pa, other.pa) else one.pa == other.pa
+        return 0 if is_akin else 1
 
     def sorted(self, orders: Sequence[Order]) -> list[Order]:
         """The nearest first, and behind all of these those of some values alone."""
@@ -270,13 +270,3 @@ class Search:
         (start, _, first), (end, _, last) = edge
         near = 0 if start == end else 1 if self.case.ops[start].core == self.case.ops[end].core else 2
         return near, self.kinship(edge), abs(first - last), int(start > end), abs(start - end), start, first
-
-
-def fitting(sizes: Sequence[int]) -> int:
-    """How many of the first ones are asked about at once, of these sizes."""
-    total = 0
-    for count, size in enumerate(sizes):
-        total += size
-        if count and total > AT_ONCE:
-            return count
-    return len(sizes)

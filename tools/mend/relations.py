@@ -39,8 +39,7 @@ class Premise(NamedTuple):
     def holds(self, case: Case, first: int, second: int) -> bool:
         takes, test = PREDICATES[self.predicate]
         ops = {FIRST: first, SECOND: second}
-        args = (ops[arg] if kind == MICROOP else arg for kind, arg in zip(takes, self.args))
-        return test(case, *args) is self.is_wanted
+        return test(case, *(ops[arg] if kind == MICROOP else arg for kind, arg in zip(takes, self.args))) is self.is_wanted
 
 
 class Place(NamedTuple):

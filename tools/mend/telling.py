@@ -41,18 +41,15 @@ class Telling:
             yield f"Of this program {shown} other outcomes are shown, {kept} of them allowed by {self.memory_model}."
 
     def order(self, order: Order) -> str:
-        return "add " + " and ".join(self.names.fact((*part.edge, True)) for part in order.parts) + self.where(order)
+        reads = dict.fromkeys(op for part in order.parts for op in part.where)
+        where = f", where {' and '.join(map(self.read, reads))}" if reads else ""
+        return "add " + " and ".join(self.names.fact((*part.edge, True)) for part in order.parts) + where
 
     def choice(self, choice: Choice) -> Iterator[str]:
         """A choice in the words of the test, a line for each read and write."""
         for read, write, source in choice.nodes(self.case):
             node = self.names.node
             yield f"add {node(read)} before {node(write)}, or {node(write)} before {node(source)}"
-
-    def where(self, order: Order) -> str:
-        """Of which values an order is."""
-        reads = dict.fromkeys(op for part in order.parts for op in part.where)
-        return f", where {' and '.join(map(self.read, reads))}" if reads else ""
 
     def read(self, op: int) -> str:
         one = self.case.ops[op]

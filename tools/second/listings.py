@@ -1,7 +1,7 @@
 """Herd's X86 listings: bytes to the case that a listing says, by docs/tests.md."""
 import re
 from dataclasses import dataclass
-from typing import Callable
+from typing import Callable, Sequence
 
 from tools.second.cases import GREATEST_CORE, MOST_OPS, Case, ExpectationItem, Item, Location, Op, OpItem, ValueItem
 from tools.second.cases import case_of, read_items
@@ -164,6 +164,15 @@ class ListingReader(Reader):
         return name
 
 
+def judge_head(head: Sequence[Token]) -> None:
+    """The threads have their numbers."""
+    for number, name in enumerate(head):
+        if number > GREATEST_CORE:
+            raise Fault("core-number", name.at)
+        if name.piece != f"P{number}":
+            raise Fault("x86-column", name.at)
+
+
 # a thread, and a register of it
 Register = tuple[int, str]
 
@@ -184,7 +193,7 @@ class Judge:
         """The items, or the first fault."""
         for init in self.listing.inits:
             self.judge_state(init, self.inits, "again-initial")
-        self.judge_head()
+        judge_head(self.listing.head)
         self.judge_rows()
         for equation in self.listing.equations:
             if equation.thread is None:
@@ -200,8 +209,7 @@ class Judge:
 
     def location(self, name: Token) -> Location:
         """The location of a name. Locations are numbered as they are named first."""
-        number = len(self.locations)
-        return self.locations.setdefault(name.piece, Location(number, 0, name.piece))
+        return self.locations.setdefault(name.piece, Location(len(self.locations), 0, name.piece))
 
     def judge_state(self, equation: Equation, known: dict[Location, Equation], fault: str) -> None:
         """A location has one value at the start, and one at the end."""
@@ -209,13 +217,6 @@ class Judge:
         if location in known:
             raise Fault(fault, equation.name.at)
         known[location] = equation
-
-    def judge_head(self) -> None:
-        for number, name in enumerate(self.listing.head):
-            if number > GREATEST_CORE:
-                raise Fault("core-number", name.at)
-            if name.piece != f"P{number}":
-                raise Fault("x86-column", name.at)
 
     def judge_rows(self) -> None:
         """The instructions, and how many cells a line has."""

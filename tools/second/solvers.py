@@ -77,20 +77,17 @@ def there(node: Node) -> str:
 
 
 def before(start: Node, end: Node) -> str:
-    """The symbol that says that one node happens before another."""
-    return f"e_{name(start)}__{name(end)}"
+    """The symbol that says that one node happens before another. An edge from a node to itself is never there."""
+    return "false" if start == end else f"e_{name(start)}__{name(end)}"
 
 
 def term(tree: Tree) -> str:
-    """A tree as a term. An edge from a node to itself is never there."""
+    """A tree as a term."""
     if isinstance(tree, bool):
         return "true" if tree else "false"
     if not isinstance(tree, Literal):
         return f"({'and' if tree.is_conjunction else 'or'} {' '.join(map(term, tree.members))})"
-    if tree.end is None:
-        symbol = there(tree.start)
-    else:
-        symbol = "false" if tree.start == tree.end else before(tree.start, tree.end)
+    symbol = there(tree.start) if tree.end is None else before(tree.start, tree.end)
     return symbol if tree.wanted else f"(not {symbol})"
 
 

@@ -14,7 +14,7 @@ import threading
 from contextlib import suppress
 from typing import IO, Callable, Sequence, TypeVar
 
-from tools.ending import PATIENCE, SIGNALS
+from tools.ending import SIGNALS
 from tools.suite.telling import Progress, Refusal
 from tools.texts.quoting import quoted
 
@@ -117,9 +117,7 @@ class Calls:
             self.late.discard(process)
             if self.is_stopped:
                 raise Stopped
-        if is_late:
-            return None
-        return status if status >= 0 else 128 - status
+        return None if is_late else status if status >= 0 else 128 - status
 
     def end_late(self, process: Process) -> None:
         with self.lock:
@@ -185,7 +183,7 @@ def side_by_side(
     try:
         start(threads)
         for _ in tasks:
-            place = next_of(ended)
+            place = SIGNALS.patient(lambda seconds: ended.get(timeout=seconds), queue.Empty)
             if place not in answers:
                 raise failures[0]
             tell(place, answers[place])
@@ -199,13 +197,6 @@ def side_by_side(
         join(threads, None)
         progress.end()
     return [answers[place] for place in range(len(tasks))]
-
-
-def next_of(ended: "queue.SimpleQueue[int]") -> int:
-    while True:
-        with suppress(queue.Empty):
-            return ended.get(timeout=PATIENCE)
-        SIGNALS.look()
 
 
 def start(threads: Sequence[threading.Thread]) -> None:

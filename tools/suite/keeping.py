@@ -121,8 +121,7 @@ class Folder:
 
     def write_cells(self, cells: Cells) -> None:
         """Keeps the rows of a table: model, test and cell."""
-        text = "".join("\t".join((*pair, cell)) + "\n" for pair, cell in cells.items())
-        write_anew(self.cells, os.fsencode(text))
+        write_anew(self.cells, os.fsencode("".join("\t".join((*pair, cell)) + "\n" for pair, cell in cells.items())))
 
 
 class Baseline:

@@ -115,9 +115,7 @@ def status_of(cells: Collection[str]) -> int:
     counts = counts_of(cells)
     if counts[TIME] or counts[FAULTS]:
         return 2
-    if counts[BUG]:
-        return 1
-    return 3 if counts[STRICTER] else 0
+    return 1 if counts[BUG] else 3 if counts[STRICTER] else 0
 
 
 def suite(words: Sequence[str], environ: Mapping[str, str], top: str) -> int:

@@ -170,9 +170,7 @@ def cell_of(found: Found, is_allowed: bool | None) -> str:
 
 def cell_of_rows(found: Found, allowed: frozenset[str]) -> str:
     """What the table shows of a sweep, where a machine says which rows come up."""
-    if found.rows - allowed:
-        return BUG
-    return STRICTER if allowed - found.rows else OK
+    return BUG if found.rows - allowed else STRICTER if allowed - found.rows else OK
 
 
 def kind_of(cell: str) -> str:

@@ -98,6 +98,5 @@ def table_of_models(models: Sequence[str], rows: Sequence[Sequence[str]], width:
 
 def width_of_terminal() -> int | None:
     """How many columns the terminal has that the table goes to; None where it goes to something else."""
-    if sys.stdout is None or not sys.stdout.isatty():
-        return None
-    return shutil.get_terminal_size((0, 0)).columns or None
+    is_terminal = sys.stdout is not None and sys.stdout.isatty()
+    return shutil.get_terminal_size((0, 0)).columns or None if is_terminal else None

@@ -143,13 +143,6 @@ def left_out_word(data: bytes, refusal: Refusal) -> str:
     return "XCHG" if is_ended and is_instruction and is_closed and not before.strip(b" \t") else ""
 
 
-def listing_lines(top: str, said: str, path: str) -> Iterator[str]:
-    """Where a listing has the fault that this line refuses, and what to do about what is left out."""
-    refusal = refusal_of(said)
-    yield from place_of(top, path, refusal)
-    yield from left_out(top, path, refusal)
-
-
 def told(top: str, said: str, words: list[str]) -> Iterator[str]:
     """Where the file that the program refuses by this line has its fault."""
     refusal = refusal_of(said)
