@@ -92,8 +92,7 @@ def key(case: Case, names: Names) -> Iterator[str]:
     for kind, start, end in sorted(case.dependencies, key=lambda one: (*one[1:], one[0])):
         yield f"  {kind} dependency from {names.microop(start)} to {names.microop(end)}"
     for word, values in (("at the start", case.initial), ("at the end", case.final)):
-        for page, value in values.items():
-            yield f"  {word} {names.page(page)} = {value}"
+        yield from (f"  {word} {names.page(page)} = {value}" for page, value in values.items())
     called = [f"[{name}] is {page}" for page, name in names.pages.items() if name != str(page)]
     if called:
         yield "  " + ", ".join(called)

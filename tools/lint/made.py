@@ -75,10 +75,8 @@ def walks(types: list[Types]) -> Iterator[Instruction]:
     """Accesses behind the walk of their page, with a mark and without one."""
     for access in ("Read", "Write"):
         plain = Part(access, PLAIN)
-        for first, second in pairs(types):
-            yield Part("Read", first, True), Part("Write", second, True), plain
-        for names in types:
-            yield Part("Read", names, True), plain
+        yield from ((Part("Read", first, True), Part("Write", second, True), plain) for first, second in pairs(types))
+        yield from ((Part("Read", names, True), plain) for names in types)
 
 
 def dealt(choices: Sequence[Choice], source: random.Random) -> Iterator[Choice]:

@@ -5,6 +5,7 @@ names. It *denies* one by `~NodeExists`, or by a premise that names it and a con
 true. A node that some axiom asks for, none gives and none denies is free: a world has it or not, as it likes. Which nodes an
 axiom may name, in any test, its places say: by their stage, their core, and the access of their micro-op.
 """
+from operator import or_
 from typing import Iterable, Iterator, NamedTuple
 
 from tools.lint.slips import Slip, TestFile
@@ -148,14 +149,8 @@ class Use(NamedTuple):
 
 def both(left: Use, right: Use) -> Use:
     """The use of two formulas that both hold."""
-    return Use(
-        left.given | right.given,
-        left.asked | right.asked,
-        left.denied | right.denied,
-        left.bare | right.bare,
-        left.priced | right.priced,
-        left.is_positive and right.is_positive,
-    )
+    sets = Use(*map(or_, left[:5], right[:5]))
+    return sets._replace(is_positive=left.is_positive and right.is_positive)
 
 
 def either(left: Use, right: Use) -> Use:

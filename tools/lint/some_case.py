@@ -71,11 +71,8 @@ class Search:
 
     def counted(self, kind: str, *rest: object) -> object:
         """A number that matters by which others of its kind are the same: one that is there, or the next one."""
-        key = kind, *rest
-        if key not in self.chosen:
-            known = [number for other, number in self.chosen.items() if other[0] == kind and isinstance(number, int)]
-            raise Open(key, range(max(known, default=-1) + 2))
-        return self.chosen[key]
+        known = [number for other, number in self.chosen.items() if other[0] == kind and isinstance(number, int)]
+        return self.choice((kind, *rest), range(max(known, default=-1) + 2))
 
     def is_sound(self, key: Key) -> bool:
         """Whether the choice for a key fits to the others: numbers of cores differ, and so do micro-ops."""

@@ -62,8 +62,7 @@ class Telling:
         return ", ".join([*reads, *final])
 
     def lost(self, order: Order) -> Iterator[str]:
-        for outcome in order.lost[:3]:
-            yield f"    forbids, too: {self.outcome(outcome)}"
+        yield from (f"    forbids, too: {self.outcome(outcome)}" for outcome in order.lost[:3])
         if len(order.lost) > 3:
             yield f"    and {len(order.lost) - 3} more"
 

@@ -100,8 +100,7 @@ def tables() -> Iterator[str]:
 def names() -> Iterator[str]:
     """The crates under each heading."""
     yield from ("| heading | crates |", "|---|---|")
-    for heading, under in by_heading().items():
-        yield f"| {heading} | {', '.join(f'`{it.name}`' for it in under)} |"
+    yield from (f"| {heading} | {', '.join(f'`{it.name}`' for it in under)} |" for heading, under in by_heading().items())
 
 
 def main(*words: str) -> int:

@@ -48,8 +48,7 @@ def may_stand(kind: str, command: str, forms: Forms) -> Iterator[str]:
 
 def words(found: dict[str, str]) -> Iterator[str]:
     """Lines of these words, each with its sentence."""
-    for word, sentence in found.items():
-        yield f"word {word}\t{sentence}"
+    yield from (f"word {word}\t{sentence}" for word, sentence in found.items())
 
 
 def kinds_at(kinds: list[str], place: int) -> Iterator[str]:

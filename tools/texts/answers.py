@@ -23,7 +23,6 @@ class AnswerRefused(Exception):
 
     def __init__(self, line: int) -> None:
         super().__init__(f"answer refused at line {line}")
-        self.line = line
 
 
 class Part(NamedTuple):
