@@ -8,7 +8,7 @@ import json
 import os
 import time
 from contextlib import suppress
-from dataclasses import asdict, dataclass, field, fields, replace
+from dataclasses import asdict, dataclass, field, replace
 from glob import glob
 from itertools import islice
 from random import Random
@@ -49,18 +49,20 @@ class Kept:
         self.origin = origin
         self.is_told = False
 
-    def read(self, count: int) -> Progress:
-        """What a comparison of so many programs has got; nothing where the file is none that this module writes."""
-        try:
-            found = json.loads(own_contents(self.place, MOST_BYTES))
-            return progress_of(found, count) if found["origin"] == self.origin else Progress()
-        except (OSError, ValueError, TypeError, KeyError, RecursionError):
-            return Progress()
+    def read(self) -> Progress:
+        """What a comparison has got; nothing where the file is none that was written of it here, by the hash in its first line."""
+        with suppress(OSError):
+            head, _, text = own_contents(self.place, MOST_BYTES).partition(b"\n")
+            found = json.loads(text) if head == digest_of(text).encode("ascii") else {}
+            if found.get("origin") == self.origin:
+                return Progress(Counts(**found["counts"]), found["smallest"])
+        return Progress()
 
     def write(self, progress: Progress) -> None:
         try:
             os.makedirs(self.folder, exist_ok=True)
-            write_anew(self.place, json.dumps({"origin": self.origin, **asdict(progress)}).encode("ascii"))
+            text = json.dumps({"origin": self.origin, **asdict(progress)}).encode("ascii")
+            write_anew(self.place, digest_of(text).encode("ascii") + b"\n" + text)
         except OSError as error:
             if not self.is_told:
                 tell(f"{shown(self.folder)}: {error.strerror}: what is done is not kept")
@@ -70,21 +72,6 @@ class Kept:
         """A comparison that is done leaves nothing."""
         with suppress(OSError):
             os.unlink(self.place)
-
-
-def progress_of(found: dict[str, object], count: int) -> Progress:
-    """What was kept; it raises where it is of no comparison of so many programs."""
-    kept, smallest = found["counts"], found["smallest"]
-    if not isinstance(kept, dict) or set(kept) != {part.name for part in fields(Counts)}:
-        raise ValueError(kept)
-    counts = Counts(**kept)
-    if not all(isinstance(number, int) and number >= 0 for number in kept.values()) or counts.done > count:
-        raise ValueError(kept)
-    if (smallest is not None) != (counts.differ > 0):
-        raise ValueError(smallest)
-    if smallest is not None and not (isinstance(smallest, int) and 0 <= smallest < counts.done):
-        raise ValueError(smallest)
-    return Progress(counts, smallest)
 
 
 def digest_of_files(*paths: str) -> str:
@@ -158,7 +145,7 @@ class Comparison:
         """Compares on all small programs, and goes on from what an ended comparison has got. Prints the smallest on
         which the two differ, if there is one."""
         count, kept = family.count, Kept(folder, repr((self, family)), self.origin)
-        progress = kept.read(count)
+        progress = kept.read()
         before = f", {progress.counts.done} of them compared before" if progress.counts.done else ""
         print(f"{self.name}: {count} programs{before}", flush=True)
         programs = family.programs

@@ -13,6 +13,7 @@ from tools.second.cases import Location
 from tools.second.patterns import ENDING, MOST_ROWS
 from tools.second.standard_output import FAILED
 from tools.suite.pairs import OBSERVABLE, Checker
+from tools.suite.telling import aligned
 
 # how many sweeps there are of a test at most
 MOST_SWEEPS = 4_096
@@ -109,8 +110,7 @@ class Comparison:
             count = f", {times} {'time' if times == 1 else 'times'}" if is_counted else ""
             found.append((self.text(state), (BOTH if state in shown else LOG_ALONE[is_counted]) + count))
         found += [(self.text(state), MODEL_ALONE[is_counted]) for state in sorted(shown - set(self.result.states))]
-        width = max((len(text) for text, _ in found), default=0)
-        yield from (f"{self.result.name}: {text.ljust(width)}  {said}" for text, said in found)
+        yield from (f"{self.result.name}: {line}" for line in aligned(found))
         yield f"{self.result.name}: {self.answers()}"
 
     def text(self, state: State) -> str:

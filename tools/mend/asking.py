@@ -222,7 +222,7 @@ class SuiteTests:
         return is_shown(self.checker, "check", model_path, test.path)
 
     def counts(self, model_path: str) -> Counts | None:
-        """What a model with one axiom more changes; None where the model shows no test that the memory model says something of."""
+        """What a model with one axiom more changes; None where the model shows no test that the memory model speaks of."""
         if not any(self.shown.values()):
             return None
         gone = {it: sum(not self.is_shown(model_path, test) for test in tests) for it, tests in self.shown.items()}
