@@ -41,9 +41,8 @@ if signal.getsignal(signal.SIGINT) is not signal.SIG_IGN:
     signal.signal(signal.SIGINT, signal.SIG_DFL)
 
 from tools import TOP
-from tools.agree.comparing import (
-    Other, Pair, Refused, difference, is_allowed, machine_of, model_of, named_memory_model, pattern_of, sweeper, take, test_of
-)
+from tools.agree.comparing import Other, Pair, Refused, difference, is_allowed, machine_of, model_of, named_memory_model
+from tools.agree.comparing import pattern_of, sweeper, take, test_of
 from tools.agree.comparing_programs import Comparison
 from tools.agree.small_programs import MOST_ACCESSES, MOST_LOCATIONS, Shape, shapes_of
 from tools.agree.table import TABLE, rows_of

@@ -118,8 +118,7 @@ def shapes_of(words: str) -> tuple[Shape, ...]:
 
 
 def cycles(count: int, longest: int | None = None) -> Iterator[tuple[int, ...]]:
-    """All ways in which so many things are parted: as cycles of an exchange, or as accesses of cores. The longest part
-    stands first."""
+    """All ways in which so many things are parted, the longest part first: as cycles of an exchange, or as accesses of cores."""
     if count == 0:
         yield ()
     for part in range(min(count, longest or count), 0, -1):

@@ -13,8 +13,7 @@ PATIENCE = 5
 
 
 class Signals(ending.Signals):
-    """What asks for an end; and Ctrl-Z, which the terminal sends to this process's group alone: it stops what was begun here
-    too."""
+    """What asks for an end; and Ctrl-Z, which the terminal sends to this process's group alone: it stops what began here too."""
 
     def __init__(self) -> None:
         super().__init__()

@@ -262,8 +262,7 @@ class LiftedRefutation(Branches[Noted]):
         return written(term, noted.values)
 
     def formula(self, formula: Formula, noted: Noted, level: int = 0, is_last: bool = True) -> str:
-        """A formula with the values of its variables in place of them, in brackets where something looser stands
-        there than may."""
+        """A formula with the values of its variables in place of them, in brackets where something looser stands than may."""
         match formula:
             case Not(operand):
                 return f"~{self.formula(operand, noted, 3, False)}"

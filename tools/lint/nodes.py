@@ -12,9 +12,8 @@ from tools.lint.slips import Slip, TestFile
 from tools.lint.truth import OutOfSteps, Steps, Walk
 from tools.second.cases import Case, Op
 from tools.second.meaning import Environment, Guards, Node, value
-from tools.second.models import (
-    Axiom, Binary, EdgeTerm, Expand, Formula, Macro, Model, NodeTerm, Nodes, Not, Number, Quantified, Static, Word
-)
+from tools.second.models import Axiom, Binary, EdgeTerm, Expand, Formula, Macro, Model, NodeTerm, Nodes, Not, Number
+from tools.second.models import Quantified, Static, Word
 from tools.second.scopes import nodes_of, parts
 from tools.texts.quoting import shown
 

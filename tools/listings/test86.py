@@ -50,8 +50,7 @@ def test_of_herd(data: bytes, notes: Notes) -> str:
 
 
 def outcome_of(program: Program, notes: Notes) -> tuple[dict[int, int], dict[Location, int]]:
-    """The one outcome that the condition states, or its first fault: what the reads get, by their numbers, and the values at the
-    end."""
+    """The one outcome that the condition states, or its first fault: what the reads get, by their numbers, and final values."""
     reads: dict[int, int] = {}
     finals: dict[Location, int] = {}
     for variable, value, token in program.condition.equations():

@@ -194,8 +194,7 @@ def is_shown(checker: Checker, word: str, model_path: str, test_path: str) -> bo
 
 
 class Counts(NamedTuple):
-    """How many tests a memory model allows and a model shows, and of how many of these that changes; the same of those
-    that it forbids."""
+    """How many tests a memory model allows and a model shows, and how many of these that changes; the same of forbidden ones."""
 
     stricter: int
     allowed: int

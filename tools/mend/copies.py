@@ -27,8 +27,7 @@ class Outcome(NamedTuple):
 
 @dataclass(frozen=True)
 class Program(Pattern):
-    """A test without its outcome, whose reads are left open; and what the addresses may have at the end of which the test states
-    that."""
+    """A test without its outcome, whose reads are left open; and what the addresses may have at the end that it states."""
 
     finals: tuple[Final, ...]
 

@@ -18,9 +18,8 @@ from collections.abc import Iterable, Iterator
 from dataclasses import dataclass, field
 
 from tools import TOP
-from tools.pages.antt import (
-    Definition, Fault, Import, first_sentence, imports_of, is_said, read_file, with_modules, without_imports, words_in
-)
+from tools.pages.antt import Definition, Fault, Import, first_sentence, imports_of, is_said, read_file, with_modules
+from tools.pages.antt import without_imports, words_in
 
 # what is no command, and can be asked for too
 OBSERVABLE, ALL = "observable", "all"

@@ -148,8 +148,7 @@ class Positions:
             yield Leaf(row.start, row.end, row.wanted is not is_denied) if isinstance(row, Leaf) else (here, is_denied)
 
     def sides(self, choice: Signed, version: int) -> tuple[list[Signed], list[Signed]]:
-        """What the left and the right side of a split assert: in version 2 the right one also that the left member does not
-        hold."""
+        """What both sides of a split assert: in version 2 the right one also that the left member does not hold."""
         position, is_denied = choice
         row = self.rows[position]
         assert isinstance(row, Inner)

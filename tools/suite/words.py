@@ -3,9 +3,8 @@ import os
 import re
 from typing import Mapping, NamedTuple, Sequence
 
-from tools.suite.files import (
-    KINDS, MODEL_ENDING, File, ending_of, is_row, is_test, judge_distinct, judge_present, model_file, test_file
-)
+from tools.suite.files import KINDS, MODEL_ENDING, File, ending_of, is_row, is_test, judge_distinct, judge_present
+from tools.suite.files import model_file, test_file
 from tools.suite.telling import Refusal
 from tools.texts.quoting import quoted, shown
 

@@ -92,8 +92,7 @@ def macro_of(path: str, model: str, refusal: Refusal) -> Iterator[str]:
 
 
 def reader(word: str, path: str) -> Iterator[str]:
-    """Which command reads the file, where it is a listing of herd's that a command for tests got, or a test that a command for
-    listings got."""
+    """Which command reads the file, where a command for tests got a listing of herd's, or one for listings a test."""
     data = contents(path)
     said = READERS.get(word, f"check86 and verify86 read it, and test86 writes it as a test, which {word} takes")
     is_listing = re.match(rb"[ \t]*X86[ \t]", data) is not None
