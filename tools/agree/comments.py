@@ -24,12 +24,6 @@ def comment(allowed: dict[str, bool]) -> str:
     return f"% {said}. The test states what sc says."
 
 
-def with_comment(text: str, said: str) -> str:
-    """A test with this line as its second one."""
-    first, second, *rest = text.split("\n")
-    return "\n".join([first, said] + ([] if second.startswith(BEGINNINGS) else [second]) + rest)
-
-
 def main(*words: str) -> int:
     """Writes the lines, or only compares them, and answers the exit status."""
     if words not in ((), ("--check",)):
@@ -44,7 +38,9 @@ def main(*words: str) -> int:
             continue
         with open(path, encoding="ascii") as file:
             old = file.read()
-        new = with_comment(old, comment(allowed))
+        first, second, *rest = old.split("\n")
+        # it is the second line
+        new = "\n".join([first, comment(allowed), *([] if second.startswith(BEGINNINGS) else [second]), *rest])
         if new == old:
             continue
         is_differing = True

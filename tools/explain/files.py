@@ -18,10 +18,7 @@ from tools.texts.origins import TracedPositions
 from tools.texts.quoting import line_and_column, shown
 from tools.texts.wrapping import width_of_output, within
 
-VERDICTS = {
-    "observable": "a run of this model shows the outcome",
-    "unobservable": "no run of this model shows the outcome",
-}
+VERDICTS = {"observable": "a run of this model shows the outcome", "unobservable": "no run of this model shows the outcome"}
 WORDS = {
     "always": "the query holds in all worlds of the model on this test, and there are some",
     "never": "the query holds in no world of the model on this test, and there are some",
@@ -57,9 +54,7 @@ def parts_of(model: Model, text: bytes, answer: Answer, query: bytes) -> Iterato
         yield part.at, 0 if part.lines[0] == "observable" else 1, written, certificate
 
 
-def explain(
-    model: Model, case: Case, model_text: bytes, model_name: str, certificate: list[str], width: int
-) -> Iterator[str]:
+def explain(model: Model, case: Case, model_text: bytes, model_name: str, certificate: list[str], width: int) -> Iterator[str]:
     """The lines that are said of the lines of a certificate: the verdict, the key, what places are of, and the rest."""
     names = Names(model, case, model_text)
     verdict = [f"{certificate[0]}: {VERDICTS[certificate[0]]}", certificate[1], ""]

@@ -3,7 +3,7 @@ from itertools import islice
 from typing import Iterator, NamedTuple
 
 from tools.explain.branches import Branches
-from tools.explain.clashes import clash_heading, clash_reason, is_long
+from tools.explain.clashes import MOST_FACTS, clash_heading, clash_reason
 from tools.second.judging import VERSION_2
 from tools.second.positions import Clash, Leaf, Signed
 from tools.texts.naming import Fact, Names
@@ -159,10 +159,8 @@ class Refutation(Branches[Side]):
             return self.names.fact(self.fact(row, is_denied))
         is_or = row.is_disjunction is not is_denied
         members = self.positions.members([(position, is_denied)], is_or)
-        parts = [
-            self.said(*it) if isinstance(self.positions.rows[it[0]], Leaf) else f"({self.said(*it)})"
-            for it in islice(members, MOST_PARTS)
-        ]
+        texts = ((self.positions.rows[here], self.said(here, is_so)) for here, is_so in islice(members, MOST_PARTS))
+        parts = [text if isinstance(row, Leaf) else f"({text})" for row, text in texts]
         more = ", and more of this kind" if next(members, None) is not None else ""
         return (" or " if is_or else " and ").join(parts) + more
 
@@ -184,7 +182,7 @@ class Refutation(Branches[Side]):
         known = [fact for fact in facts if fact in self.facts]
         new = [fact for fact in facts if fact not in self.facts]
         text = clash_reason(self.names, word, facts, new)
-        if is_long(facts):
+        if len(facts) > MOST_FACTS:
             return [f"{text}:", *map(self.fact_line, known)]
         if not known or (last and all(self.facts[fact].side == last for fact in known)):
             return [text]

@@ -22,9 +22,7 @@ Asked = tuple[Edge, Origin | None]
 class Run:
     """The lines of a graph: one order of the run, and the edges between micro-ops of two cores."""
 
-    def __init__(
-        self, model: Model, case: Case, names: Names, positions: TracedPositions, lines: list[str], width: int
-    ) -> None:
+    def __init__(self, model: Model, case: Case, names: Names, positions: TracedPositions, lines: list[str], width: int) -> None:
         self.model = model
         self.case = case
         self.names = names

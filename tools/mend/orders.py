@@ -227,11 +227,8 @@ class Search:
 
     def later(self) -> dict[Node, set[Node]]:
         """What is later than a node in all runs."""
-        first, *rest = (world for worlds in self.worlds.values() for world in worlds)
-        return {
-            start: ends.intersection(*(world.later.get(start, set()) for world in rest))
-            for start, ends in first.later.items()
-        }
+        first, *rest = (world.later for worlds in self.worlds.values() for world in worlds)
+        return {start: ends.intersection(*(later.get(start, set()) for later in rest)) for start, ends in first.items()}
 
     def weakest(self, orders: Sequence[Order], than: Sequence[Order], later: dict[Node, set[Node]]) -> list[Order]:
         """Those of the orders that bring about none of these others through what all runs have. One of micro-ops that

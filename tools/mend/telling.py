@@ -72,8 +72,6 @@ class Telling:
         of_program = "all other outcomes" if keeps == others else f"{keeps} of {others} other outcomes"
         said = f"With it this program keeps {of_program}"
         if counts is not None:
-            said += (
-                f"; of the shipped tests {counts.stricter} of {counts.allowed} turn to stricter, and "
-                f"{counts.mended} of {counts.bugs} BUGs are gone"
-            )
+            said += f"; of the shipped tests {counts.stricter} of {counts.allowed} turn to stricter, and "
+            said += f"{counts.mended} of {counts.bugs} BUGs are gone"
         yield f"    {said}."

@@ -33,10 +33,8 @@ class Alternatives:
 
     def is_closed_beside(self, order: Order, place: Signed, others: list[Leaf]) -> bool:
         """Whether a literal of the position would clash, by itself or with one of the others."""
-        return any(
-            order.would_clash(leaf) or any(clash_together(order, leaf, other) for other in others)
-            for leaf in self.parts(place)[0]
-        )
+        leaves, _ = self.parts(place)
+        return any(order.would_clash(one) or any(clash_together(order, one, other) for other in others) for one in leaves)
 
     def is_as_good_as_closed(self, order: Order, place: Signed) -> bool:
         """Whether the alternative would close the branch: by its literals, or by a disjunction of closed alternatives."""

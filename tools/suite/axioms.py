@@ -49,9 +49,7 @@ def answers_of(
     return side_by_side(checker.calls, jobs, tasks, is_long=True)
 
 
-def run_axioms(
-    model: File, tests: Sequence[File], checker: Checker, kept: Kept, folder: str, jobs: int
-) -> tuple[list[str], int]:
+def run_axioms(model: File, tests: Sequence[File], checker: Checker, kept: Kept, folder: str, jobs: int) -> tuple[list[str], int]:
     """The lines of the table with the count, and the status."""
     text = model.text or b""
     try:

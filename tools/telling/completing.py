@@ -10,9 +10,7 @@ from typing import Iterator
 from tools import TOP
 from tools.telling.forms import Forms
 
-OPTIONS = (
-    "--all", "--as", "--between", "--fences", "--help", "--locations", "--locked", "--open", "--random", "--reading",
-)
+OPTIONS = ("--all", "--as", "--between", "--fences", "--help", "--locations", "--locked", "--open", "--random", "--reading")
 TESTS = {
     "explain": (".test", ".litmus"), "mend": (".test", ".litmus"),
     "lint": (".test", ".litmus", ".pattern"), "agree": (".test", ".litmus", ".pattern"),

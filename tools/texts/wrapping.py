@@ -45,7 +45,6 @@ def broken(line: str, width: int) -> Iterator[str]:
     room = width - len(rest)
     text = WHOLE.sub(lambda found: found[0].replace(" ", BOUND) if len(found[0]) <= room else found[0], text)
     for number, part in enumerate(text.split(GAP)):
-        lines = textwrap.wrap(
-            part, width, initial_indent=rest if number else first, subsequent_indent=rest, break_on_hyphens=False
-        )
+        begins = rest if number else first
+        lines = textwrap.wrap(part, width, initial_indent=begins, subsequent_indent=rest, break_on_hyphens=False)
         yield from (one.replace(BOUND, " ") for one in lines)
