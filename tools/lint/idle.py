@@ -73,5 +73,5 @@ def without_conclusion(formula: Formula) -> Formula:
     if isinstance(formula, Quantified) and formula.universal:
         return replace(formula, body=without_conclusion(formula.body))
     if isinstance(formula, Binary) and formula.connective == "=>":
-        return replace(formula, right=without_conclusion(formula.right))
+        return formula._replace(right=without_conclusion(formula.right))
     return Static(Word("False", 0), ())

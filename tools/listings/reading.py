@@ -1,6 +1,6 @@
 """Herd's listings for X86 and X86_64 as they are written: bytes to threads of instructions, and a condition."""
 import re
-from dataclasses import dataclass, replace
+from dataclasses import dataclass
 from enum import Enum
 from typing import Callable, Iterable, Mapping, NamedTuple, Sequence
 
@@ -132,8 +132,7 @@ class Condition:
         return known.pop()
 
 
-@dataclass(frozen=True)
-class Instruction:
+class Instruction(NamedTuple):
     """A fence without operands, or what is moved or exchanged: the operand that is written, and the other one. The kind of an
     operand is `number`, `location` or `register`."""
 
@@ -143,8 +142,7 @@ class Instruction:
     is_exchange: bool = False
 
 
-@dataclass(frozen=True)
-class Written:
+class Written(NamedTuple):
     """A listing as it is written. Where its tokens begin stands beside it, for the comments before them."""
 
     # whether it is of X86_64
@@ -284,11 +282,11 @@ class HerdReader(ListingReader):
         if self.passes("$"):
             return self.expect_kind("number")
         if self.sees("["):
-            return replace(self.in_brackets(), kind="location")
+            return self.in_brackets()._replace(kind="location")
         if self.passes("("):
             name = self.expect_kind("name")
             self.expect(")")
-            return replace(name, kind="location")
+            return name._replace(kind="location")
         return self.register()
 
     def register(self) -> Token:

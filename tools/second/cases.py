@@ -1,5 +1,6 @@
 """Tokens to what a litmus test says, by docs/tests.md."""
 from dataclasses import dataclass, field, replace
+from typing import NamedTuple
 
 from tools.second.tokens import Fault, Reader, Token, tokens
 
@@ -127,8 +128,7 @@ def judge_marks(marks: tuple[Token, ...]) -> None:
             raise Fault("mark-value", mark.at)
 
 
-@dataclass(frozen=True)
-class OpItem:
+class OpItem(NamedTuple):
     """A `Microop`, with the places where its faults stand, and of what a reader may want to see."""
 
     op: Op
@@ -161,8 +161,7 @@ class OpItem:
         case.ops.append(self.op)
 
 
-@dataclass(frozen=True)
-class DependencyItem:
+class DependencyItem(NamedTuple):
     """A `Relationship`; `at` is the place of its kind, and each end is g and n."""
 
     kind: str
@@ -180,8 +179,7 @@ class DependencyItem:
         case.dependencies.add((self.kind, found[0], found[1]))
 
 
-@dataclass(frozen=True)
-class ValueItem:
+class ValueItem(NamedTuple):
     """An `Init` or a `Final`."""
 
     word: str
@@ -199,8 +197,7 @@ class ValueItem:
         values[self.pa] = self.value
 
 
-@dataclass(frozen=True)
-class ExpectationItem:
+class ExpectationItem(NamedTuple):
     word: str
     at: int
 
@@ -309,4 +306,4 @@ class CaseReader(Reader):
             value = 0 if is_open else self.number()
             self.expect(")")
         op = replace(item.op, va=va, pa=pa, value=value)
-        return replace(item, op=op, pa_at=pa_at, value_at=value_at, marks=marks, is_open=is_open)
+        return item._replace(op=op, pa_at=pa_at, value_at=value_at, marks=marks, is_open=is_open)

@@ -17,8 +17,7 @@ PERIOD = 64
 NO_RECORD = 0, 0
 
 
-@dataclass(frozen=True)
-class Script:
+class Script(NamedTuple):
     """How a part of the search failed: by a split, and then on each side by what its script says. A leaf has none."""
 
     choice: Signed

@@ -4,16 +4,14 @@ Quantifiers and macros are gone, predicates are answered, constants are folded, 
 alone. The tree comes in two shapes: joined, with conjunctions and disjunctions of many members, which is what the search
 here wants; and nested, with two members each, as the positions of a refutation count them.
 """
-from dataclasses import dataclass
-from typing import Callable, Union
+from typing import Callable, NamedTuple, Union
 
 from tools.second.cases import Case
 from tools.second.meaning import Environment, Meaning, Node
 from tools.second.models import Binary, Edges, Expand, Formula, Model, Nodes, Not, Quantified, Static
 
 
-@dataclass(frozen=True)
-class Literal:
+class Literal(NamedTuple):
     """A node (`end` is None) or an edge, wanted or denied."""
 
     start: Node
@@ -21,8 +19,7 @@ class Literal:
     wanted: bool
 
 
-@dataclass(frozen=True)
-class Group:
+class Group(NamedTuple):
     """A conjunction, each member of which holds, or a disjunction, of which one does; there are at least two members."""
 
     is_conjunction: bool

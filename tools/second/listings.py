@@ -1,7 +1,6 @@
 """Herd's X86 listings: bytes to the case that a listing says, by docs/tests.md."""
 import re
-from dataclasses import dataclass
-from typing import Callable, Sequence
+from typing import Callable, NamedTuple, Sequence
 
 from tools.second.cases import GREATEST_CORE, MOST_OPS, Case, ExpectationItem, Item, Location, Op, OpItem, ValueItem
 from tools.second.cases import case_of, read_items
@@ -23,8 +22,7 @@ PIECE = re.compile(
 )
 
 
-@dataclass(frozen=True)
-class Instruction:
+class Instruction(NamedTuple):
     """What stands in a cell: its word, and of a store or a load the location; a store has a number, a load a register."""
 
     word: Token
@@ -37,8 +35,7 @@ class Instruction:
 Row = tuple[tuple[Instruction | None, ...], Token]
 
 
-@dataclass(frozen=True)
-class Equation:
+class Equation(NamedTuple):
     """A name with a number: of a location, or of a register where there is a thread."""
 
     name: Token
@@ -46,8 +43,7 @@ class Equation:
     thread: Token | None = None
 
 
-@dataclass(frozen=True)
-class Listing:
+class Listing(NamedTuple):
     """A listing as it is written, after its header."""
 
     inits: tuple[Equation, ...]

@@ -2,7 +2,7 @@
 import re
 from dataclasses import dataclass
 from functools import cached_property
-from typing import Union
+from typing import NamedTuple, Union
 
 from tools.second.tokens import Fault, Reader, Token
 
@@ -17,16 +17,14 @@ QUOTED_NAME = "a name in quotes"
 CONNECTIVES = ("=>", "\\/", "/\\")
 
 
-@dataclass(frozen=True)
-class Word:
+class Word(NamedTuple):
     """A name with its place."""
 
     name: str
     at: int
 
 
-@dataclass(frozen=True)
-class Number:
+class Number(NamedTuple):
     """A number with its place. As an argument it is the core of this number."""
 
     value: int
@@ -36,8 +34,7 @@ class Number:
 Arg = Union[Word, Number]
 
 
-@dataclass(frozen=True)
-class NodeTerm:
+class NodeTerm(NamedTuple):
     """(op, stage), or (op, (core, stage)). Without a core it is that of the micro-op."""
 
     op: Word
@@ -45,8 +42,7 @@ class NodeTerm:
     stage: Word
 
 
-@dataclass(frozen=True)
-class EdgeTerm:
+class EdgeTerm(NamedTuple):
     """An edge from one node to another. Its label is kept for readers alone; colours are not kept."""
 
     start: NodeTerm
@@ -54,13 +50,11 @@ class EdgeTerm:
     label: str = ""
 
 
-@dataclass(frozen=True)
-class Not:
+class Not(NamedTuple):
     operand: "Formula"
 
 
-@dataclass(frozen=True)
-class Binary:
+class Binary(NamedTuple):
     connective: str
     left: "Formula"
     right: "Formula"
@@ -77,22 +71,19 @@ class Quantified:
     body: "Formula"
 
 
-@dataclass(frozen=True)
-class Static:
+class Static(NamedTuple):
     predicate: Word
     args: tuple[Arg, ...]
 
 
-@dataclass(frozen=True)
-class Nodes:
+class Nodes(NamedTuple):
     """Each of these nodes is in the world; `at` is the place of the first word."""
 
     members: tuple[NodeTerm, ...]
     at: int = 0
 
 
-@dataclass(frozen=True)
-class Edges:
+class Edges(NamedTuple):
     """Of each of these edges the start happens before the end; `at` is the place of the first word."""
 
     members: tuple[EdgeTerm, ...]
@@ -109,14 +100,12 @@ class Expand:
 Formula = Union[Not, Binary, Quantified, Static, Nodes, Edges, Expand]
 
 
-@dataclass(frozen=True)
-class Stage:
+class Stage(NamedTuple):
     number: Number
     name: Word
 
 
-@dataclass(frozen=True)
-class Axiom:
+class Axiom(NamedTuple):
     """A formula that has to hold; its title is kept for readers alone."""
 
     at: int
@@ -124,8 +113,7 @@ class Axiom:
     body: Formula
 
 
-@dataclass(frozen=True)
-class Macro:
+class Macro(NamedTuple):
     name: Word
     parameters: tuple[Word, ...]
     body: Formula

@@ -4,8 +4,7 @@ Positions are counted in preorder over conjunctions, disjunctions and literals, 
 first seen in that order, the first end of an edge before the second. A tree that is a constant has no position.
 """
 import re
-from dataclasses import dataclass
-from typing import Iterator, Sequence
+from typing import Iterator, NamedTuple, Sequence
 
 from tools.second.cases import GREATEST_CORE, Case
 from tools.second.grounding import Grounder, Group, Literal, Tree, nested
@@ -21,8 +20,7 @@ NODE = re.compile(rf"{DECIMAL}\.{DECIMAL}@{DECIMAL}:(.*)")
 Signed = tuple[int, bool]
 
 
-@dataclass(frozen=True)
-class Inner:
+class Inner(NamedTuple):
     """A conjunction or a disjunction with the positions of its two members."""
 
     is_disjunction: bool
@@ -30,8 +28,7 @@ class Inner:
     right: int
 
 
-@dataclass(frozen=True)
-class Leaf:
+class Leaf(NamedTuple):
     """A literal over node numbers; `end` is None for a node."""
 
     start: int
@@ -46,8 +43,7 @@ class Leaf:
         return [Leaf(self.start, None, True), Leaf(self.end, None, True)]
 
 
-@dataclass(frozen=True)
-class Clash:
+class Clash(NamedTuple):
     """The line that closes a branch: `cycle`, `path` or `absent` with its nodes."""
 
     word: str

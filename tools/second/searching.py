@@ -6,7 +6,6 @@ clash by themselves are struck out. A last member left is asserted; with none le
 open, the least world is the witness.
 """
 from copy import copy
-from dataclasses import replace
 from typing import Callable
 
 from tools.second.cases import Case
@@ -55,7 +54,7 @@ def explore(branch: "Branch") -> "Branch | None":
         if done is not None:
             return done
         # a world that is still to be found does not make this member true
-        if isinstance(member, Literal) and not branch.assert_tree(replace(member, wanted=not member.wanted)):
+        if isinstance(member, Literal) and not branch.assert_tree(member._replace(wanted=not member.wanted)):
             return None
     return None
 
