@@ -1,5 +1,4 @@
 """A lifted refutation in the words of the model. The text has to be one that a judge accepted."""
-from dataclasses import dataclass, replace
 from typing import Iterator, NamedTuple, Sequence
 
 from tools.explain.branches import Branches
@@ -21,8 +20,7 @@ MOST_MEMBERS = 12
 LEVELS = {"=>": 0, "\\/": 1, "/\\": 2}
 
 
-@dataclass(frozen=True)
-class Noted:
+class Noted(NamedTuple):
     """A fact with the names of its variables' values, and with where it comes from: the axiom, by its number too."""
 
     fact: Fact
@@ -119,7 +117,7 @@ class LiftedRefutation(Branches[Noted]):
         start, formula = above.said.start, above.said.formula
         name = self.rules.names(formula)[start] if isinstance(formula, Quantified) else ""
         goes_on = isinstance(sides[1], Said) and sides[1].formula is formula
-        second = replace(above, fact=sides[1]) if goes_on else self.part(above, sides[1], 0, "")
+        second = above._replace(fact=sides[1]) if goes_on else self.part(above, sides[1], 0, "")
         return self.part(above, sides[0], start, name), second
 
     def leaf(self) -> Iterator[str]:
@@ -203,16 +201,16 @@ class LiftedRefutation(Branches[Noted]):
         if isinstance(part, Literal):
             assert isinstance(formula, (Nodes, Edges))
             label = getattr(formula.members[place], "label", "")
-            return replace(above, fact=part, origin=replace(origin, label=label))
+            return above._replace(fact=part, origin=origin._replace(label=label))
         if isinstance(formula, Quantified):
             values = {**values, formula.name: name}
             taken = Taken(formula.name, formula.over_microops, part.env[formula.name])
-            origin = replace(origin, taken=(*origin.taken, taken))
+            origin = origin._replace(taken=(*origin.taken, taken))
         elif isinstance(formula, Expand):
             parameters = [parameter.name for parameter in self.rules.macros[formula.macro.name].parameters]
             values = {**values, **dict(zip(parameters, [written(arg, values) for arg in formula.args]))}
-            origin = replace(origin, macro=formula.macro.name)
-        return Noted(part, values, above.axiom, replace(origin, at=first_place(part.formula)))
+            origin = origin._replace(macro=formula.macro.name)
+        return Noted(part, values, above.axiom, origin._replace(at=first_place(part.formula)))
 
     # how they are written
 
@@ -272,7 +270,7 @@ class LiftedRefutation(Branches[Noted]):
                 return f"({text})" if here < level else text
             case Quantified(_, universal, over_microops, name, body):
                 words = f"{'forall' if universal else 'exists'} {'microop' if over_microops else 'core'} {name}, "
-                hidden = replace(noted, values={one: value for one, value in noted.values.items() if one != name})
+                hidden = noted._replace(values={one: value for one, value in noted.values.items() if one != name})
                 text = words + self.formula(body, hidden)
                 return text if is_last else f"({text})"
             case Expand() | Static():

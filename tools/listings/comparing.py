@@ -1,7 +1,7 @@
 """A test of a log beside what a model shows of the listing of the same name, by sweeps of the built program: one for each combination
 of values at the end."""
 import tempfile
-from dataclasses import dataclass, field, replace
+from dataclasses import dataclass, field
 from itertools import product
 from math import prod
 from typing import Iterator, Mapping, NamedTuple
@@ -121,7 +121,7 @@ class Comparison:
     def met_by_log(self, quantifier: str) -> bool | None:
         """Whether the states of the log meet the condition of the listing, with this quantifier; None where they lack a
         variable of it."""
-        condition = replace(self.program.condition, quantifier=quantifier)
+        condition = self.program.condition._replace(quantifier=quantifier)
         has_all = set(condition.variables) <= set(self.variables)
         return condition.is_met(self.variables, self.result.states) if has_all else None
 

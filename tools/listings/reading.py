@@ -1,6 +1,5 @@
 """Herd's listings for X86 and X86_64 as they are written: bytes to threads of instructions, and a condition."""
 import re
-from dataclasses import dataclass
 from enum import Enum
 from typing import Callable, Iterable, Mapping, NamedTuple, Sequence
 
@@ -88,8 +87,7 @@ NEGATIONS = ("not", "~")
 CONSTANTS = {"true": True, "false": False}
 
 
-@dataclass(frozen=True)
-class Condition:
+class Condition(NamedTuple):
     """`exists`, `~exists` or `forall`, and a formula: equations, constants and operators, each behind what it is of."""
 
     quantifier: str

@@ -5,7 +5,6 @@ An edge that no run with the outcome has forbids it, as an axiom of the model. A
 has the edge. Many edges are asked about at once: where some run has one of them, the program answers with one, and the
 edges that this run has are known; where none has, all of them are.
 """
-from dataclasses import dataclass, replace
 from functools import partial
 from itertools import accumulate
 from typing import Iterable, Iterator, NamedTuple, Sequence
@@ -24,16 +23,14 @@ FEW_TOGETHER = 12
 MOST_COUNTED = 400
 
 
-@dataclass(frozen=True)
-class Part:
+class Part(NamedTuple):
     """An edge, and the reads that have to get what the outcome says where it is of that alone."""
 
     edge: Edge
     where: tuple[int, ...] = ()
 
 
-@dataclass(frozen=True)
-class Order:
+class Order(NamedTuple):
     """Edges that together forbid the outcome; the relation that all of them are of, if there is one; and the other
     outcomes that they lose."""
 
@@ -115,7 +112,7 @@ class Search:
         for order in orders:
             if not any(map(partial(self.is_as_stated, order), order.lost)):
                 edge = order.parts[0].edge
-                parts = tuple(replace(part, where=self.reads(part.edge)) for part in order.parts)
+                parts = tuple(part._replace(where=self.reads(part.edge)) for part in order.parts)
                 if all(len(part.where) < 2 for part in parts):
                     narrow.append(Order(parts, self.relations.of(edge, self.case)))
         narrow = [order for order in narrow if any(self.active(order, outcome) for outcome in self.others)]
@@ -175,12 +172,12 @@ class Search:
                 lost[order].append(outcome)
                 if self.is_as_stated(order, outcome):
                     useless.add(order)
-        return [replace(order, lost=tuple(outcomes)) for order, outcomes in lost.items()]
+        return [order._replace(lost=tuple(outcomes)) for order, outcomes in lost.items()]
 
     def counted(self, orders: Sequence[Order]) -> list[Order]:
         """The orders with all outcomes that they lose."""
         losing = {outcome: set(self.never(outcome, orders)) for outcome in self.others}
-        return [replace(it, lost=tuple(outcome for outcome, lose in losing.items() if it in lose)) for it in orders]
+        return [it._replace(lost=tuple(outcome for outcome, lose in losing.items() if it in lose)) for it in orders]
 
     def never(self, outcome: Outcome, orders: Sequence[Order]) -> list[Order]:
         """Those of the orders that no run with an outcome has."""

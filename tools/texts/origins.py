@@ -1,6 +1,5 @@
 """Where in the model each position of the nested tree comes from: the axiom, the micro-ops and cores that its quantifiers
 took, the macro, and the label of an edge."""
-from dataclasses import dataclass
 from typing import NamedTuple
 
 from tools.second.cases import Case
@@ -30,8 +29,7 @@ class Taken(NamedTuple):
     is_chosen: bool = False
 
 
-@dataclass(frozen=True)
-class Origin:
+class Origin(NamedTuple):
     """Where a part of the tree comes from. `macro` is the innermost one, and `at` the place of the formula."""
 
     axiom: Axiom
