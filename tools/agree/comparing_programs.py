@@ -12,7 +12,7 @@ from dataclasses import asdict, dataclass, field, replace
 from glob import glob
 from itertools import islice
 from random import Random
-from typing import Iterable, Iterator
+from typing import Iterable, Iterator, NamedTuple
 
 from tools import TOP
 from tools.agree.comparing import Other, asks_for_locked, difference_of_rows, machine_of, rows_shown, sweeper, types_asked
@@ -84,8 +84,7 @@ def digest_of_files(*paths: str) -> str:
     return digest_of("".join(found).encode("ascii"))
 
 
-@dataclass(frozen=True)
-class Comparison:
+class Comparison(NamedTuple):
     """A model, what it is compared with, and whether the program sweeps."""
 
     model: str
