@@ -18,8 +18,7 @@ Side = list[Signed]
 
 
 class Source(NamedTuple):
-    """What asserted a fact of the present branch: a position, and the split whose side has it, by its name; without one
-    it holds on every branch."""
+    """What asserted a fact: a position, and the split whose side has it, by its name; without one it holds on every branch."""
 
     position: int
     side: str

@@ -201,8 +201,7 @@ class NodeUses(Walk):
         return True
 
     def use(self, formula: Formula, env: Environment, wanted: bool, in_premise: bool) -> Use | bool:
-        """The use of a formula, or of its denial where it is not wanted; its truth where the test decides it. A premise
-        ends at `~`."""
+        """The use of a formula, or else of its denial; its truth where the test decides it. A premise ends at `~`."""
         if isinstance(formula, Static):
             return self.is_so(formula, env) is wanted
         self.steps.take()
