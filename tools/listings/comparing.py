@@ -119,8 +119,7 @@ class Comparison:
         return " ".join(f"{name}={value};" for name, value in zip(names, state))
 
     def met_by_log(self, quantifier: str) -> bool | None:
-        """Whether the states of the log meet the condition of the listing, with this quantifier; None where they lack a
-        variable of it."""
+        """Whether the states of the log meet the listing's condition, by this quantifier; None where they lack a variable."""
         condition = self.program.condition._replace(quantifier=quantifier)
         has_all = set(condition.variables) <= set(self.variables)
         return condition.is_met(self.variables, self.result.states) if has_all else None
