@@ -53,8 +53,7 @@ def clash_nodes(word: str, facts: list[Fact]) -> list[Node]:
     if word == "absent":
         return [facts[-1][0]]
     chain = facts if word == "cycle" else facts[:-1]
-    ends = [end for _, end, _ in chain if end is not None]
-    return [chain[0][0], *ends]
+    return [chain[0][0], *(end for _, end, _ in chain if end is not None)]
 
 
 def clash_heading(names: Names, word: str, facts: list[Fact]) -> str:

@@ -121,8 +121,7 @@ class Questions:
         return self.asked(outcome, joined(" \\/ ", [joined(" /\\ ", list(map(self.formula, edges))) for edges in orders]))
 
     def asked(self, outcome: Outcome, formula: str) -> list[World]:
-        """Runs that show an outcome, one in which a formula holds, and one in which it does not if there is one; none where
-        it holds in none."""
+        """Runs that show an outcome, one in which a formula holds and one in which not, if any; none where it holds in none."""
         query = self.file("query", formula.encode("ascii"))
         answer = read_answer(self.called("ask", self.model_path, self.path_of(outcome), query), self.model)
         assert isinstance(answer, Asked)

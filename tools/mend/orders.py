@@ -31,8 +31,7 @@ class Part(NamedTuple):
 
 
 class Order(NamedTuple):
-    """Edges that together forbid the outcome; the relation that all of them are of, if there is one; and the other
-    outcomes that they lose."""
+    """Edges that together forbid the outcome; the relation that all of them are of, if any; and what other outcomes they lose."""
 
     parts: tuple[Part, ...]
     relation: Relation | None
@@ -94,8 +93,7 @@ class Search:
     def edges(self) -> list[Edge]:
         """The pairs of nodes of runs that the program has shown, the nearest where there are many."""
         nodes = list(dict.fromkeys(node for worlds in self.worlds.values() for node in worlds[0].later))
-        pairs = [(start, end) for start in nodes for end in nodes if start != end]
-        return sorted(pairs, key=self.distance_of)[:MOST_EDGES]
+        return sorted(((start, end) for start in nodes for end in nodes if start != end), key=self.distance_of)[:MOST_EDGES]
 
     def of_relations(self, edges: Sequence[Edge], case: Case | None = None) -> Iterator[Order]:
         """All edges of a relation together, for each relation that has several; of a case, for relations in which the reads

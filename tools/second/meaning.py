@@ -97,8 +97,7 @@ class Meaning:
     def body_of(self, formula: Expand, env: Environment) -> tuple[Formula, Environment]:
         """The body of a macro, with its parameters bound."""
         macro = self.macros[formula.macro.name]
-        bound = {word.name: value(arg, env) for word, arg in zip(macro.parameters, formula.args)}
-        return macro.body, {**env, **bound}
+        return macro.body, {**env, **{word.name: value(arg, env) for word, arg in zip(macro.parameters, formula.args)}}
 
     def node(self, term: NodeTerm, env: Environment) -> Node:
         """The node that a term names; without a core it is that of the micro-op."""

@@ -206,8 +206,7 @@ class ModelReader(Reader):
 
     def formula(self, level: int = 0) -> Formula:
         """A formula with no looser connective outside brackets than that of this level; each groups to the right."""
-        is_tightest = level == len(CONNECTIVES) - 1
-        left = self.operand() if is_tightest else self.formula(level + 1)
+        left = self.operand() if level == len(CONNECTIVES) - 1 else self.formula(level + 1)
         # each of them could stand here, whatever the level
         if not self.sees(*CONNECTIVES) or self.next.piece != CONNECTIVES[level]:
             return left

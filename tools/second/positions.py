@@ -115,8 +115,7 @@ class Positions:
 
     def leaf(self, literal: Literal) -> Leaf:
         """A literal, its nodes numbered."""
-        start = self.number(literal.start)
-        return Leaf(start, None if literal.end is None else self.number(literal.end), literal.wanted)
+        return Leaf(self.number(literal.start), None if literal.end is None else self.number(literal.end), literal.wanted)
 
     def number(self, node: Node) -> int:
         """The number of a node, the next one where it is new."""

@@ -42,9 +42,7 @@ class Rows:
                 lines = [line.split("\t") for line in file.read().splitlines()]
         except OSError as error:
             raise Refusal(f"the table {shown(path)} cannot be read") from error
-        head = [*COLUMNS]
-        if lines and lines[0][:1] == [COLUMNS[0]]:
-            head = lines.pop(0)
+        head = lines.pop(0) if lines and lines[0][:1] == [COLUMNS[0]] else [*COLUMNS]
         missing = [name for name in COLUMNS if name not in head]
         if missing:
             raise Refusal(f"the table {shown(path)} has no column {missing[0]}")

@@ -87,8 +87,7 @@ def aligned(rows: Sequence[Sequence[str]]) -> list[str]:
 
 
 def table_of_models(models: Sequence[str], rows: Sequence[Sequence[str]], width: int | None) -> list[str]:
-    """A row for each test with the cells of the models. Where the lines are wider than the terminal the models have
-    numbers, and a key stands above."""
+    """A row for each test with the cells of the models, which get numbers and a key above where the terminal is narrower."""
     lines = aligned([["test", *models], *rows])
     if width is None or max(map(len, lines)) <= width:
         return lines

@@ -20,8 +20,7 @@ class TooLarge(Exception):
 
 
 class Taken(NamedTuple):
-    """What a quantifier took: its name, whether it is over micro-ops, and the value; and whether that is one of which some
-    value is enough."""
+    """What a quantifier took: its name, whether it is over micro-ops, the value; and whether some value of it is enough."""
 
     name: str
     is_microop: bool
