@@ -35,9 +35,9 @@ FIRST = (BUG, STRICTER, TIME)
 
 
 @contextmanager
-def new_file(place: str) -> Iterator[IO[bytes]]:
-    """A file that is written beside a place. Nothing is left of it, if it is not moved there."""
-    part = place + PART
+def new_file(place: str, mark: str = "") -> Iterator[IO[bytes]]:
+    """A file that is written beside a place, under a name with this mark. Nothing is left of it, if it is not moved there."""
+    part = place + mark + PART
     with suppress(FileNotFoundError):
         os.unlink(part)
     with open(part, "x+b") as file:
@@ -48,8 +48,8 @@ def new_file(place: str) -> Iterator[IO[bytes]]:
                 os.unlink(part)
 
 
-def write_anew(place: str, text: bytes) -> None:
-    with new_file(place) as file:
+def write_anew(place: str, text: bytes, mark: str = "") -> None:
+    with new_file(place, mark) as file:
         file.write(text)
         file.flush()
         os.replace(file.name, place)
@@ -189,14 +189,14 @@ class State:
 
     def read(self) -> None:
         """Takes in what an interrupted suite left."""
+        self.pairs = {}
         try:
             found = json.loads(own_contents(self.place))
             pairs = found["pairs"] if found["program"] == self.program != "" else {}
             self.pairs = {name: pair for name, pair in pairs.items() if isinstance(pair, dict)}
         except FileNotFoundError:
-            self.pairs = {}
+            pass
         except (OSError, ValueError, KeyError, TypeError, AttributeError, RecursionError):
-            self.pairs = {}
             tell(f"suite: {shown(self.place)} is spoilt: it is made anew")
 
     def found(self, model: File, test: File) -> Found | None:
@@ -304,14 +304,8 @@ class Kept:
         text = said.read()
         place = self.place(model, test)
         head = json.dumps({"stated": found.stated, "digest": digest_of(text)}).encode("ascii")
-        part = f"{place}.{os.urandom(16).hex()}{PART}"
-        try:
-            with open(part, "xb") as file:
-                file.write(head + b"\n" + text)
-            os.replace(part, place)
-        except OSError:
-            with suppress(OSError):
-                os.unlink(part)
+        with suppress(OSError):
+            write_anew(place, head + b"\n" + text, f".{os.urandom(16).hex()}")
 
     def tell_taken(self) -> None:
         if self.taken:
