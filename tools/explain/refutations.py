@@ -53,26 +53,18 @@ class Refutation(Branches[Side]):
     def split(self) -> Iterator[str]:
         """A split: one line where a side of it closes at once."""
         step = self.steps[self.here]
-        left, right = self.positions.sides(choice_of(step), self.version)
-        left_at, right_at = self.here + 1, self.ends[self.here + 1]
-        closed = self.closed_side(left_at, right_at)
-        if closed == "left":
-            yield from self.forced(step, left, left_at, right)
-            self.here = right_at
-        elif closed == "right":
-            yield from self.forced(step, right, right_at, left)
-            self.here = left_at
+        sides = self.positions.sides(choice_of(step), self.version)
+        places = self.here + 1, self.ends[self.here + 1]
+        # the sides that their first steps close; of both it is the one by fewer nodes, so that the other clash is seen whole
+        closed = [side for side in (0, 1) if not self.steps[places[side]].startswith("split ")]
+        if closed:
+            side = min(closed, key=lambda it: self.steps[places[it]].count(" "))
+            yield from self.forced(step, sides[side], places[side], sides[1 - side])
+            self.here = places[1 - side]
         else:
             yield f"{self.indent()}{step}: {self.names.origin(self.origin_of(step))}"
-            position, is_denied = right[-1]
-            yield from self.open_branches(step, left, right, f"split {'~' if is_denied else ''}{position}", len(self.facts))
-
-    def closed_side(self, left_at: int, right_at: int) -> str | None:
-        """The side of a split that is closed by its first step. Where both are it is the one that is closed by fewer
-        nodes, so that the other clash is seen whole."""
-        steps = {"left": self.steps[left_at], "right": self.steps[right_at]}
-        closed = [side for side, step in steps.items() if not step.startswith("split ")]
-        return min(closed, key=lambda side: steps[side].count(" ")) if closed else None
+            position, is_denied = sides[1][-1]
+            yield from self.open_branches(step, *sides, f"split {'~' if is_denied else ''}{position}", len(self.facts))
 
     def forced(self, step: str, closed: Side, closed_at: int, other: Side) -> Iterator[str]:
         """The line of a split of which one side, closed by the step there, leaves the other. Those that come from one
