@@ -8,7 +8,6 @@ judge is none, where a text could not be kept, or where this program fails.
 """
 import os
 import shutil
-import signal
 import tempfile
 from contextlib import contextmanager, suppress
 from pathlib import Path
@@ -22,7 +21,7 @@ from tools.second.queries import InModel
 from tools.second.scopes import read_model
 from tools.second.standard_output import FAILED, UNREAD, UNWRITTEN
 from tools.second.tokens import Fault
-from tools.suite.calling import Calls, limited, memory_limit, side_by_side
+from tools.suite.calling import Calls, limited, memory_limit, said_by
 from tools.suite.programs import command_of
 from tools.suite.telling import Refusal, tell
 from tools.telling.files import unreadable
@@ -106,16 +105,8 @@ class Judge:
         self.kib = memory_limit(os.environ.get("PIPECHECK_MEMORY", ""))
 
     def call(self, word: str, paths: Sequence[str]) -> tuple[int, bytes]:
-        """The status of a call, and what it writes. A signal comes to this thread and ends the call."""
-        with tempfile.TemporaryFile(dir=self.folder) as out:
-            command = limited([*self.command, word, *paths], self.kib, None)
-
-            def work() -> int | None:
-                return self.calls.finished(self.calls.started(command, out, None, signal.SIGTERM), None)
-
-            (status,) = side_by_side(self.calls, 1, [work], lambda _, __: None)
-            out.seek(0)
-            return status or 0, out.read()
+        """The status of a call, and what it writes."""
+        return said_by(self.calls, limited([*self.command, word, *paths], self.kib, None), self.folder)
 
     def copied(self, name: str, path: str, most: int) -> str:
         """The path, or where the file can be read only once, as a pipe, that of a copy with the file's ending. Of a file past the

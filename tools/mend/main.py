@@ -144,7 +144,7 @@ def answer(model_path: str, test_path: str) -> tuple[list[str], int]:
             return Mending(checker, folder, model_text, test_path, test_text).lines()
 
         # a signal comes to this thread, and ends the calls of the other one
-        (said,) = side_by_side(calls, 1, [work], lambda _, __: None)
+        (said,) = side_by_side(calls, 1, [work])
     return said
 
 

@@ -10,6 +10,7 @@ import resource
 import signal
 import subprocess
 import sys
+import tempfile
 import threading
 from contextlib import suppress
 from typing import IO, Callable, Sequence, TypeVar
@@ -197,6 +198,19 @@ def side_by_side(
         join(threads, None)
         progress.end()
     return [answers[place] for place in range(len(tasks))]
+
+
+def said_by(calls: Calls, command: Sequence[str], folder: str | None = None) -> tuple[int, bytes]:
+    """The status of a call without a limit of time, and what it writes, by way of this folder. A signal comes to this thread; the
+    call may clean up when it is ended."""
+    with tempfile.TemporaryFile(dir=folder) as out:
+
+        def work() -> int | None:
+            return calls.finished(calls.started(command, out, None, signal.SIGTERM), None)
+
+        (status,) = side_by_side(calls, 1, [work])
+        out.seek(0)
+        return status or 0, out.read()
 
 
 def start(threads: Sequence[threading.Thread]) -> None:
