@@ -98,11 +98,12 @@ class Answer:
         _, program = programs.get(result.name, ("", None))
         if program is None:
             why = f"no listing that is read has the name {result.name}"
-        elif program.has_locked and LOCKED not in asked:
+        elif LOCKED not in asked and any(LOCKED in op.types for op in program.made):
             why = f"{result.name} has locked instructions, and the model asks for no type {LOCKED}"
         else:
             comparison = Comparison(result, program)
-            if not comparison.is_of_another_listing:
+            # what the log says to its condition its states have to say to that of the listing
+            if len(result.answers) != 1 or comparison.met_by_log(result.quantifier) in result.answers:
                 return comparison
             why = f"the condition of the listing {result.name} is not met as the log says: is it another listing?"
         self.tell("tests that are not compared", f"{shown(path)}:{result.line}: not compared: {why}", REFUSED)

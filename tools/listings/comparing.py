@@ -124,11 +124,6 @@ class Comparison:
         has_all = set(condition.variables) <= set(self.variables)
         return condition.is_met(self.variables, self.result.states) if has_all else None
 
-    @property
-    def is_of_another_listing(self) -> bool:
-        """Whether the log says to its condition what its states do not say to that of the listing."""
-        return len(self.result.answers) == 1 and self.met_by_log(self.result.quantifier) not in self.result.answers
-
     def answers(self) -> str:
         """What the model and the log say to the condition of the listing."""
         condition = self.program.condition

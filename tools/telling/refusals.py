@@ -145,7 +145,8 @@ def left_out_word(data: bytes, refusal: Refusal) -> str:
 def told(top: str, said: str, words: list[str]) -> Iterator[str]:
     """Where the file that the program refuses by this line has its fault."""
     refusal = refusal_of(said)
-    kinds = Forms(top).kinds_of(words)
+    forms = [it.kinds for it in Forms(top).of(words[0]) if it.whose == "program" and len(it.kinds) == len(words) - 1]
+    kinds = forms[0] if forms else []
     for kind, path in zip(kinds, words[1:]):
         if kind in KINDS[refusal.kind] and os.path.isfile(path):
             yield from place_of(top, path, refusal)
