@@ -44,9 +44,7 @@ def free_memory() -> float:
 
 def jobs_for(processors: int, memory: float) -> int | None:
     """How many crates are proved at a time: as many as memory holds; None where that is left to `rt`."""
-    if memory >= processors * PLENTY:
-        return None
-    return int(max(1, min(processors, memory // NEED)))
+    return None if memory >= processors * PLENTY else int(max(1, min(processors, memory // NEED)))
 
 
 def processors() -> int:

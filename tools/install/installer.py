@@ -438,15 +438,11 @@ class Installation:
             return False
         except OSError:
             return True
-        if not self.is_at(folder, name):
-            return False
-        self.locked.append(name)
-        return True
-
-    def is_at(self, folder: int, name: str) -> bool:
-        """Whether an open folder still has its name."""
+        # an open folder need not have its name any more
         with suppress(OSError):
-            return os.path.samestat(os.fstat(folder), os.stat(self.at(name)))
+            if os.path.samestat(os.fstat(folder), os.stat(self.at(name))):
+                self.locked.append(name)
+                return True
         return False
 
 

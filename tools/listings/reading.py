@@ -111,9 +111,7 @@ class Condition(NamedTuple):
     def is_met(self, variables: Sequence[Variable], states: Iterable[tuple[int, ...]]) -> bool:
         """Whether it holds of these states of these variables as all that come up."""
         truths = (self.holds(dict(zip(variables, state))) for state in states)
-        if self.quantifier == "forall":
-            return all(truths)
-        return any(truths) == (self.quantifier == "exists")
+        return all(truths) if self.quantifier == "forall" else any(truths) == (self.quantifier == "exists")
 
     def holds(self, state: Mapping[Variable, int]) -> bool:
         known: list[bool] = []

@@ -161,11 +161,6 @@ class Judges:
     calls: Calls
     by_thread: dict[int, Machine] = field(default_factory=dict)
 
-    def end_all(self) -> None:
-        """Ends all processes, once no thread asks any more."""
-        for machine in self.by_thread.values():
-            machine.end()
-
     def answer(self, name: str, test: File, deadline: float | None) -> Answer:
         """What the machine of this name says of a test up to a moment of the clock, or within the limit of one test."""
         if deadline is None:
