@@ -11,6 +11,7 @@ from contextlib import suppress
 from dataclasses import asdict, dataclass, field, replace
 from glob import glob
 from itertools import islice
+from pathlib import Path
 from random import Random
 from typing import Iterable, Iterator, NamedTuple
 
@@ -76,12 +77,9 @@ class Kept:
 
 def digest_of_files(*paths: str) -> str:
     """One hash of the bytes of files, and of the modules of folders."""
-    found = []
-    for path in paths:
-        for name in sorted(glob("**/*.py", root_dir=path, recursive=True)) if os.path.isdir(path) else [""]:
-            with open(os.path.join(path, name) if name else path, "rb") as file:
-                found.append(digest_of(file.read()))
-    return digest_of("".join(found).encode("ascii"))
+    modules = {path: sorted(glob("**/*.py", root_dir=path, recursive=True)) for path in paths if os.path.isdir(path)}
+    files = (Path(path, name) for path in paths for name in modules.get(path, [""]))
+    return digest_of("".join(digest_of(file.read_bytes()) for file in files).encode("ascii"))
 
 
 class Comparison(NamedTuple):

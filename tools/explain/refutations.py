@@ -67,8 +67,7 @@ class Refutation(Branches[Side]):
             yield from self.open_branches(step, *sides, f"split {'~' if is_denied else ''}{position}", len(self.facts))
 
     def forced(self, step: str, closed: Side, closed_at: int, other: Side) -> Iterator[str]:
-        """The line of a split of which one side, closed by the step there, leaves the other. Those that come from one
-        formula stand below one heading."""
+        """The line of a split of which one side, closed there, leaves the other. Those of one formula stand below one heading."""
         heading = self.names.formula(self.origin_of(step))
         last = self.group[1] if self.group[0] == heading else ""
         if not last:

@@ -16,8 +16,7 @@ from tools.second.positions import Clash, Inner, Leaf, Positions
 
 
 class Later(NamedTuple):
-    """A branch that waits: how many facts and keys it keeps, its own fact, and the position of the side that it takes;
-    None where it only has to be closed."""
+    """A branch that waits: how many facts and keys it keeps, its fact, and the position of its side; None to be closed alone."""
 
     facts: int
     keys: int

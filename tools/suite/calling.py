@@ -135,8 +135,7 @@ class Calls:
 
 
 def limited(command: Sequence[str], kib: int | None, seconds: float | None) -> list[str]:
-    """The command under a limit of address space, and of the processor time that it may take on all processors. A limit that
-    stands is never raised."""
+    """The command under a limit of address space, and of processor time on all processors. What limit stands is never raised."""
     # the shell would take a dash for an option
     first = os.path.join(".", command[0]) if command[0].startswith("-") else command[0]
     most = math.inf if seconds is None else math.ceil(seconds) * len(os.sched_getaffinity(0)) + 1

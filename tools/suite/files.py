@@ -131,8 +131,7 @@ def model_file(path: str) -> File:
 
 
 def test_file(path: str, folders: Sequence[str] = ()) -> File:
-    """A test. A listing, a pattern and a query keep their endings in the table. The test of a query stands beside it, or
-    in one of these folders."""
+    """A test. All but tests keep their endings in the table. The test of a query stands beside it, or in one of these folders."""
     file = file_at("test", path, os.path.basename(path).removesuffix(TEST_ENDING))
     if ending_of(path) != QUERY_ENDING:
         return file
