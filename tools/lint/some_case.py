@@ -71,8 +71,11 @@ class Search:
 
     def counted(self, kind: str, *rest: object) -> object:
         """A number that matters by which others of its kind are the same: one that is there, or the next one."""
-        known = [number for other, number in self.chosen.items() if other[0] == kind and isinstance(number, int)]
-        return self.choice((kind, *rest), range(max(known, default=-1) + 2))
+        key = kind, *rest
+        if key not in self.chosen:
+            known = [number for other, number in self.chosen.items() if other[0] == kind and isinstance(number, int)]
+            raise Open(key, range(max(known, default=-1) + 2))
+        return self.chosen[key]
 
     def is_sound(self, key: Key) -> bool:
         """Whether the choice for a key fits to the others: numbers of cores differ, and so do micro-ops."""
