@@ -51,7 +51,7 @@ class Kept:
         self.is_told = False
 
     def read(self) -> Progress:
-        """What a comparison has got; nothing where the file is none that was written of it here, by the hash in its first line."""
+        """What a comparison has got; nothing where the file is none that was written of it, by the hash in its first line."""
         with suppress(OSError):
             head, _, text = own_contents(self.place, MOST_BYTES).partition(b"\n")
             found = json.loads(text) if head == digest_of(text).encode("ascii") else {}
