@@ -111,9 +111,12 @@ class Signals:
             tempfile.tempdir = before
             # once a signal came, `clear` removes it
             if self.number == 0:
-                with self.held():
-                    made.cleanup()
-                    self.folders.remove(made)
+                self.remove(made)
+
+    def remove(self, folder: "tempfile.TemporaryDirectory[str]") -> None:
+        with self.held():
+            folder.cleanup()
+            self.folders.remove(folder)
 
     def clear(self) -> None:
         """Removes what is left once a signal came. A fault of that changes nothing."""
