@@ -28,6 +28,8 @@ from dataclasses import dataclass
 from hashlib import sha256
 from typing import Any, Callable, Iterator, Mapping, Sequence
 
+from tools.__main__ import TOOLS, called
+
 TOP = os.path.dirname(os.path.dirname(os.path.realpath(__file__)))
 
 # What the script says where the program without its proofs answers. Where that one is tested, cases say what stands on standard
@@ -192,8 +194,9 @@ def tool(word: str, folder: str = TOP) -> list[str]:
 
 
 def tool_entry(module: str) -> Callable[[], object]:
-    """An entry that runs this module of tools/ as if it were called."""
-    return script_entry(f"{TOP}/tools/{module.replace('.', '/')}.py")
+    """An entry that calls this module of tools/ as its word does."""
+    word = next(word for word, it in TOOLS.items() if it == f"tools.{module}")
+    return lambda: called(word, *sys.argv[1:])
 
 
 def script_entry(path: str) -> Callable[[], object]:

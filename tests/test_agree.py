@@ -306,7 +306,7 @@ tso-buffer-no-write-between.uspec SB+fences+old.test: shown yes, tso allows no
 
         def check_without_table() -> int:
             with replaced(table, "TOP", self.work):
-                return comments.main(["--check"])
+                return comments.main("--check")
 
         self.same("without a table nothing says what they are", call(check_without_table, []).status, 1)
         self.same("verdicts of two tests are asked for one by one", run([*tool("verdicts"), "sc", MP, MP]).status, 1)

@@ -501,11 +501,11 @@ def is_forced(disjunction: str) -> bool:
 
 
 # runs the program with a search that does not agree with the other one
-FAILS = """import runpy, sys
+FAILS = """import sys
+from tools.__main__ import called
 from tools.second import searching
 searching.search = lambda _: None
-sys.argv = sys.argv[1:]
-runpy.run_module("tools.second.main", run_name="__main__")
+sys.exit(called(*sys.argv[1:]))
 """
 
 

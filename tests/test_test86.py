@@ -24,7 +24,7 @@ from tools.second.tokens import Fault
 from tools.telling.refusals import expected, left_out
 from tools.telling.refusals import refusal_of as read_refusal
 from tools.texts.contents import contents
-from tools.texts.naming import line_and_column
+from tools.texts.quoting import line_and_column
 from tools.texts.writing_tests import test_of_listing, without_names
 
 # what the script calls, in a process that is forked from this one

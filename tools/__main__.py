@@ -1,7 +1,9 @@
 """Calls a tool by its word, from any folder: python3 FOLDER/tools WORD WORD.."""
 import os
-import runpy
 import sys
+from functools import partial
+from importlib import import_module
+from typing import Callable
 
 TOOLS = {
     "agree": "tools.agree.main",
@@ -25,6 +27,24 @@ TOOLS = {
     "test86": "tools.listings.test86",
     "verdicts": "tools.agree.verdicts",
 }
+# those for which 1 is the status of every failure, as Python has it, or that say theirs themselves
+PLAIN = ("builder", "comments", "completing", "crates", "definitions", "installer", "renew", "suite", "table", "verdicts")
+# those that leave nothing beside the sources
+TRACELESS = ("agree", "crates", "definitions", "renew", "table")
+
+
+def called(word: str, *words: str) -> int | None:
+    """What the `main` of a tool answers to the other words. Where it has `SIGNALS` one of these may end it."""
+    sys.dont_write_bytecode |= word in TRACELESS
+    module = import_module(TOOLS[word])
+    call: Callable[[], int | None] = partial(module.main, *words)
+    if word not in PLAIN:
+        from tools.second.standard_output import status_of
+
+        call = partial(status_of, module.main, words)
+    status: int | None = module.SIGNALS.status_or_end(call) if hasattr(module, "SIGNALS") else call()
+    return status
+
 
 if __name__ == "__main__":
     if len(sys.argv) < 2 or sys.argv[1] not in TOOLS:
@@ -33,4 +53,4 @@ if __name__ == "__main__":
     # itself looks in the folder that it is given, or with -m in the one where it is called; so this is said here, and here alone.
     sys.path[0] = os.path.dirname(os.path.dirname(os.path.realpath(__file__)))
     del sys.argv[0]
-    runpy.run_module(TOOLS[sys.argv[0]], run_name="__main__")
+    sys.exit(called(*sys.argv))

@@ -13,12 +13,14 @@ import tempfile
 import time
 from contextlib import contextmanager, suppress
 from types import FrameType
-from typing import Callable, Iterable, Iterator
+from typing import Callable, Iterable, Iterator, TypeVar
 
 # what a terminal, a shell and `timeout` send
 ENDING = (signal.SIGHUP, signal.SIGINT, signal.SIGQUIT, signal.SIGTERM)
 # how long the main thread waits before it looks whether there was a signal, and whether a file is free, in seconds
 PATIENCE, MOMENT = 1.0, 0.1
+
+Given = TypeVar("Given")
 
 
 class Interrupted(BaseException):
@@ -59,13 +61,25 @@ class Signals:
         if self.number != 0:
             raise Interrupted(self.number)
 
-    def lock(self, file: int) -> None:
-        """Locks an open file, once no other process has it locked."""
+    def patient(self, wait: Callable[[float], Given], late: type[Exception]) -> Given:
+        """What this gives that waits for so many seconds at most, and raises this where there is nothing yet."""
+        while True:
+            with suppress(late):
+                return wait(PATIENCE)
+            self.look()
+
+    def lock(self, file: int, tell: Callable[[], None]) -> None:
+        """Locks an open file, once no other process has it locked. Where one has, that is told first."""
+        is_told = False
         while True:
             with suppress(BlockingIOError):
                 fcntl.flock(file, fcntl.LOCK_EX | fcntl.LOCK_NB)
                 return
-            time.sleep(MOMENT)
+            if is_told:
+                time.sleep(MOMENT)
+            else:
+                tell()
+            is_told = True
             self.look()
 
     @contextmanager

@@ -2,11 +2,10 @@
 which it is, and makes it (`script/build`)."""
 import os
 import subprocess
-from dataclasses import dataclass
+from typing import NamedTuple
 
 
-@dataclass(frozen=True)
-class Standing:
+class Standing(NamedTuple):
     """A program, and whether it is the proved one."""
 
     path: str

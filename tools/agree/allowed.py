@@ -7,12 +7,10 @@ where the machine does not run the test or takes long.
 """
 import os
 import signal
-import sys
 from importlib import import_module
 
 from tools import TOP
 from tools.agree.verdicts import lines_of
-from tools.second.standard_output import status_of
 from tools.texts.contents import contents
 from tools.texts.memory_models import memory_model_of
 
@@ -28,7 +26,3 @@ def main(model_path: str, test_path: str) -> int:
         if lines_of(import_module(f"tools.agree.machines.{name}"), test_path) == ["yes"]:
             print(name)
     return 0
-
-
-if __name__ == "__main__":
-    sys.exit(status_of(main, sys.argv[1:]))

@@ -6,7 +6,6 @@
 Each test whose line is another is printed. The status is 1 where --check finds one.
 """
 import os
-import sys
 
 from tools import TOP
 from tools.agree.table import rows_of
@@ -25,15 +24,9 @@ def comment(allowed: dict[str, bool]) -> str:
     return f"% {said}. The test states what sc says."
 
 
-def with_comment(text: str, said: str) -> str:
-    """A test with this line as its second one."""
-    first, second, *rest = text.split("\n")
-    return "\n".join([first, said] + ([] if second.startswith(BEGINNINGS) else [second]) + rest)
-
-
-def main(words: list[str]) -> int:
+def main(*words: str) -> int:
     """Writes the lines, or only compares them, and answers the exit status."""
-    if words not in ([], ["--check"]):
+    if words not in ((), ("--check",)):
         raise SystemExit(__doc__)
     tests: dict[str, dict[str, bool]] = {}
     for memory_model, test, is_allowed in rows_of(""):
@@ -45,7 +38,9 @@ def main(words: list[str]) -> int:
             continue
         with open(path, encoding="ascii") as file:
             old = file.read()
-        new = with_comment(old, comment(allowed))
+        first, second, *rest = old.split("\n")
+        # it is the second line
+        new = "\n".join([first, comment(allowed), *([] if second.startswith(BEGINNINGS) else [second]), *rest])
         if new == old:
             continue
         is_differing = True
@@ -54,7 +49,3 @@ def main(words: list[str]) -> int:
             with open(path, "w", encoding="ascii") as file:
                 file.write(new)
     return 1 if is_differing and words else 0
-
-
-if __name__ == "__main__":
-    sys.exit(main(sys.argv[1:]))

@@ -2,7 +2,6 @@
 import os
 import re
 import subprocess
-from dataclasses import dataclass
 from functools import lru_cache
 from importlib import import_module
 from types import ModuleType
@@ -14,7 +13,6 @@ from tools.agree.litmus import Reads, Test, Value, test_of_text
 from tools.agree.verdicts import is_alike, runs, value_of, words_of
 from tools.agree.working import Unusable
 from tools.lint.asked import Asked
-from tools.lint.lines import line_of
 from tools.second.cases import Case
 from tools.second.listings import read_file_items
 from tools.second.models import Model
@@ -30,7 +28,7 @@ from tools.suite.telling import Refusal
 from tools.telling.files import sentence
 from tools.texts.contents import Read, Unreadable, contents, read_within
 from tools.texts.memory_models import memory_model_of
-from tools.texts.quoting import shown
+from tools.texts.quoting import line_of, shown
 
 READ = re.compile(rb"(\(\s*Read\b[^()]*(?:\([^()]*\)\s*){2})\(\s*(?:Data|Maps)[^()]*\)")
 OPEN = rb"\1(Data Any)"
@@ -58,8 +56,7 @@ class Pair(NamedTuple):
         return self.is_opened or self.test.endswith(PATTERN)
 
 
-@dataclass(frozen=True)
-class Other:
+class Other(NamedTuple):
     """What a model is compared with: a machine by its name, or another model by its path."""
 
     name: str

@@ -6,14 +6,14 @@ alone, and the next comparison of that name takes its place.
 """
 import json
 import os
-import stat
 import time
 from contextlib import suppress
-from dataclasses import asdict, dataclass, field, fields, replace
+from dataclasses import asdict, dataclass, field, replace
 from glob import glob
 from itertools import islice
+from pathlib import Path
 from random import Random
-from typing import Iterable, Iterator
+from typing import Iterable, Iterator, NamedTuple
 
 from tools import TOP
 from tools.agree.comparing import Other, asks_for_locked, difference_of_rows, machine_of, rows_shown, sweeper, types_asked
@@ -22,7 +22,7 @@ from tools.agree.small_programs import Family, Shape
 from tools.agree.working import Counts, Unusable, Workers, tell
 from tools.second.patterns import MOST_ROWS
 from tools.suite.files import digest_of
-from tools.suite.keeping import write_anew
+from tools.suite.keeping import own_contents, write_anew
 from tools.suite.telling import Progress as Meter
 from tools.texts.quoting import shown
 
@@ -50,18 +50,20 @@ class Kept:
         self.origin = origin
         self.is_told = False
 
-    def read(self, count: int) -> Progress:
-        """What a comparison of so many programs has got; nothing where the file is none that this module writes."""
-        try:
-            found = json.loads(small_file(self.place))
-            return progress_of(found, count) if found["origin"] == self.origin else Progress()
-        except (OSError, ValueError, TypeError, KeyError, RecursionError):
-            return Progress()
+    def read(self) -> Progress:
+        """What a comparison has got; nothing where the file is none that was written of it, by the hash in its first line."""
+        with suppress(OSError):
+            head, _, text = own_contents(self.place, MOST_BYTES).partition(b"\n")
+            found = json.loads(text) if head == digest_of(text).encode("ascii") else {}
+            if found.get("origin") == self.origin:
+                return Progress(Counts(**found["counts"]), found["smallest"])
+        return Progress()
 
     def write(self, progress: Progress) -> None:
         try:
             os.makedirs(self.folder, exist_ok=True)
-            write_anew(self.place, json.dumps({"origin": self.origin, **asdict(progress)}).encode("ascii"))
+            text = json.dumps({"origin": self.origin, **asdict(progress)}).encode("ascii")
+            write_anew(self.place, digest_of(text).encode("ascii") + b"\n" + text)
         except OSError as error:
             if not self.is_told:
                 tell(f"{shown(self.folder)}: {error.strerror}: what is done is not kept")
@@ -73,41 +75,14 @@ class Kept:
             os.unlink(self.place)
 
 
-def progress_of(found: dict[str, object], count: int) -> Progress:
-    """What was kept; it raises where it is of no comparison of so many programs."""
-    kept, smallest = found["counts"], found["smallest"]
-    if not isinstance(kept, dict) or set(kept) != {part.name for part in fields(Counts)}:
-        raise ValueError(kept)
-    counts = Counts(**kept)
-    if not all(isinstance(number, int) and number >= 0 for number in kept.values()) or counts.done > count:
-        raise ValueError(kept)
-    if (smallest is not None) != (counts.differ > 0):
-        raise ValueError(smallest)
-    if smallest is not None and not (isinstance(smallest, int) and 0 <= smallest < counts.done):
-        raise ValueError(smallest)
-    return Progress(counts, smallest)
-
-
-def small_file(path: str) -> bytes:
-    """The bytes of a small file. No link is followed, and nothing waits for a pipe."""
-    with os.fdopen(os.open(path, os.O_RDONLY | os.O_NOFOLLOW | os.O_NONBLOCK | os.O_CLOEXEC), "rb") as file:
-        if not stat.S_ISREG(os.fstat(file.fileno()).st_mode):
-            raise ValueError(path)
-        return file.read(MOST_BYTES)
-
-
 def digest_of_files(*paths: str) -> str:
     """One hash of the bytes of files, and of the modules of folders."""
-    found = []
-    for path in paths:
-        for name in sorted(glob("**/*.py", root_dir=path, recursive=True)) if os.path.isdir(path) else [""]:
-            with open(os.path.join(path, name) if name else path, "rb") as file:
-                found.append(digest_of(file.read()))
-    return digest_of("".join(found).encode("ascii"))
+    modules = {path: sorted(glob("**/*.py", root_dir=path, recursive=True)) for path in paths if os.path.isdir(path)}
+    files = (Path(path, name) for path in paths for name in modules.get(path, [""]))
+    return digest_of("".join(digest_of(file.read_bytes()) for file in files).encode("ascii"))
 
 
-@dataclass(frozen=True)
-class Comparison:
+class Comparison(NamedTuple):
     """A model, what it is compared with, and whether the program sweeps."""
 
     model: str
@@ -167,7 +142,7 @@ class Comparison:
         """Compares on all small programs, and goes on from what an ended comparison has got. Prints the smallest on
         which the two differ, if there is one."""
         count, kept = family.count, Kept(folder, repr((self, family)), self.origin)
-        progress = kept.read(count)
+        progress = kept.read()
         before = f", {progress.counts.done} of them compared before" if progress.counts.done else ""
         print(f"{self.name}: {count} programs{before}", flush=True)
         programs = family.programs

@@ -4,8 +4,7 @@ This reads the files of examples/ by a few regular expressions, in both formats,
 made for files that are well-formed, and shares no code with the program or with the second implementation.
 """
 import re
-from dataclasses import dataclass, replace
-from typing import Callable, Hashable, Iterable, Iterator, TypeVar
+from typing import Callable, Hashable, Iterable, Iterator, NamedTuple, TypeVar
 
 # the types of a full fence: that of tests, and that of herd's X86 listings
 FULL = frozenset({"Full", "MFENCE"})
@@ -45,8 +44,7 @@ class NotRun(ValueError):
     """A machine does not run tests of this layout, and why."""
 
 
-@dataclass(frozen=True)
-class Op:
+class Op(NamedTuple):
     """A micro-op. `place` is its number in test order; `core` is the place of its core in `Test.cores`; `instruction` is
     the number of its instruction. The value of an open read is not looked at."""
 
@@ -70,8 +68,7 @@ class Op:
         return self.kind != "Fence" and len(self.address) == 1
 
 
-@dataclass(frozen=True)
-class Test:
+class Test(NamedTuple):
     """A test: its cores, its dependencies by places, and what it states."""
 
     cores: tuple[tuple[Op, ...], ...]
@@ -100,8 +97,8 @@ class Test:
 
     @property
     def opened(self) -> "Test":
-        cores = tuple(tuple(replace(op, is_open=op.kind == "Read") for op in core) for core in self.cores)
-        return replace(self, cores=cores)
+        cores = tuple(tuple(op._replace(is_open=op.kind == "Read") for op in core) for core in self.cores)
+        return self._replace(cores=cores)
 
     def rows_shown_by(self, outcomes: Iterable[Outcome]) -> set[Reads]:
         """What the open reads get in those of the outcomes that are stated ones: by the values of the reads that are not open,
@@ -134,8 +131,8 @@ def test_of_text(whole: str) -> Test:
         if address:
             virtual = int(tag), int(index)
             is_open = OPEN.search(value) is not None
-            op = replace(op, address=numbers(address), virtual=virtual, is_open=is_open)
-            op = op if is_open else replace(op, value=value_of(value))
+            op = op._replace(address=numbers(address), virtual=virtual, is_open=is_open)
+            op = op if is_open else op._replace(value=value_of(value))
         lines[here].append((int(g), int(n), op))
     dependencies = {(kind, names[int(g), int(n)], names[int(h), int(m)]) for kind, g, n, h, m in DEPENDENCY.findall(text)}
     values = {(word, numbers(address)): value_of(value) for word, address, value in VALUE.findall(text)}

@@ -17,7 +17,6 @@ program that differs is printed. With --between two models are compared. A compa
 """
 import os
 import signal
-import sys
 from argparse import ArgumentParser, ArgumentTypeError, Namespace, RawDescriptionHelpFormatter
 from glob import escape as glob_escape
 from glob import glob
@@ -25,19 +24,17 @@ from glob import glob
 # quietly, up to where the workers are ended with this process
 if signal.getsignal(signal.SIGINT) is not signal.SIG_IGN:
     signal.signal(signal.SIGINT, signal.SIG_DFL)
-sys.dont_write_bytecode = True
 
 from tools import TOP
-from tools.agree.comparing import (
-    Other, Pair, Refused, difference, is_allowed, machine_of, model_of, named_memory_model, pattern_of, sweeper, take, test_of
-)
+from tools.agree.comparing import Other, Pair, Refused, difference, is_allowed, machine_of, model_of, named_memory_model
+from tools.agree.comparing import pattern_of, sweeper, take, test_of
 from tools.agree.comparing_programs import Comparison
 from tools.agree.small_programs import MOST_ACCESSES, MOST_LOCATIONS, Shape, shapes_of
 from tools.agree.table import TABLE, rows_of
 from tools.agree.working import ENDING, Counts, Unusable, Workers, tell
 from tools.ending import SIGNALS
 from tools.second.patterns import ENDING as PATTERN
-from tools.second.standard_output import FAILED, UNREAD, status_of
+from tools.second.standard_output import FAILED, UNREAD
 from tools.suite.words import folder_of
 from tools.texts.contents import Unreadable
 from tools.texts.quoting import quoted, shown
@@ -215,7 +212,3 @@ def fault_of(options: Namespace) -> str:
     if options.between and (not making or options.machine or options.files):
         return "--between compares two models on the programs of --all or --random, and with no machine"
     return ""
-
-
-if __name__ == "__main__":
-    sys.exit(SIGNALS.status_or_end(lambda: status_of(main, sys.argv[1:])))

@@ -4,10 +4,9 @@ They ask what a model and its machine make of the same program, and search for n
 by part as long as a question about it keeps its answer.
 """
 from collections import Counter
-from dataclasses import dataclass, replace
 from math import prod
 from random import Random
-from typing import Callable, Iterator, Sequence, TypeVar
+from typing import Callable, Iterator, NamedTuple, Sequence, TypeVar
 
 from tools.agree.litmus import with_item
 
@@ -20,8 +19,7 @@ LETTERS = {"Exchange": "X"}
 Item = TypeVar("Item")
 
 
-@dataclass(frozen=True)
-class Made:
+class Made(NamedTuple):
     """An instruction: the number of its core, what it is, its type names, the number of its address, what it writes. It
     is one micro-op, but for an exchange, which is a locked read and write."""
 
@@ -51,8 +49,7 @@ class Made:
         return f"{words} (VA {self.address} 0) (PA {self.address} 0) (Data {value})"
 
 
-@dataclass(frozen=True)
-class Program:
+class Program(NamedTuple):
     """The instructions core by core, each core's in program order; dependencies by their places; the final value that
     is stated of an address; what the pattern is called."""
 
@@ -76,7 +73,7 @@ class Program:
         rest = [(kind, i, j) for kind, i, j in self.dependencies if place not in (i, j)]
         moved = tuple((kind, i - (i > place), j - (j > place)) for kind, i, j in rest)
         is_written = self.final in [(op.address, op.value) for op in ops if op.writes]
-        return replace(self, ops=ops, dependencies=moved, final=self.final if is_written else None)
+        return self._replace(ops=ops, dependencies=moved, final=self.final if is_written else None)
 
     @property
     def rows(self) -> int:
@@ -89,13 +86,13 @@ class Program:
         """The programs that have one part less: a micro-op, the final value, a dependency, a type."""
         yield from map(self.without, range(len(self.ops)))
         if self.final is not None:
-            yield replace(self, final=None)
+            yield self._replace(final=None)
         for dependency in self.dependencies:
-            yield replace(self, dependencies=tuple(other for other in self.dependencies if other != dependency))
+            yield self._replace(dependencies=tuple(other for other in self.dependencies if other != dependency))
         for place, op in enumerate(self.ops):
             for name in op.types:
-                less = replace(op, types=tuple(other for other in op.types if other != name))
-                yield replace(self, ops=with_item(self.ops, place, less))
+                less = op._replace(types=tuple(other for other in op.types if other != name))
+                yield self._replace(ops=with_item(self.ops, place, less))
 
 
 def choose(random: Random, items: Sequence[Item]) -> Item:
@@ -153,7 +150,7 @@ def random_access(random: Random, core: int, address: int, types: tuple[str, ...
 
 def with_value(random: Random, op: Made, place: int) -> Made:
     """A micro-op at its place in the program. A write has a value of its own most of the time."""
-    return replace(op, value=choose(random, (place + 1,) * 4 + (1,))) if op.kind == "Write" else op
+    return op._replace(value=choose(random, (place + 1,) * 4 + (1,))) if op.kind == "Write" else op
 
 
 def some_types(random: Random, types: tuple[str, ...], count: int) -> tuple[str, ...]:

@@ -8,7 +8,7 @@ from collections import Counter
 from dataclasses import dataclass
 from itertools import combinations_with_replacement, groupby, permutations, product
 from math import factorial, prod
-from typing import Iterator, Sequence
+from typing import Iterator, NamedTuple, Sequence
 
 from tools.agree.programs import Made, Program
 
@@ -24,8 +24,7 @@ Shape = tuple[int, ...]
 Order = tuple[int, ...]
 
 
-@dataclass(frozen=True, order=True)
-class Line:
+class Line(NamedTuple):
     """What a core does, but for the addresses: its accesses, and between two of them a fence's type or nothing."""
 
     accesses: tuple[str, ...]
@@ -118,8 +117,7 @@ def shapes_of(words: str) -> tuple[Shape, ...]:
 
 
 def cycles(count: int, longest: int | None = None) -> Iterator[tuple[int, ...]]:
-    """All ways in which so many things are parted: as cycles of an exchange, or as accesses of cores. The longest part
-    stands first."""
+    """All ways in which so many things are parted, the longest part first: as cycles of an exchange, or as accesses of cores."""
     if count == 0:
         yield ()
     for part in range(min(count, longest or count), 0, -1):

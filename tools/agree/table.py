@@ -4,19 +4,15 @@
     python3 tools table translation >examples/translation/memory-models.tsv
 
 The first has the tests of examples/tests, and the listings of examples/x86, whose names keep their endings; those of
-examples/locked, with locked instructions, have rows for the machines that take them. The second has the tests with
-page-table entries, for the machine that has them. Each row is found by running the machine of the memory model. Where a
-paper states the same outcome of the same test, the row names it too. The last column is the SHA-256 hash of the test's
-bytes: examples/suite takes a row for these bytes alone. So the tables are written anew where a machine, a test or a
-byte of a test is new. """
+examples/locked, with locked instructions, have rows for the machines that take them. The second has the tests with page-table
+entries, for the machine that has them. Each row is found by running the machine of the memory model. Where a paper states the
+same outcome of the same test, the row names it too. The last column is the SHA-256 hash of the test's bytes: examples/suite takes
+a row for these bytes alone. So the tables are written anew where a machine, a test or a byte of a test is new. """
 import os
-import sys
 from glob import escape, glob
 from hashlib import sha256
 from importlib import import_module
 from typing import Iterator
-
-sys.dont_write_bytecode = True
 
 from tools import TOP
 from tools.agree.listing import read_file
@@ -39,8 +35,8 @@ def rows_of(folder: str) -> Iterator[tuple[str, str, bool]]:
         yield cells["memory model"], cells["test"], cells["allowed"] == "yes"
 
 
-def main(words: list[str]) -> None:
-    kinds, machines = (("translation/*.test",), ("tlb",)) if words == ["translation"] else (KINDS, MACHINES)
+def main(*words: str) -> None:
+    kinds, machines = (("translation/*.test",), ("tlb",)) if words == ("translation",) else (KINDS, MACHINES)
     paths = [path for kind in kinds for path in glob(f"{escape(TOP)}/examples/{kind}")]
     named = sorted((os.path.basename(path).removesuffix(".test"), path) for path in paths)
     tests = [(name, read_file(path), sha256(contents(path)).hexdigest()) for name, path in named]
@@ -52,7 +48,3 @@ def main(words: list[str]) -> None:
                 allowed = "yes" if test.rows_shown_by(module.outcomes(test)) else "no"
                 paper = f"; {X86_TSO}" if machine == "tso" and name in OF_X86_TSO else ""
                 print(machine, name, allowed, f"machine tools/agree/machines/{machine}.py{paper}", digest, sep="\t")
-
-
-if __name__ == "__main__":
-    main(sys.argv[1:])

@@ -109,7 +109,3 @@ def main(name: str, *words: str) -> int:
         return NOT_RUN
     print(*lines, sep="\n")
     return 0
-
-
-if __name__ == "__main__":
-    sys.exit(main(*sys.argv[1:]))

@@ -14,9 +14,9 @@ from itertools import islice
 from multiprocessing import active_children, get_context, parent_process
 from threading import Thread
 from types import TracebackType
-from typing import Callable, Generic, Iterable, Iterator, TypeVar
+from typing import Callable, Generic, Iterable, Iterator, NamedTuple, TypeVar
 
-from tools.ending import PATIENCE, SIGNALS
+from tools.ending import SIGNALS
 from tools.second.standard_output import FAILED
 
 # a reader that goes away asks for an end, too
@@ -34,8 +34,7 @@ class Unusable(Exception):
     """Nothing can be compared, and why."""
 
 
-@dataclass(frozen=True)
-class Failed:
+class Failed(NamedTuple):
     """A task that was not judged, and why."""
 
     why: str
@@ -128,17 +127,9 @@ class Workers(Generic[Task, Answer]):
                 return
             task, future = begun.popleft()
             try:
-                yield task, result_of(future)
+                yield task, SIGNALS.patient(future.result, NotYet)
             except BrokenProcessPool as error:
                 raise Unusable("a process that compares was ended from outside, as where memory ends") from error
-
-
-def result_of(future: "Future[Answer]") -> Answer:
-    """What a task gives."""
-    while True:
-        with suppress(NotYet):
-            return future.result(PATIENCE)
-        SIGNALS.look()
 
 
 def begin_work() -> None:

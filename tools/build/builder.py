@@ -8,13 +8,9 @@
 The status is 0 where it is done. What stood before is kept until then. A signal that asks for an end ends all that was started
 here, and removes the copy.
 """
-from __future__ import annotations
-
 import contextlib
-import fcntl
 import os
 import shutil
-import sys
 from typing import Callable, Iterator
 
 from tools import TOP
@@ -54,11 +50,7 @@ def refuse(what: str) -> None:
 def in_turn(kind: str) -> Iterator[None]:
     """While no other call makes that program, or clears it away."""
     with open(f"{OUT}/{kind}_lock", "wb") as lock:
-        try:
-            fcntl.flock(lock, fcntl.LOCK_EX | fcntl.LOCK_NB)
-        except BlockingIOError:
-            say("another call is building the program: waiting for it")
-            SIGNALS.lock(lock.fileno())
+        SIGNALS.lock(lock.fileno(), lambda: say("another call is building the program: waiting for it"))
         yield
 
 
@@ -143,7 +135,3 @@ def main(work: str, *words: str) -> int:
         put_over("")
         raise
     return 0
-
-
-if __name__ == "__main__":
-    sys.exit(SIGNALS.status_or_end(lambda: main(*sys.argv[1:])))

@@ -1,15 +1,11 @@
 """Proves the program's crates and builds the program. `rt ci` proves the libraries, in a copy, since it takes no repository inside
 another one. Over them one call proves the program and compiles it by LLVM, with all processors, and another links it: `rt ci` would
 have it compiled by two compilers, since it runs what both make and compares, and that is for the gate."""
-
-from __future__ import annotations
-
 import contextlib
 import os
 import re
 import subprocess
 import tempfile
-from typing import Optional
 
 from tools.build.making import PROGRAM, Failed, Job, linking, toolchain, uses_of
 
@@ -46,11 +42,9 @@ def free_memory() -> float:
     return free
 
 
-def jobs_for(processors: int, memory: float) -> Optional[int]:
+def jobs_for(processors: int, memory: float) -> int | None:
     """How many crates are proved at a time: as many as memory holds; None where that is left to `rt`."""
-    if memory >= processors * PLENTY:
-        return None
-    return int(max(1, min(processors, memory // NEED)))
+    return None if memory >= processors * PLENTY else int(max(1, min(processors, memory // NEED)))
 
 
 def processors() -> int:

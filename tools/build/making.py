@@ -1,8 +1,5 @@
 """What both makers of the program share: make_program.py, which proves it, and make_unproved.py, which compiles it without its
 proofs. A program that was made stands for its sources by its note; what stood before is kept until then."""
-
-from __future__ import annotations
-
 import contextlib
 import hashlib
 import os
@@ -12,7 +9,7 @@ import subprocess
 import tempfile
 import time
 from dataclasses import dataclass, field
-from typing import IO, ClassVar, Optional
+from typing import IO, ClassVar
 
 from tools import TOP
 from tools.build.processes import SIGNALS, end_group
@@ -35,7 +32,7 @@ class NothingMade(Failed):
     """The toolchain did nothing by the words that it was given, as where its words are others."""
 
 
-def asked(words: str) -> Optional[str]:
+def asked(words: str) -> str | None:
     """What a command prints, or a function of script/build; None where it fails."""
     done = subprocess.run(
         ["bash", "-p", "-c", f'top=$1; . "$top/script/calls" && {words}', "asked", TOP], stdin=subprocess.DEVNULL,
@@ -159,7 +156,7 @@ class Job:
             # what a link leads to is what the hash of the sources is of
             shutil.copytree(crate, f"{to}/crates/{it}", ignore=left_out)
 
-    def run(self, words: list[str], folder: str, said: Optional[IO[bytes]] = None) -> int:
+    def run(self, words: list[str], folder: str, said: IO[bytes] | None = None) -> int:
         """Runs a command of the toolchain to its end, as a group of processes of its own, with a line on a terminal that says how far
         the work is. What it says goes to the log, or to this file. Returns its status."""
         out = said or self.log

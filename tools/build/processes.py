@@ -1,13 +1,10 @@
 """Processes that end before this one does, however this one is asked to end."""
-
-from __future__ import annotations
-
 import contextlib
 import os
 import signal
 import subprocess
 from types import FrameType
-from typing import Iterable, Iterator, Optional
+from typing import Iterable, Iterator
 
 from tools import ending
 
@@ -16,8 +13,7 @@ PATIENCE = 5
 
 
 class Signals(ending.Signals):
-    """What asks for an end; and Ctrl-Z, which the terminal sends to this process's group alone: it stops what was begun here
-    too."""
+    """What asks for an end; and Ctrl-Z, which the terminal sends to this process's group alone: it stops what began here too."""
 
     def __init__(self) -> None:
         super().__init__()
@@ -29,7 +25,7 @@ class Signals(ending.Signals):
         if signal.getsignal(signal.SIGTSTP) is not signal.SIG_IGN:
             signal.signal(signal.SIGTSTP, self.stop)
 
-    def stop(self, _: int, __: Optional[FrameType]) -> None:
+    def stop(self, _: int, __: FrameType | None) -> None:
         self.is_stop_held = self.is_held
         if not self.is_held:
             for it in self.leaders:

@@ -1,6 +1,4 @@
 """What `--version` says in a checkout: its commit, the logic that the program was proved by, and which program stands."""
-from __future__ import annotations
-
 import hashlib
 import os
 import subprocess
@@ -10,8 +8,7 @@ from tools.build.making import OUT, asked, crates
 
 
 def here(*words: str) -> bytes | None:
-    """What a command of git writes of this checkout; None where it fails. Variables of git's own would name another one, or other
-    files."""
+    """What a command of git writes of this checkout; None where it fails. Variables of git's own would name other places."""
     own = {name: value for name, value in os.environ.items() if not name.startswith("GIT_")}
     try:
         done = subprocess.run(

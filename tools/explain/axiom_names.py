@@ -5,24 +5,22 @@
 
 The exit status is 0, or 125 where the files are none that the program can have answered.
 """
-import sys
+from pathlib import Path
 from typing import Iterator
 
-from tools.explain.files import contents
 from tools.second.models import Axiom
 from tools.second.scopes import read_model
-from tools.second.standard_output import FAILED, status_of
+from tools.second.standard_output import FAILED
 from tools.second.tokens import Fault, tokens
 from tools.texts.answers import AnswerRefused, Core, read_answer
-from tools.texts.naming import line_and_column
-from tools.texts.quoting import shown
+from tools.texts.quoting import line_and_column, shown
 
 
 def of_core(model_path: str, answer_path: str) -> Iterator[str]:
     """A line for each axiom of a core."""
-    text = contents(model_path)
+    text = Path(model_path).read_bytes()
     model = read_model(text)
-    answer = read_answer(contents(answer_path), model)
+    answer = read_answer(Path(answer_path).read_bytes(), model)
     axioms: list[Axiom] = model.axioms
     for number in answer.kept or [] if isinstance(answer, Core) else []:
         place = line_and_column(text, axioms[number].at)
@@ -31,7 +29,7 @@ def of_core(model_path: str, answer_path: str) -> Iterator[str]:
 
 def of_query(model_path: str, query_path: str) -> Iterator[str]:
     """What the query is in both models."""
-    number, query = len(read_model(contents(model_path)).axioms), contents(query_path)
+    number, query = len(read_model(Path(model_path).read_bytes()).axioms), Path(query_path).read_bytes()
     place = f"{shown(query_path)}:{line_and_column(query, tokens(query)[0].at)}"
     yield f"{place}: axiom {number} of `with`: the query"
     yield f"{place}: axiom {number} of `against`: the denial of the query"
@@ -45,7 +43,3 @@ def main(word: str, model_path: str, other_path: str) -> int:
         return FAILED
     print("".join(f"{line}\n" for line in lines), end="")
     return 0
-
-
-if __name__ == "__main__":
-    sys.exit(status_of(main, sys.argv[1:]))

@@ -70,10 +70,8 @@ class Branches(ABC, Generic[Side]):
         return indent(self.level, self.width)
 
     def open_branches(self, step: str, left: Side, right: Side, split: str, mark: int) -> Iterator[str]:
-        """Goes on with the left side of the present step, which splits, and has the right one wait, with the step that splits
-        it in turn."""
-        right_at = self.ends[self.here + 1]
-        self.waiting.append(Waiting(right_at, f"right of {step}", right, split, mark, self.level))
+        """Goes on with the left side of the present step; the right one waits, with the step that splits it in turn."""
+        self.waiting.append(Waiting(self.ends[self.here + 1], f"right of {step}", right, split, mark, self.level))
         yield from self.begin(f"left of {step}", left)
         self.level += 1
         self.here += 1

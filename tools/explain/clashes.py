@@ -12,9 +12,7 @@ MOST_FACTS = 4
 MOST_BRANCHES = 4
 MOST_COMMON = 3
 ENDS = {
-    "cycle": "a cycle",
-    "path": "an order that is denied",
-    "absent": "a node that is denied",
+    "cycle": "a cycle", "path": "an order that is denied", "absent": "a node that is denied",
     "false": "what is false in this test",
 }
 HEADINGS = {"cycle": "no order has one", "path": "this order is asked for and denied"}
@@ -55,8 +53,7 @@ def clash_nodes(word: str, facts: list[Fact]) -> list[Node]:
     if word == "absent":
         return [facts[-1][0]]
     chain = facts if word == "cycle" else facts[:-1]
-    ends = [end for _, end, _ in chain if end is not None]
-    return [chain[0][0], *ends]
+    return [chain[0][0], *(end for _, end, _ in chain if end is not None)]
 
 
 def clash_heading(names: Names, word: str, facts: list[Fact]) -> str:
@@ -64,16 +61,11 @@ def clash_heading(names: Names, word: str, facts: list[Fact]) -> str:
     return HEADINGS.get(word) or f"{names.node(clash_nodes(word, facts)[0])} is asked for and denied"
 
 
-def is_long(facts: list[Fact]) -> bool:
-    """Whether a clash has more facts than a line has room for."""
-    return len(facts) > MOST_FACTS
-
-
 def clash_reason(names: Names, word: str, facts: list[Fact], new: list[Fact]) -> str:
     """Why a side cannot be that adds the new ones of these facts. Where it only denies what the others say, or says
     what they deny, they say so. The orders of a long clash are left out."""
     others = [fact for fact in facts if fact not in new]
-    chain = "" if is_long(facts) else names.chain(clash_nodes(word, facts))
+    chain = "" if len(facts) > MOST_FACTS else names.chain(clash_nodes(word, facts))
     said = " and ".join(map(names.fact, new))
     if word == "cycle":
         made = f"{said} closes a cycle" if said else "there is a cycle"

@@ -1,6 +1,7 @@
 """What is said of a file, in the words of the model: a certificate, or an answer of `core` or of `ask`. Each certificate has to be
 one that a judge accepted."""
 from itertools import chain
+from pathlib import Path
 from typing import Iterator
 
 from tools.explain.lifted_refutations import LiftedRefutation
@@ -12,15 +13,12 @@ from tools.second.models import Axiom, Model
 from tools.second.queries import read_query
 from tools.second.scopes import read_model
 from tools.texts.answers import Answer, Asked, Core, Part, is_answer, model_of, read_answer
-from tools.texts.naming import Names, case_with_names, line_and_column
+from tools.texts.naming import Names, case_with_names
 from tools.texts.origins import TracedPositions
-from tools.texts.quoting import shown
+from tools.texts.quoting import line_and_column, shown
 from tools.texts.wrapping import width_of_output, within
 
-VERDICTS = {
-    "observable": "a run of this model shows the outcome",
-    "unobservable": "no run of this model shows the outcome",
-}
+VERDICTS = {"observable": "a run of this model shows the outcome", "unobservable": "no run of this model shows the outcome"}
 WORDS = {
     "always": "the query holds in all worlds of the model on this test, and there are some",
     "never": "the query holds in no world of the model on this test, and there are some",
@@ -30,21 +28,15 @@ WORDS = {
 ADDED = {"with": "the query", "against": "the denial of the query"}
 
 
-def contents(path: str) -> bytes:
-    """The bytes of a file."""
-    with open(path, "rb") as file:
-        return file.read()
-
-
 def explain_files(
     model_name: str, model_path: str, test_path: str, certificate_path: str, query_path: str = "", query_name: str = ""
 ) -> Iterator[str]:
     """The lines that are said of the certificate or answer, which judges have accepted, as wide as the output may be. An answer
     of `ask` has a query beside it. The model is called by its name, and so is the query where it has one."""
-    text, data, width = contents(model_path), contents(certificate_path), width_of_output()
-    model, case = read_model(text), case_with_names(test_path, contents(test_path))
+    text, data, width = Path(model_path).read_bytes(), Path(certificate_path).read_bytes(), width_of_output()
+    model, case = read_model(text), case_with_names(test_path, Path(test_path).read_bytes())
     if is_answer(data):
-        query = contents(query_path) if query_path else b""
+        query = Path(query_path).read_bytes() if query_path else b""
         lines = explain_answer(model, case, text, model_name, read_answer(data, model), query, query_name or query_path, width)
     else:
         lines = explain(model, case, text, model_name, data.decode("ascii").split("\n")[:-1], width)
@@ -62,9 +54,7 @@ def parts_of(model: Model, text: bytes, answer: Answer, query: bytes) -> Iterato
         yield part.at, 0 if part.lines[0] == "observable" else 1, written, certificate
 
 
-def explain(
-    model: Model, case: Case, model_text: bytes, model_name: str, certificate: list[str], width: int
-) -> Iterator[str]:
+def explain(model: Model, case: Case, model_text: bytes, model_name: str, certificate: list[str], width: int) -> Iterator[str]:
     """The lines that are said of the lines of a certificate: the verdict, the key, what places are of, and the rest."""
     names = Names(model, case, model_text)
     verdict = [f"{certificate[0]}: {VERDICTS[certificate[0]]}", certificate[1], ""]
@@ -97,8 +87,7 @@ def key(case: Case, names: Names) -> Iterator[str]:
     for kind, start, end in sorted(case.dependencies, key=lambda one: (*one[1:], one[0])):
         yield f"  {kind} dependency from {names.microop(start)} to {names.microop(end)}"
     for word, values in (("at the start", case.initial), ("at the end", case.final)):
-        for page, value in values.items():
-            yield f"  {word} {names.page(page)} = {value}"
+        yield from (f"  {word} {names.page(page)} = {value}" for page, value in values.items())
     called = [f"[{name}] is {page}" for page, name in names.pages.items() if name != str(page)]
     if called:
         yield "  " + ", ".join(called)

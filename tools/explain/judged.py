@@ -6,29 +6,27 @@ Without a certificate the program makes it. PIPECHECK names another judge. docs/
 """
 import os
 import shutil
-import signal
-import sys
 import tempfile
 from contextlib import contextmanager, suppress
+from pathlib import Path
 from typing import Iterator, Sequence
 
 from tools import TOP
 from tools.ending import SIGNALS
-from tools.explain.files import contents, explain_files, parts_of
+from tools.explain.files import explain_files, parts_of
 from tools.second.listings import ENDING
 from tools.second.queries import InModel
 from tools.second.scopes import read_model
-from tools.second.standard_output import FAILED, UNREAD, UNWRITTEN, status_of
+from tools.second.standard_output import FAILED, UNREAD, UNWRITTEN
 from tools.second.tokens import Fault
-from tools.suite.calling import Calls, limited, memory_limit, side_by_side
+from tools.suite.calling import Calls, limited, memory_limit, said_by
 from tools.suite.programs import command_of
 from tools.suite.telling import Refusal, tell
 from tools.telling.files import unreadable
 from tools.telling.refusals import place_of, refusal_of, told
 from tools.texts.answers import AnswerRefused, is_answer, read_answer
-from tools.texts.naming import line_and_column
 from tools.texts.origins import TooLarge
-from tools.texts.quoting import quoted
+from tools.texts.quoting import line_and_column, quoted
 
 # how long a model, a test or a query may be, and a certificate
 MOST, MOST_OF_CERTIFICATE = 1_048_576, 67_108_864
@@ -105,16 +103,8 @@ class Judge:
         self.kib = memory_limit(os.environ.get("PIPECHECK_MEMORY", ""))
 
     def call(self, word: str, paths: Sequence[str]) -> tuple[int, bytes]:
-        """The status of a call, and what it writes. A signal comes to this thread and ends the call."""
-        with tempfile.TemporaryFile(dir=self.folder) as out:
-            command = limited([*self.command, word, *paths], self.kib, None)
-
-            def work() -> int | None:
-                return self.calls.finished(self.calls.started(command, out, None, signal.SIGTERM), None)
-
-            (status,) = side_by_side(self.calls, 1, [work], lambda _, __: None)
-            out.seek(0)
-            return status or 0, out.read()
+        """The status of a call, and what it writes."""
+        return said_by(self.calls, limited([*self.command, word, *paths], self.kib, None), self.folder)
 
     def copied(self, name: str, path: str, most: int) -> str:
         """The path, or where the file can be read only once, as a pipe, that of a copy with the file's ending. Of a file past the
@@ -147,12 +137,12 @@ def judge_answer(judge: Judge, word: str, names: Sequence[str], paths: list[str]
     status, text = judge.call(word, paths[:3])
     if status != CERTIFICATE_REFUSED:
         raise meaning(status, text, word, names[:3])
-    model_text, data = contents(paths[0]), contents(paths[2])
+    model_text, data = Path(paths[0]).read_bytes(), Path(paths[2]).read_bytes()
     if data.startswith(b"ask ") is not (len(paths) == 4):
         raise failed(ONLY_ASK if len(paths) == 4 else f"an answer of ask is explained beside its query: {FORM}")
     model = read_model(model_text)
     try:
-        query = contents(paths[3]) if len(paths) == 4 else b""
+        query = Path(paths[3]).read_bytes() if len(paths) == 4 else b""
     except OSError as error:
         raise Unexplained(UNREAD, list(unreadable(names[3:]))) from error
     try:
@@ -232,7 +222,3 @@ def main(program: str, *names: str) -> int:
     except (AnswerRefused, Fault, TooLarge, UnicodeDecodeError) as problem:
         tell(f"explain: not explained: {problem}")
     return FAILED
-
-
-if __name__ == "__main__":
-    sys.exit(SIGNALS.status_or_end(lambda: status_of(main, sys.argv[1:])))

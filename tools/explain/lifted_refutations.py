@@ -1,6 +1,5 @@
 """A lifted refutation in the words of the model. The text has to be one that a judge accepted."""
-from dataclasses import dataclass, replace
-from typing import Iterator, Sequence
+from typing import Iterator, NamedTuple, Sequence
 
 from tools.explain.branches import Branches
 from tools.explain.clashes import clash_heading, clash_reason
@@ -21,8 +20,7 @@ MOST_MEMBERS = 12
 LEVELS = {"=>": 0, "\\/": 1, "/\\": 2}
 
 
-@dataclass(frozen=True)
-class Noted:
+class Noted(NamedTuple):
     """A fact with the names of its variables' values, and with where it comes from: the axiom, by its number too."""
 
     fact: Fact
@@ -30,15 +28,20 @@ class Noted:
     axiom: int
     origin: Origin
 
+    @property
+    def said(self) -> Said:
+        """The fact, of a formula."""
+        assert isinstance(self.fact, Said)
+        return self.fact
 
-def literal(noted: Noted) -> NamedFact:
-    """The node or the edge of a fact that is one."""
-    assert isinstance(noted.fact, Literal)
-    return noted.fact.start, noted.fact.end, noted.fact.wanted
+    @property
+    def literal(self) -> NamedFact:
+        """The node or the edge of a fact that is one."""
+        assert isinstance(self.fact, Literal)
+        return self.fact.start, self.fact.end, self.fact.wanted
 
 
-@dataclass(frozen=True)
-class ClosedBy:
+class ClosedBy(NamedTuple):
     """A line that closes a branch: its word, and its facts with their numbers."""
 
     word: str
@@ -80,8 +83,7 @@ class LiftedRefutation(Branches[Noted]):
     def adding(self, word: str, rest: list[str]) -> Noted:
         """The fact that a line adds, which is a part of another one."""
         above = self.facts[int(rest[0])]
-        assert isinstance(above.fact, Said)
-        part = self.rules.part_of(above.fact, word, rest[-1])
+        part = self.rules.part_of(above.said, word, rest[-1])
         assert part is not None
         return self.part(above, part, int(rest[-1]) if word == "member" else 0, rest[-1])
 
@@ -110,13 +112,12 @@ class LiftedRefutation(Branches[Noted]):
 
     def sides(self, above: Noted) -> tuple[Noted, Noted]:
         """Both sides of a fact."""
-        assert isinstance(above.fact, Said)
-        sides = self.rules.sides(above.fact)
+        sides = self.rules.sides(above.said)
         assert sides is not None
-        start, formula = above.fact.start, above.fact.formula
-        name = self.member(formula, start) if isinstance(formula, Quantified) else ""
+        start, formula = above.said.start, above.said.formula
+        name = self.rules.names(formula)[start] if isinstance(formula, Quantified) else ""
         goes_on = isinstance(sides[1], Said) and sides[1].formula is formula
-        second = replace(above, fact=sides[1]) if goes_on else self.part(above, sides[1], 0, "")
+        second = above._replace(fact=sides[1]) if goes_on else self.part(above, sides[1], 0, "")
         return self.part(above, sides[0], start, name), second
 
     def leaf(self) -> Iterator[str]:
@@ -124,13 +125,13 @@ class LiftedRefutation(Branches[Noted]):
         step = self.steps[self.here]
         word, *rest = step.split(" ")
         facts = [self.facts[int(number)] for number in rest]
-        clash = [] if word == "false" else [literal(noted) for noted in facts]
+        clash = [] if word == "false" else [noted.literal for noted in facts]
         self.closed.add(word, clash, [self.names.axiom(noted.origin.axiom) for noted in facts])
         if word == "false":
             yield f"{self.indent()}{step}: {self.falsity(facts[0])}"
         else:
             facts = facts[::-1] if word == "absent" else facts
-            yield f"{self.indent()}{step}: {clash_heading(self.names, word, [literal(noted) for noted in facts])}"
+            yield f"{self.indent()}{step}: {clash_heading(self.names, word, [noted.literal for noted in facts])}"
             yield from (f"{self.indent()}  {self.plain(noted)}{GAP}{self.origin(noted)}" for noted in facts)
         yield from self.next_branch()
 
@@ -174,53 +175,42 @@ class LiftedRefutation(Branches[Noted]):
                 return self.clash_reason(leaf)
         if len(leaves) == 1:
             return self.falsity(leaves[0].facts[0][1])
-        assert isinstance(side.fact, Said)
-        if side.fact.start:
+        if side.said.start:
             return f"{self.plain(side)}, is false in this test"
-        return f"{self.shown(side)} is {'false' if side.fact.holds else 'true'} in this test"
+        return f"{self.shown(side)} is {'false' if side.said.holds else 'true'} in this test"
 
     def clash_reason(self, leaf: ClosedBy) -> str:
         """What clashes with a side; the facts that were there before it by their numbers."""
         facts = leaf.facts[::-1] if leaf.word == "absent" else leaf.facts
         known = [str(number) for number, _ in facts if number < len(self.facts)]
-        new = [literal(noted) for number, noted in facts if number >= len(self.facts)]
+        new = [noted.literal for number, noted in facts if number >= len(self.facts)]
         numbers = " and ".join([", ".join(known[:-1]), known[-1]] if known[1:] else known)
         by = f", fact{'s' if known[1:] else ''} {numbers}" if known else ""
-        return clash_reason(self.names, leaf.word, [literal(noted) for _, noted in facts], new) + by
+        return clash_reason(self.names, leaf.word, [noted.literal for _, noted in facts], new) + by
 
     def falsity(self, noted: Noted) -> str:
         """Why a fact is false in this test."""
-        assert isinstance(noted.fact, Said)
-        formula = noted.fact.formula
+        formula = noted.said.formula
         if isinstance(formula, Static):
-            return f"{self.formula(formula, noted)} {'does not hold' if noted.fact.holds else 'holds'} in this test"
+            return f"{self.formula(formula, noted)} {'does not hold' if noted.said.holds else 'holds'} in this test"
         return f"no {formula.name} is left" if isinstance(formula, Quantified) else "no member of the list is left"
 
-    # the facts
-
     def part(self, above: Noted, part: Fact, place: int, name: str) -> Noted:
-        """A part of a fact: the member of a list at a place, the body of a quantifier at what has this name, or a
-        side."""
-        assert isinstance(above.fact, Said)
-        formula, origin = above.fact.formula, above.origin
-        values = above.values
+        """A part of a fact: the member of a list at a place, the body of a quantifier at what has this name, or a side."""
+        formula, origin, values = above.said.formula, above.origin, above.values
         if isinstance(part, Literal):
             assert isinstance(formula, (Nodes, Edges))
             label = getattr(formula.members[place], "label", "")
-            return replace(above, fact=part, origin=replace(origin, label=label))
+            return above._replace(fact=part, origin=origin._replace(label=label))
         if isinstance(formula, Quantified):
             values = {**values, formula.name: name}
             taken = Taken(formula.name, formula.over_microops, part.env[formula.name])
-            origin = replace(origin, taken=(*origin.taken, taken))
+            origin = origin._replace(taken=(*origin.taken, taken))
         elif isinstance(formula, Expand):
             parameters = [parameter.name for parameter in self.rules.macros[formula.macro.name].parameters]
             values = {**values, **dict(zip(parameters, [written(arg, values) for arg in formula.args]))}
-            origin = replace(origin, macro=formula.macro.name)
-        return Noted(part, values, above.axiom, replace(origin, at=first_place(part.formula)))
-
-    def member(self, formula: Quantified, place: int) -> str:
-        """The name of the value at a place of a range."""
-        return self.names.microop(place) if formula.over_microops else str(place)
+            origin = origin._replace(macro=formula.macro.name)
+        return Noted(part, values, above.axiom, origin._replace(at=first_place(part.formula)))
 
     # how they are written
 
@@ -233,7 +223,7 @@ class LiftedRefutation(Branches[Noted]):
         """A fact."""
         fact = noted.fact
         if isinstance(fact, Literal):
-            return self.names.fact(literal(noted))
+            return self.names.fact(noted.literal)
         is_whole = fact.holds or not isinstance(fact.formula, (Binary, Quantified))
         text = self.shown(noted)
         signed = text if fact.holds else f"not {text}" if is_whole else f"not ({text})"
@@ -241,8 +231,7 @@ class LiftedRefutation(Branches[Noted]):
 
     def shown(self, noted: Noted) -> str:
         """The formula of a fact, cut short where it is long."""
-        assert isinstance(noted.fact, Said)
-        text = self.formula(noted.fact.formula, noted)
+        text = self.formula(noted.said.formula, noted)
         return text if len(text) <= MOST_CHARACTERS else text[:MOST_CHARACTERS].rsplit(" ", 1)[0] + " .."
 
     def start(self, fact: Said) -> str:
@@ -251,7 +240,7 @@ class LiftedRefutation(Branches[Noted]):
         name = formula.name if isinstance(formula, Quantified) else "member"
         if fact.start == self.rules.members(fact):
             return f", with no {name} left"
-        return f", from {name} {self.member(formula, fact.start) if isinstance(formula, Quantified) else fact.start} on"
+        return f", from {name} {self.rules.names(formula)[fact.start] if isinstance(formula, Quantified) else fact.start} on"
 
     def origin(self, noted: Noted) -> str:
         """Where a fact comes from."""
@@ -265,15 +254,13 @@ class LiftedRefutation(Branches[Noted]):
 
     def term(self, term: NodeTerm, noted: Noted) -> str:
         """A node where its variables have values, and otherwise its term."""
-        assert isinstance(noted.fact, Said)
         names = [term.op.name] + ([] if term.core is None or isinstance(term.core, Number) else [term.core.name])
         if all(name in noted.values for name in names):
-            return self.names.node(self.rules.node(term, noted.fact.env))
+            return self.names.node(self.rules.node(term, noted.said.env))
         return written(term, noted.values)
 
     def formula(self, formula: Formula, noted: Noted, level: int = 0, is_last: bool = True) -> str:
-        """A formula with the values of its variables in place of them, in brackets where something looser stands
-        there than may."""
+        """A formula with the values of its variables in place of them, in brackets where something looser stands than may."""
         match formula:
             case Not(operand):
                 return f"~{self.formula(operand, noted, 3, False)}"
@@ -283,7 +270,7 @@ class LiftedRefutation(Branches[Noted]):
                 return f"({text})" if here < level else text
             case Quantified(_, universal, over_microops, name, body):
                 words = f"{'forall' if universal else 'exists'} {'microop' if over_microops else 'core'} {name}, "
-                hidden = replace(noted, values={one: value for one, value in noted.values.items() if one != name})
+                hidden = noted._replace(values={one: value for one, value in noted.values.items() if one != name})
                 text = words + self.formula(body, hidden)
                 return text if is_last else f"({text})"
             case Expand() | Static():

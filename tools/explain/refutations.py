@@ -1,10 +1,9 @@
 """A refutation in the words of the model. The text has to be one that a judge accepted."""
-from dataclasses import dataclass
 from itertools import islice
-from typing import Iterator
+from typing import Iterator, NamedTuple
 
 from tools.explain.branches import Branches
-from tools.explain.clashes import clash_heading, clash_reason, is_long
+from tools.explain.clashes import MOST_FACTS, clash_heading, clash_reason
 from tools.second.judging import VERSION_2
 from tools.second.positions import Clash, Leaf, Signed
 from tools.texts.naming import Fact, Names
@@ -18,10 +17,8 @@ MOST_PARTS = 12
 Side = list[Signed]
 
 
-@dataclass(frozen=True)
-class Source:
-    """What asserted a fact of the present branch: a position, and the split whose side has it, by its name; without one
-    it holds on every branch."""
+class Source(NamedTuple):
+    """What asserted a fact: a position, and the split whose side has it, by its name; without one it holds on every branch."""
 
     position: int
     side: str
@@ -56,30 +53,21 @@ class Refutation(Branches[Side]):
     def split(self) -> Iterator[str]:
         """A split: one line where a side of it closes at once."""
         step = self.steps[self.here]
-        left, right = self.positions.sides(choice_of(step), self.version)
-        left_at, right_at = self.here + 1, self.ends[self.here + 1]
-        closed = self.closed_side(left_at, right_at)
-        if closed == "left":
-            yield from self.forced(step, left, left_at, right)
-            self.here = right_at
-        elif closed == "right":
-            yield from self.forced(step, right, right_at, left)
-            self.here = left_at
+        sides = self.positions.sides(choice_of(step), self.version)
+        places = self.here + 1, self.ends[self.here + 1]
+        # the sides that their first steps close; of both it is the one by fewer nodes, so that the other clash is seen whole
+        closed = [side for side in (0, 1) if not self.steps[places[side]].startswith("split ")]
+        if closed:
+            side = min(closed, key=lambda it: self.steps[places[it]].count(" "))
+            yield from self.forced(step, sides[side], places[side], sides[1 - side])
+            self.here = places[1 - side]
         else:
             yield f"{self.indent()}{step}: {self.names.origin(self.origin_of(step))}"
-            position, is_denied = right[-1]
-            yield from self.open_branches(step, left, right, f"split {'~' if is_denied else ''}{position}", len(self.facts))
-
-    def closed_side(self, left_at: int, right_at: int) -> str | None:
-        """The side of a split that is closed by its first step. Where both are it is the one that is closed by fewer
-        nodes, so that the other clash is seen whole."""
-        steps = {"left": self.steps[left_at], "right": self.steps[right_at]}
-        closed = [side for side, step in steps.items() if not step.startswith("split ")]
-        return min(closed, key=lambda side: steps[side].count(" ")) if closed else None
+            position, is_denied = sides[1][-1]
+            yield from self.open_branches(step, *sides, f"split {'~' if is_denied else ''}{position}", len(self.facts))
 
     def forced(self, step: str, closed: Side, closed_at: int, other: Side) -> Iterator[str]:
-        """The line of a split of which one side, closed by the step there, leaves the other. Those that come from one
-        formula stand below one heading."""
+        """The line of a split of which one side, closed there, leaves the other. Those of one formula stand below one heading."""
         heading = self.names.formula(self.origin_of(step))
         last = self.group[1] if self.group[0] == heading else ""
         if not last:
@@ -161,10 +149,8 @@ class Refutation(Branches[Side]):
             return self.names.fact(self.fact(row, is_denied))
         is_or = row.is_disjunction is not is_denied
         members = self.positions.members([(position, is_denied)], is_or)
-        parts = [
-            self.said(*it) if isinstance(self.positions.rows[it[0]], Leaf) else f"({self.said(*it)})"
-            for it in islice(members, MOST_PARTS)
-        ]
+        texts = ((self.positions.rows[here], self.said(here, is_so)) for here, is_so in islice(members, MOST_PARTS))
+        parts = [text if isinstance(row, Leaf) else f"({text})" for row, text in texts]
         more = ", and more of this kind" if next(members, None) is not None else ""
         return (" or " if is_or else " and ").join(parts) + more
 
@@ -186,7 +172,7 @@ class Refutation(Branches[Side]):
         known = [fact for fact in facts if fact in self.facts]
         new = [fact for fact in facts if fact not in self.facts]
         text = clash_reason(self.names, word, facts, new)
-        if is_long(facts):
+        if len(facts) > MOST_FACTS:
             return [f"{text}:", *map(self.fact_line, known)]
         if not known or (last and all(self.facts[fact].side == last for fact in known)):
             return [text]

@@ -7,6 +7,7 @@ from tools.second.cases import Case
 from tools.second.meaning import Node
 from tools.second.models import Model
 from tools.second.positions import Inner, Leaf
+from tools.suite.telling import aligned
 from tools.texts.naming import Names
 from tools.texts.origins import Origin, TracedPositions, has_predicate
 from tools.texts.wrapping import GAP
@@ -21,9 +22,7 @@ Asked = tuple[Edge, Origin | None]
 class Run:
     """The lines of a graph: one order of the run, and the edges between micro-ops of two cores."""
 
-    def __init__(
-        self, model: Model, case: Case, names: Names, positions: TracedPositions, lines: list[str], width: int
-    ) -> None:
+    def __init__(self, model: Model, case: Case, names: Names, positions: TracedPositions, lines: list[str], width: int) -> None:
         self.model = model
         self.case = case
         self.names = names
@@ -68,17 +67,15 @@ class Run:
             yield from (self.edge(edge, origins) for edge in asked)
 
     def table(self) -> list[str]:
-        """One order of the run. Where the columns of all cores are wider than a line may be, each line names its
-        core."""
+        """One order of the run. Where the columns of all cores are wider than a line may be, each line names its core."""
         cores = sorted({self.case.ops[node[0]].core for node in self.nodes})
         order = self.order()
         cells = {node: self.cell(node) for node in order}
-        width = {core: max([len(f"core {core}")] + [len(cells[n]) for n in order if self.core(n) == core]) for core in cores}
+        rows = [[f"core {core}" for core in cores]]
+        rows += [[cells[node] if core == self.core(node) else "" for core in cores] for node in order]
+        numbers = ["step", *(f"{number:4}" for number in range(1, len(rows)))]
         lines = ["One order of the run, a step a line, in the column of the micro-op's core:"]
-        lines.append(("step  " + "  ".join(f"core {core}".ljust(width[core]) for core in cores)).rstrip())
-        for number, node in enumerate(order, 1):
-            row = (cells[node] if core == self.core(node) else "" for core in cores)
-            lines.append(f"{number:4}  " + "  ".join(cell.ljust(width[core]) for cell, core in zip(row, cores)).rstrip())
+        lines += (f"{number}  {line}" for number, line in zip(numbers, aligned(rows)))
         if max(map(len, lines[1:])) <= self.width:
             return lines
         lines = [f"{number:4}  core {self.core(node)}  {cells[node]}" for number, node in enumerate(order, 1)]

@@ -32,7 +32,7 @@ import unicodedata
 from collections.abc import Iterator, Sequence
 from contextlib import ExitStack, contextmanager, suppress
 from dataclasses import dataclass
-from functools import reduce
+from functools import partial, reduce
 from operator import or_
 
 import tools
@@ -204,10 +204,6 @@ class Installation:
         """The tree that is in use."""
         tree = self.led_to(IN_USE) or IN_USE
         return tree if tree in self.trees() else None
-
-    def serves(self, tree: str) -> bool:
-        """Whether a link leads to the tree."""
-        return any(self.led_to(name) == tree for name in (IN_USE, *LINKS))
 
     def is_ours(self, name: str, known: Listing) -> bool:
         """Whether an installation made what has the name: a link into a tree, or a file of the former layout."""
@@ -388,7 +384,7 @@ class Installation:
                 self.fill(fresh, program, version)
                 self.put_in_use(fresh)
             except BaseException:
-                if not self.serves(fresh):
+                if not any(self.led_to(name) == fresh for name in (IN_USE, *LINKS)):
                     with SIGNALS.held(), suppress(OSError):
                         self.take_parts()
                         self.take_all_but(in_use, self.listing(in_use) if in_use else Listing())
@@ -402,11 +398,10 @@ class Installation:
         """Takes away what is installed, and what an install that was ended left."""
         with self.alone():
             had_parts = self.take_parts()
-            if not self.trees():
-                if not had_parts:
-                    raise Refused(f"nothing is installed under {self.path}")
-                return
-            self.take_all_but(None, Listing())
+            if self.trees():
+                self.take_all_but(None, Listing())
+            elif not had_parts:
+                raise Refused(f"nothing is installed under {self.path}")
 
     # one call at a time
 
@@ -434,23 +429,20 @@ class Installation:
         try:
             folder = os.open(self.at(name), os.O_RDONLY)
             self.locks.callback(os.close, folder)
-            fcntl.flock(folder, fcntl.LOCK_EX | fcntl.LOCK_NB)
+            if waits:
+                tell = partial(print, f"install: another call works in {self.at(name)}: waiting for it", file=sys.stderr)
+                SIGNALS.lock(folder, tell)
+            else:
+                fcntl.flock(folder, fcntl.LOCK_EX | fcntl.LOCK_NB)
         except BlockingIOError:
-            if not waits:
-                return False
-            print(f"install: another call works in {self.at(name)}: waiting for it", file=sys.stderr)
-            SIGNALS.lock(folder)
+            return False
         except OSError:
             return True
-        if not self.is_at(folder, name):
-            return False
-        self.locked.append(name)
-        return True
-
-    def is_at(self, folder: int, name: str) -> bool:
-        """Whether an open folder still has its name."""
+        # an open folder need not have its name any more
         with suppress(OSError):
-            return os.path.samestat(os.fstat(folder), os.stat(self.at(name)))
+            if os.path.samestat(os.fstat(folder), os.stat(self.at(name))):
+                self.locked.append(name)
+                return True
         return False
 
 
@@ -491,6 +483,11 @@ def install(program: str, *words: str) -> int:
 def main(work: str, *words: str) -> int:
     """Does it, and says what hinders it."""
     SIGNALS.receive()
+    os.umask(0o022)
+    for stream in (sys.stdout, sys.stderr):
+        # a name need not be UTF-8
+        if isinstance(stream, io.TextIOWrapper):
+            stream.reconfigure(errors="surrogateescape")
     try:
         return judge(*words) if work == "judge" else install(*words)
     except (Refused, Unmade) as problem:
@@ -498,12 +495,3 @@ def main(work: str, *words: str) -> int:
     except OSError as error:
         print(f"install: {error.filename2 or error.filename or ' '.join(words[-1:])}: {error.strerror}", file=sys.stderr)
     return 1
-
-
-if __name__ == "__main__":
-    os.umask(0o022)
-    for stream in (sys.stdout, sys.stderr):
-        # a name need not be UTF-8
-        if isinstance(stream, io.TextIOWrapper):
-            stream.reconfigure(errors="surrogateescape")
-    sys.exit(SIGNALS.status_or_end(lambda: main(*sys.argv[1:])))

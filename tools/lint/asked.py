@@ -9,8 +9,7 @@ from tools.texts.quoting import shown
 
 
 class Asked:
-    """What the axioms and the queries ask of a test, with macros followed: predicates, and the names that two of them
-    take."""
+    """What the axioms and the queries ask of a test, with macros followed: predicates, and the names that two of them take."""
 
     def __init__(self, model: Model, queries: Sequence[Formula] = ()) -> None:
         self.macros = model.macros

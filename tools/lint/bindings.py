@@ -39,14 +39,12 @@ class Bindings:
     def used_names(self, formula: Formula, bound: frozenset[str]) -> frozenset[str]:
         """The names that a formula has from outside, where these are bound around it."""
         if isinstance(formula, Quantified):
-            return self.used_by_quantified(formula, bound)
+            return self.used_by_quantified(formula, bound, frozenset())
         if isinstance(formula, Expand):
             return names_of(formula) | self.from_outside[formula.macro.name]
         return names_of(formula).union(*(self.used_names(part, bound) for part in parts(formula)))
 
-    def used_by_quantified(
-        self, formula: Quantified, bound: frozenset[str], chain: frozenset[str] = frozenset()
-    ) -> frozenset[str]:
+    def used_by_quantified(self, formula: Quantified, bound: frozenset[str], chain: frozenset[str]) -> frozenset[str]:
         """The same of a quantifier, whose name is judged. The chain is the names that `exists` binds right in front."""
         name, body = formula.name, formula.body
         if name in bound:

@@ -1,5 +1,4 @@
 """What kinds of slips share: the names in a formula, how it is written, and what its form alone decides."""
-from dataclasses import fields, is_dataclass
 from typing import Mapping
 
 from tools.second.models import Arg, Binary, Expand, Formula, Macro, NodeTerm, Not, Number, Quantified, Static, Word
@@ -22,11 +21,10 @@ def names_of(formula: Formula) -> frozenset[str]:
 
 def shape(part: object) -> object:
     """A formula, or what it is made of, without places and labels."""
-    if isinstance(part, tuple):
-        return tuple(map(shape, part))
-    if not is_dataclass(part):
-        return part
-    return type(part), *(shape(getattr(part, field.name)) for field in fields(part) if field.name not in ("at", "label"))
+    names = getattr(part, "__match_args__", None)
+    if names is None:
+        return tuple(map(shape, part)) if isinstance(part, tuple) else part
+    return type(part), *(shape(getattr(part, name)) for name in names if name not in ("at", "label"))
 
 
 def written(part: Arg | NodeTerm | Static | Expand, values: Mapping[str, str] | None = None) -> str:
@@ -36,10 +34,9 @@ def written(part: Arg | NodeTerm | Static | Expand, values: Mapping[str, str] | 
             return str(value)
         case Word(name):
             return (values or {}).get(name, name)
-        case NodeTerm(op, None, stage):
-            return f"({written(op, values)}, {stage.name})"
-        case NodeTerm(op, Number() | Word() as core, stage):
-            return f"({written(op, values)}, ({written(core, values)}, {stage.name}))"
+        case NodeTerm(op, core, stage):
+            place = stage.name if core is None else f"({written(core, values)}, {stage.name})"
+            return f"({written(op, values)}, {place})"
         case Static(predicate, args):
             return " ".join([predicate.name, *(written(arg, values) for arg in args)])
         case Expand(_, macro, args):

@@ -34,8 +34,7 @@ class Idle:
         return [Truth(self.model, self.guards, case, steps) for case in cases]
 
     def true_slips(self, made: list[Case], given: list[Case]) -> Iterator[Slip]:
-        """Axioms that are true of each case by what it says: first of those that are made, which no test changes, and
-        then of the others."""
+        """Axioms that are true of each case by what it says: first of those that are made, which no test changes."""
         if not self.model.axioms:
             yield Slip(self.path, 0, "idle", "", "the model has no axiom, so that each outcome is observable")
         truths = [*self.truths(made, self.steps[True]), *self.truths(given, Steps(STEPS))]

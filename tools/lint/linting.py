@@ -89,11 +89,8 @@ class Linter:
         """What is said of parts of axioms, and of macros that are expanded. Of an axiom that is said to ask for nothing,
         at these places, no part is told."""
         places = {axiom.at for axiom in self.axioms} - idle
-        items = [
-            item
-            for item in self.model.items
-            if (item.at in places if isinstance(item, Axiom) else item.name.name in self.asked.expanded)
-        ]
+        expanded = self.asked.expanded
+        items = [it for it in self.model.items if (it.at in places if isinstance(it, Axiom) else it.name.name in expanded)]
         # an access at an entry has no physical tag
         may_be_at_entries = self.has_entries or "SamePhysicalTag" in self.asked.predicates
         return Parts(self.path, self.model, may_be_at_entries).slips(items)
@@ -102,9 +99,8 @@ class Linter:
         """What is said of a test beside the model, and in other words of other tests: one line each."""
         asked = self.of_tests(lambda test: not_asked(self.path, self.asked, test))
         yield from grouped(asked, lambda slip: slip.sentence, lambda more: f", here and in {counted(more, 'more place')}")
-        yield from grouped(
-            self.of_tests(self.false_slips), lambda slip: slip.at, lambda more: f" and {counted(more, 'more test')}"
-        )
+        false = self.of_tests(self.false_slips)
+        yield from grouped(false, lambda slip: slip.at, lambda more: f" and {counted(more, 'more test')}")
         free = list(self.of_tests(self.free_nodes.of_test))
         yield from grouped(free, lambda slip: slip.name, lambda more: f", and {more} more of them")
         if self.tests:

@@ -4,8 +4,8 @@ They say what an axiom may ask of some test, so that one that the tests given le
 on fences is right also where no test has a fence. They are the same at each call.
 """
 import random
-from dataclasses import dataclass, replace
-from typing import Iterator, Sequence, TypeVar
+from dataclasses import replace
+from typing import Iterator, NamedTuple, Sequence, TypeVar
 
 from tools.lint.asked import Asked
 from tools.second.cases import Case, Entry, EntryAddress, Op, Page
@@ -23,8 +23,7 @@ Types = frozenset[str]
 PLAIN: Types = frozenset()
 
 
-@dataclass(frozen=True)
-class Part:
+class Part(NamedTuple):
     """A micro-op of an instruction: its access, its types, and whether it is at the page-table entry of the page."""
 
     access: str
@@ -75,10 +74,8 @@ def walks(types: list[Types]) -> Iterator[Instruction]:
     """Accesses behind the walk of their page, with a mark and without one."""
     for access in ("Read", "Write"):
         plain = Part(access, PLAIN)
-        for first, second in pairs(types):
-            yield Part("Read", first, True), Part("Write", second, True), plain
-        for names in types:
-            yield Part("Read", names, True), plain
+        yield from ((Part("Read", first, True), Part("Write", second, True), plain) for first, second in pairs(types))
+        yield from ((Part("Read", names, True), plain) for names in types)
 
 
 def dealt(choices: Sequence[Choice], source: random.Random) -> Iterator[Choice]:

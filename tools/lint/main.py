@@ -8,27 +8,26 @@ docs/lint.md has the exit statuses.
 import os
 import sys
 from functools import partial
-from typing import Callable, Iterable, Iterator, TypeVar
+from typing import Callable, Iterable, Iterator
 
 from tools import TOP
-from tools.lint.lines import line_of
 from tools.lint.linting import Linter, read_query_file, read_test
 from tools.lint.slips import Slip
 from tools.second.listings import ENDING as LISTING
 from tools.second.patterns import ENDING as PATTERN
 from tools.second.queries import InModel
 from tools.second.scopes import read_model
-from tools.second.standard_output import UNREAD, status_of
+from tools.second.standard_output import UNREAD
 from tools.second.tokens import Fault
 from tools.telling.files import sentence, unreadable
 from tools.telling.refusals import misplaced, reader
-from tools.texts.contents import Unreadable, contents, read_within
+from tools.texts.contents import Read, Unreadable, contents, read_within
 from tools.texts.expecting import sentence_of
+from tools.texts.quoting import line_of
 
 # how the name of a query ends; any other file is a test, a listing or a pattern
 QUERY = ".query"
 KINDS = {QUERY: "query", LISTING: "listing", PATTERN: "pattern"}
-Read = TypeVar("Read")
 
 
 class Files:
@@ -83,10 +82,4 @@ def main(model_path: str, *paths: str) -> int:
     for slip in found:
         print(line_of(slip.path, files.texts[slip.path], slip.at, f"{slip.kind}: {slip.sentence}"))
         count += 1
-    if files.is_refused:
-        return 3
-    return 1 if count else 0
-
-
-if __name__ == "__main__":
-    sys.exit(status_of(main, sys.argv[1:]))
+    return 3 if files.is_refused else 1 if count else 0

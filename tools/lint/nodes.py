@@ -1,21 +1,19 @@
 """Nodes that a world may have for nothing.
 
-An axiom *gives* a node where it can't be true without it, whichever side of an `or` is taken. It *asks for* each node
-that it names. It *denies* one by `~NodeExists`, or by a premise that names it and a conclusion that more nodes and more
-order do not make true. A node that some axiom asks for, none gives and none denies is free: a world has it or not, as
-it likes. Which nodes an axiom may name, in any test, its places say: by their stage, their core, and the access of their
-micro-op.
+An axiom *gives* a node where it can't be true without it, whichever side of an `or` is taken. It *asks for* each node that it
+names. It *denies* one by `~NodeExists`, or by a premise that names it and a conclusion that more nodes and more order do not make
+true. A node that some axiom asks for, none gives and none denies is free: a world has it or not, as it likes. Which nodes an
+axiom may name, in any test, its places say: by their stage, their core, and the access of their micro-op.
 """
-from dataclasses import dataclass
+from operator import or_
 from typing import Iterable, Iterator, NamedTuple
 
 from tools.lint.slips import Slip, TestFile
 from tools.lint.truth import OutOfSteps, Steps, Walk
 from tools.second.cases import Case, Op
 from tools.second.meaning import Environment, Guards, Node, value
-from tools.second.models import (
-    Axiom, Binary, EdgeTerm, Expand, Formula, Macro, Model, NodeTerm, Nodes, Not, Number, Quantified, Static, Word
-)
+from tools.second.models import Axiom, Binary, EdgeTerm, Expand, Formula, Macro, Model, NodeTerm, Nodes, Not, Number
+from tools.second.models import Quantified, Static, Word
 from tools.second.scopes import nodes_of, parts
 from tools.texts.quoting import shown
 
@@ -135,8 +133,7 @@ class FreeNodes:
         return Slip(self.path, term.stage.at, "free-node", stage, f"no axiom gives stage {stage} to {micro_op}, and {free}")
 
 
-@dataclass(frozen=True)
-class Use:
+class Use(NamedTuple):
     """What a formula does to nodes where nodes and edges decide it. Sets of nodes are numbers with a bit for each."""
 
     given: int = 0
@@ -151,14 +148,8 @@ class Use:
 
 def both(left: Use, right: Use) -> Use:
     """The use of two formulas that both hold."""
-    return Use(
-        left.given | right.given,
-        left.asked | right.asked,
-        left.denied | right.denied,
-        left.bare | right.bare,
-        left.priced | right.priced,
-        left.is_positive and right.is_positive,
-    )
+    sets = Use(*map(or_, left[:5], right[:5]))
+    return sets._replace(is_positive=left.is_positive and right.is_positive)
 
 
 def either(left: Use, right: Use) -> Use:
@@ -210,8 +201,7 @@ class NodeUses(Walk):
         return True
 
     def use(self, formula: Formula, env: Environment, wanted: bool, in_premise: bool) -> Use | bool:
-        """The use of a formula, or of its denial where it is not wanted; its truth where the test decides it. A premise
-        ends at `~`."""
+        """The use of a formula, or else of its denial; its truth where the test decides it. A premise ends at `~`."""
         if isinstance(formula, Static):
             return self.is_so(formula, env) is wanted
         self.steps.take()

@@ -94,8 +94,7 @@ def address_slips(test: TestFile) -> Iterator[Slip]:
 
 
 def page_slips(test: TestFile) -> Iterator[Slip]:
-    """One virtual address with two physical ones. Where the test speaks of the page-table entry of its tag, that is
-    what the test is about."""
+    """One virtual address with two physical ones, where the test does not speak of the page-table entry of its tag."""
     first: dict[Page, Page] = {}
     spoken = {*test.case.initial, *(op.pa for op in test.case.ops)}
     for item in test.op_items:

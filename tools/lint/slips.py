@@ -1,7 +1,7 @@
 """What lint says: a slip of a file, and the comments that say what is meant."""
 import re
-from dataclasses import dataclass, replace
-from typing import Callable, Iterable, Iterator
+from dataclasses import replace
+from typing import Callable, Iterable, Iterator, NamedTuple
 
 from tools.second.cases import Case, Item, OpItem
 from tools.second.models import Axiom, Formula, Macro
@@ -14,8 +14,7 @@ ALL = "*"
 Meant = set[tuple[str, str]]
 
 
-@dataclass(frozen=True)
-class Slip:
+class Slip(NamedTuple):
     """One line: the file, the place as a number of bytes, the kind, what it is said of, and the sentence."""
 
     path: str
@@ -25,8 +24,7 @@ class Slip:
     sentence: str
 
 
-@dataclass(frozen=True)
-class TestFile:
+class TestFile(NamedTuple):
     """A test with its path and its text."""
 
     path: str
@@ -40,8 +38,7 @@ class TestFile:
         return [item for item in self.items if isinstance(item, OpItem)]
 
 
-@dataclass(frozen=True)
-class QueryFile:
+class QueryFile(NamedTuple):
     """A query with its path, its text, and where its formula begins."""
 
     path: str
@@ -70,7 +67,7 @@ def grouped(found: Iterable[Slip], key: Callable[[Slip], object], more: Callable
     for slip in found:
         groups.setdefault(key(slip), []).append(slip)
     for first, *others in groups.values():
-        yield replace(first, sentence=first.sentence + more(len(others))) if others else first
+        yield first._replace(sentence=first.sentence + more(len(others))) if others else first
 
 
 def word_of(title: str) -> str:

@@ -41,8 +41,7 @@ class Truth(Walk):
     """What a test decides of formulas that may expand the model's macros."""
 
     def is_sure(self, formula: Formula, env: Environment, wanted: bool) -> bool:
-        """Whether the formula, with these names bound, is true in every world, or false in every one where it is not
-        wanted."""
+        """Whether the formula, with these names bound, is true in every world, or false in every one where it is not wanted."""
         if isinstance(formula, Static):
             return self.is_so(formula, env) is wanted
         self.steps.take()

@@ -11,7 +11,7 @@ from tools.second.models import Formula, Model, Static
 from tools.second.scopes import NameJudge, Scope, below
 from tools.second.tokens import Fault
 from tools.texts.memory_models import comments
-from tools.texts.naming import line_and_column
+from tools.texts.quoting import line_and_column
 
 BEGINS = re.compile(rb'\b(Axiom|DefineMacro)[ \t\r\n]*"([^"\r\n]*)')
 # the predicate of physical addresses that says the same as one of virtual addresses

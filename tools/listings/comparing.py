@@ -1,7 +1,7 @@
 """A test of a log beside what a model shows of the listing of the same name, by sweeps of the built program: one for each combination
 of values at the end."""
 import tempfile
-from dataclasses import dataclass, field, replace
+from dataclasses import dataclass, field
 from itertools import product
 from math import prod
 from typing import Iterator, Mapping, NamedTuple
@@ -13,6 +13,7 @@ from tools.second.cases import Location
 from tools.second.patterns import ENDING, MOST_ROWS
 from tools.second.standard_output import FAILED
 from tools.suite.pairs import OBSERVABLE, Checker
+from tools.suite.telling import aligned
 
 # how many sweeps there are of a test at most
 MOST_SWEEPS = 4_096
@@ -48,8 +49,7 @@ class Comparison:
 
     @property
     def variables(self) -> list[Variable]:
-        """Those of the states of the log, by the names that the listing has; where it has no state, those of the
-        condition."""
+        """Those of the states of the log, by the names that the listing has; where it has no state, those of the condition."""
         if not self.result.states:
             return self.program.condition.variables
         is_wide = self.program.written.is_wide
@@ -110,8 +110,7 @@ class Comparison:
             count = f", {times} {'time' if times == 1 else 'times'}" if is_counted else ""
             found.append((self.text(state), (BOTH if state in shown else LOG_ALONE[is_counted]) + count))
         found += [(self.text(state), MODEL_ALONE[is_counted]) for state in sorted(shown - set(self.result.states))]
-        width = max((len(text) for text, _ in found), default=0)
-        yield from (f"{self.result.name}: {text.ljust(width)}  {said}" for text, said in found)
+        yield from (f"{self.result.name}: {line}" for line in aligned(found))
         yield f"{self.result.name}: {self.answers()}"
 
     def text(self, state: State) -> str:
@@ -120,16 +119,10 @@ class Comparison:
         return " ".join(f"{name}={value};" for name, value in zip(names, state))
 
     def met_by_log(self, quantifier: str) -> bool | None:
-        """Whether the states of the log meet the condition of the listing, with this quantifier; None where they lack a
-        variable of it."""
-        condition = replace(self.program.condition, quantifier=quantifier)
+        """Whether the states of the log meet the listing's condition, by this quantifier; None where they lack a variable."""
+        condition = self.program.condition._replace(quantifier=quantifier)
         has_all = set(condition.variables) <= set(self.variables)
         return condition.is_met(self.variables, self.result.states) if has_all else None
-
-    @property
-    def is_of_another_listing(self) -> bool:
-        """Whether the log says to its condition what its states do not say to that of the listing."""
-        return len(self.result.answers) == 1 and self.met_by_log(self.result.quantifier) not in self.result.answers
 
     def answers(self) -> str:
         """What the model and the log say to the condition of the listing."""

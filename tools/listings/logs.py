@@ -36,9 +36,7 @@ PASSED = re.compile(
 )
 # what begins lines of any form around tests: the head of a file's results, with the listing and what it was compiled to, or of
 # what ran it
-AROUND = re.compile(
-    r"%+|% Results for .* %|(?:Revision|Version|Command line:|Compilation command:|Machine:|Parameters).*"
-)
+AROUND = re.compile(r"%+|% Results for .* %|(?:Revision|Version|Command line:|Compilation command:|Machine:|Parameters).*")
 
 # the values of the variables, in the order of the test
 State = tuple[int, ...]

@@ -60,10 +60,6 @@ class Program:
         """The numbers of the reads, in test order."""
         return [number for number, op in self.ops.items() if op.access == "Read"]
 
-    @property
-    def has_locked(self) -> bool:
-        return any(LOCKED in op.types for op in self.made)
-
     def writes_to(self, location: Location) -> list[int]:
         """What is written to a location, each value once, in test order."""
         values = (op.value for op in self.ops.values() if op.access == "Write" and op.pa == location)

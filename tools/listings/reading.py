@@ -1,6 +1,5 @@
 """Herd's listings for X86 and X86_64 as they are written: bytes to threads of instructions, and a condition."""
 import re
-from dataclasses import dataclass, replace
 from enum import Enum
 from typing import Callable, Iterable, Mapping, NamedTuple, Sequence
 
@@ -80,8 +79,7 @@ NEGATIONS = ("not", "~")
 CONSTANTS = {"true": True, "false": False}
 
 
-@dataclass(frozen=True)
-class Condition:
+class Condition(NamedTuple):
     """`exists`, `~exists` or `forall`, and a formula: equations, constants and operators, each behind what it is of."""
 
     quantifier: str
@@ -105,9 +103,7 @@ class Condition:
     def is_met(self, variables: Sequence[Variable], states: Iterable[tuple[int, ...]]) -> bool:
         """Whether it holds of these states of these variables as all that come up."""
         truths = (self.holds(dict(zip(variables, state))) for state in states)
-        if self.quantifier == "forall":
-            return all(truths)
-        return any(truths) == (self.quantifier == "exists")
+        return all(truths) if self.quantifier == "forall" else any(truths) == (self.quantifier == "exists")
 
     def holds(self, state: Mapping[Variable, int]) -> bool:
         known: list[bool] = []
@@ -124,8 +120,7 @@ class Condition:
         return known.pop()
 
 
-@dataclass(frozen=True)
-class Instruction:
+class Instruction(NamedTuple):
     """A fence without operands, or what is moved or exchanged: the operand that is written, and the other one. The kind of an
     operand is `number`, `location` or `register`."""
 
@@ -135,8 +130,7 @@ class Instruction:
     is_exchange: bool = False
 
 
-@dataclass(frozen=True)
-class Written:
+class Written(NamedTuple):
     """A listing as it is written. Where its tokens begin stands beside it, for the comments before them."""
 
     # whether it is of X86_64
@@ -276,11 +270,11 @@ class HerdReader(ListingReader):
         if self.passes("$"):
             return self.expect_kind("number")
         if self.sees("["):
-            return replace(self.in_brackets(), kind="location")
+            return self.in_brackets()._replace(kind="location")
         if self.passes("("):
             name = self.expect_kind("name")
             self.expect(")")
-            return replace(name, kind="location")
+            return name._replace(kind="location")
         return self.register()
 
     def register(self) -> Token:

@@ -6,20 +6,18 @@ Of what `check86` does not read, it reads what changes no question, and says on 
 listing has its fault. docs/faults.md has the exit statuses.
 """
 import os
-import sys
 
 from tools import TOP
-from tools.lint.lines import line_of
 from tools.listings.programs import Loaded, Program
 from tools.listings.reading import Beyond, Notes
 from tools.second.cases import Location
-from tools.second.standard_output import UNREAD, status_of
+from tools.second.standard_output import UNREAD
 from tools.second.tokens import Fault
 from tools.suite.telling import tell
 from tools.telling.files import unreadable
-from tools.telling.refusals import listing_lines
+from tools.telling.refusals import left_out, place_of, refusal_of
 from tools.texts.contents import Unreadable, contents, read_within
-from tools.texts.naming import line_and_column
+from tools.texts.quoting import line_and_column, line_of
 from tools.texts.writing_tests import notes as comments
 from tools.texts.writing_tests import test_of_listing, within_limit
 
@@ -39,8 +37,7 @@ def test_of(data: bytes, notes: Notes) -> str:
 
 
 def test_of_herd(data: bytes, notes: Notes) -> str:
-    """The text of the test that a listing says, or the listing's first fault. What is read of it beyond `check86` is
-    noted."""
+    """The text of the test that a listing says, or the listing's first fault. What is read of it beyond `check86` is noted."""
     program = Program(data, notes)
     if program.reloads:
         raise Fault("x86-reload", program.reloads[0].at)
@@ -52,8 +49,7 @@ def test_of_herd(data: bytes, notes: Notes) -> str:
 
 
 def outcome_of(program: Program, notes: Notes) -> tuple[dict[int, int], dict[Location, int]]:
-    """The one outcome that the condition states, or its first fault: what the reads get, by their numbers, and the values at the
-    end."""
+    """The one outcome that the condition states, or its first fault: what the reads get, by their numbers, and final values."""
     reads: dict[int, int] = {}
     finals: dict[Location, int] = {}
     for variable, value, token in program.condition.equations():
@@ -93,15 +89,12 @@ def main(path: str) -> int:
     except Fault as fault:
         said = f"refused test {fault.word} at {line_and_column(data, fault.place)}"
         print(said, flush=True)
+        refusal = refusal_of(said)
         # what can be read only once is gone
-        for line in listing_lines(TOP, said, path) if os.path.isfile(path) else ():
+        for line in [*place_of(TOP, path, refusal), *left_out(TOP, path, refusal)] if os.path.isfile(path) else ():
             tell(line)
         return 3
     print(text, end="")
     for place, sentence in notes.lines():
         tell(line_of(path, data, place, sentence))
     return 0
-
-
-if __name__ == "__main__":
-    sys.exit(status_of(main, sys.argv[1:]))

@@ -3,10 +3,9 @@ that it answers with are graphs: which of their nodes are before which."""
 import os
 import tempfile
 from collections import Counter
-from dataclasses import dataclass
 from functools import cache
 from graphlib import TopologicalSorter
-from typing import Callable, Iterable, Iterator, Sequence
+from typing import Callable, Iterable, Iterator, NamedTuple, Sequence
 
 from tools.mend.copies import Final, Outcome, Program, text_of
 from tools.second.meaning import Node
@@ -122,8 +121,7 @@ class Questions:
         return self.asked(outcome, joined(" \\/ ", [joined(" /\\ ", list(map(self.formula, edges))) for edges in orders]))
 
     def asked(self, outcome: Outcome, formula: str) -> list[World]:
-        """Runs that show an outcome, one in which a formula holds, and one in which it does not if there is one; none where
-        it holds in none."""
+        """Runs that show an outcome, one in which a formula holds and one in which not, if any; none where it holds in none."""
         query = self.file("query", formula.encode("ascii"))
         answer = read_answer(self.called("ask", self.model_path, self.path_of(outcome), query), self.model)
         assert isinstance(answer, Asked)
@@ -133,8 +131,7 @@ class Questions:
 
     def pattern(self, final: Final) -> bytes:
         """The program with its reads open, and these final values."""
-        case = self.program.case_of(Outcome(self.program.stated.reads, final))
-        return text_of(case, self.name, self.program.opens)
+        return text_of(self.program.case_of(Outcome(self.program.stated.reads, final)), self.name, self.program.opens)
 
     def shown(self, model_path: str) -> Iterator[Outcome]:
         """The outcomes of the program that a model shows."""
@@ -195,10 +192,8 @@ def is_shown(checker: Checker, word: str, model_path: str, test_path: str) -> bo
     return answer_of(checker, word, model_path, test_path, statuses=STATUSES).startswith(b"observable")
 
 
-@dataclass(frozen=True)
-class Counts:
-    """How many tests a memory model allows and a model shows, and of how many of these that changes; the same of those
-    that it forbids."""
+class Counts(NamedTuple):
+    """How many tests a memory model allows and a model shows, and how many of these that changes; the same of forbidden ones."""
 
     stricter: int
     allowed: int
@@ -221,15 +216,12 @@ class SuiteTests:
                 if is_allowed is not None and self.is_shown(model_path, test):
                     self.shown[is_allowed].append(test)
 
-    @property
-    def is_known(self) -> bool:
-        """Whether there is a test that the memory model says something of, and that the model shows."""
-        return any(self.shown.values())
-
     def is_shown(self, model_path: str, test: File) -> bool:
         return is_shown(self.checker, "check", model_path, test.path)
 
-    def counts(self, model_path: str) -> Counts:
-        """What a model with one axiom more changes."""
+    def counts(self, model_path: str) -> Counts | None:
+        """What a model with one axiom more changes; None where the model shows no test that the memory model speaks of."""
+        if not any(self.shown.values()):
+            return None
         gone = {it: sum(not self.is_shown(model_path, test) for test in tests) for it, tests in self.shown.items()}
         return Counts(gone[True], len(self.shown[True]), gone[False], len(self.shown[False]))

@@ -4,7 +4,7 @@ outcomes of its program, of each of which there is such a copy.
 from dataclasses import dataclass, replace
 from itertools import islice, product
 from math import prod
-from typing import Iterator
+from typing import Iterator, NamedTuple
 
 from tools.second.cases import Address, Case, Entry, EntryAddress, Value
 from tools.second.patterns import Pattern, values_at, written_at
@@ -18,8 +18,7 @@ NAME = "Named"
 Final = tuple[tuple[Address, Value], ...]
 
 
-@dataclass(frozen=True)
-class Outcome:
+class Outcome(NamedTuple):
     """What the open reads of a program get, in the order of the test, and final values."""
 
     reads: tuple[Value, ...]
@@ -28,8 +27,7 @@ class Outcome:
 
 @dataclass(frozen=True)
 class Program(Pattern):
-    """A test without its outcome, whose reads are left open; and what the addresses may have at the end of which the test states
-    that."""
+    """A test without its outcome, whose reads are left open; and what the addresses may have at the end that it states."""
 
     finals: tuple[Final, ...]
 

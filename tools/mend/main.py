@@ -6,6 +6,8 @@ docs/mend.md has the exit statuses.
 """
 import os
 import sys
+from functools import cached_property
+from pathlib import Path
 from typing import Iterator
 
 from tools import TOP
@@ -17,7 +19,7 @@ from tools.mend.orders import Found, Search
 from tools.mend.telling import MOST_CHOICES, MOST_SHOWN, MOST_STRONGER, TITLE, Telling
 from tools.second.listings import ENDING
 from tools.second.scopes import read_model
-from tools.second.standard_output import FAILED, UNREAD, status_of
+from tools.second.standard_output import FAILED, UNREAD
 from tools.suite.allowing import Machines
 from tools.suite.calling import Calls, side_by_side
 from tools.suite.pairs import Checker
@@ -78,8 +80,7 @@ class Mending:
         if self.memory_model in self.machines.names:
             allowed = self.questions.allowed(self.machines, self.memory_model)
         kept = others if allowed is None else [outcome for outcome in others if outcome in allowed]
-        is_allowed = None if allowed is None else stated in allowed
-        heading = [*self.telling.heading(is_allowed, len(others), len(kept)), ""]
+        heading = [*self.telling.heading(None if allowed is None else stated in allowed, len(others), len(kept)), ""]
         if not kept:
             return [*heading, "So no order can be told from one that forbids the whole program: take a test with more."], 1
         found = Search(self.questions, stated, kept).found()
@@ -98,17 +99,15 @@ class Mending:
         else:
             yield "Each of these orders forbids it and keeps all of these; the nearest first:"
         yield ""
-        is_counted = bool(found.orders or found.choices)
-        tests = SuiteTests(self.checker, TOP, self.memory_model, self.questions.model_path) if is_counted else None
         for choice in found.choices[:MOST_CHOICES]:
             yield from self.telling.choice(choice)
-            yield from self.axiom(choice.axiom(self.questions.model, TITLE), tests, kept)
+            yield from self.axiom(choice.axiom(self.questions.model, TITLE), kept)
             yield ""
         for order in found.orders[:MOST_SHOWN]:
             yield self.telling.order(order)
             yield from self.telling.lost(order)
             if order.relation is not None:
-                yield from self.axiom(order.relation.axiom(self.questions.model, TITLE), tests, kept)
+                yield from self.axiom(order.relation.axiom(self.questions.model, TITLE), kept)
             yield ""
         more = [*found.orders[MOST_SHOWN:], *found.stronger]
         if more:
@@ -118,12 +117,16 @@ class Mending:
                 yield f"    and {len(more) - MOST_STRONGER} more"
             yield ""
 
-    def axiom(self, lines: list[str], tests: SuiteTests | None, kept: list[Outcome]) -> Iterator[str]:
+    @cached_property
+    def tests(self) -> SuiteTests:
+        """The shipped tests, which are asked about where an axiom is shown."""
+        return SuiteTests(self.checker, TOP, self.memory_model, self.questions.model_path)
+
+    def axiom(self, lines: list[str], kept: list[Outcome]) -> Iterator[str]:
         """An axiom, with what it does to the program and to the shipped tests."""
         path = self.questions.model_with("\n".join(lines))
         shown = set(self.questions.shown(path))
-        counts = tests.counts(path) if tests is not None and tests.is_known else None
-        yield from self.telling.axiom(lines, sum(outcome in shown for outcome in kept), len(kept), counts)
+        yield from self.telling.axiom(lines, sum(outcome in shown for outcome in kept), len(kept), self.tests.counts(path))
 
 
 def answer(model_path: str, test_path: str) -> tuple[list[str], int]:
@@ -134,15 +137,14 @@ def answer(model_path: str, test_path: str) -> tuple[list[str], int]:
         checker = checker_of(os.environ, TOP, SECONDS, calls)
         paths = os.path.join(folder, "given_model"), os.path.join(folder, f"given_test{os.path.splitext(test_path)[1]}")
         for path, text in zip(paths, (model_text, test_text)):
-            with open(path, "wb") as file:
-                file.write(text)
+            Path(path).write_bytes(text)
 
         def work() -> tuple[list[str], int]:
             checked(checker, *paths)
             return Mending(checker, folder, model_text, test_path, test_text).lines()
 
         # a signal comes to this thread, and ends the calls of the other one
-        (said,) = side_by_side(calls, 1, [work], lambda _, __: None)
+        (said,) = side_by_side(calls, 1, [work])
     return said
 
 
@@ -165,7 +167,3 @@ def main(model_path: str, test_path: str) -> int:
     for line in within(lines, width_of_output()):
         print(line)
     return status
-
-
-if __name__ == "__main__":
-    sys.exit(SIGNALS.status_or_end(lambda: status_of(main, sys.argv[1:])))

@@ -5,9 +5,9 @@ An edge that no run with the outcome has forbids it, as an axiom of the model. A
 has the edge. Many edges are asked about at once: where some run has one of them, the program answers with one, and the
 edges that this run has are known; where none has, all of them are.
 """
-from dataclasses import dataclass, replace
 from functools import partial
-from typing import Iterable, Iterator, Sequence
+from itertools import accumulate
+from typing import Iterable, Iterator, NamedTuple, Sequence
 
 from tools.mend.asking import Edge, Questions, World
 from tools.mend.copies import Outcome
@@ -23,18 +23,15 @@ FEW_TOGETHER = 12
 MOST_COUNTED = 400
 
 
-@dataclass(frozen=True)
-class Part:
+class Part(NamedTuple):
     """An edge, and the reads that have to get what the outcome says where it is of that alone."""
 
     edge: Edge
     where: tuple[int, ...] = ()
 
 
-@dataclass(frozen=True)
-class Order:
-    """Edges that together forbid the outcome; the relation that all of them are of, if there is one; and the other
-    outcomes that they lose."""
+class Order(NamedTuple):
+    """Edges that together forbid the outcome; the relation that all of them are of, if any; and what other outcomes they lose."""
 
     parts: tuple[Part, ...]
     relation: Relation | None
@@ -46,8 +43,7 @@ class Order:
         return any(part.where for part in self.parts)
 
 
-@dataclass(frozen=True)
-class Found:
+class Found(NamedTuple):
     """The orders that lose least, the nearest first; those that order more than one of these; and where all lose some, the
     choices of two edges that lose none."""
 
@@ -97,8 +93,7 @@ class Search:
     def edges(self) -> list[Edge]:
         """The pairs of nodes of runs that the program has shown, the nearest where there are many."""
         nodes = list(dict.fromkeys(node for worlds in self.worlds.values() for node in worlds[0].later))
-        pairs = [(start, end) for start in nodes for end in nodes if start != end]
-        return sorted(pairs, key=self.distance_of)[:MOST_EDGES]
+        return sorted(((start, end) for start in nodes for end in nodes if start != end), key=self.distance_of)[:MOST_EDGES]
 
     def of_relations(self, edges: Sequence[Edge], case: Case | None = None) -> Iterator[Order]:
         """All edges of a relation together, for each relation that has several; of a case, for relations in which the reads
@@ -115,7 +110,7 @@ class Search:
         for order in orders:
             if not any(map(partial(self.is_as_stated, order), order.lost)):
                 edge = order.parts[0].edge
-                parts = tuple(replace(part, where=self.reads(part.edge)) for part in order.parts)
+                parts = tuple(part._replace(where=self.reads(part.edge)) for part in order.parts)
                 if all(len(part.where) < 2 for part in parts):
                     narrow.append(Order(parts, self.relations.of(edge, self.case)))
         narrow = [order for order in narrow if any(self.active(order, outcome) for outcome in self.others)]
@@ -175,12 +170,12 @@ class Search:
                 lost[order].append(outcome)
                 if self.is_as_stated(order, outcome):
                     useless.add(order)
-        return [replace(order, lost=tuple(outcomes)) for order, outcomes in lost.items()]
+        return [order._replace(lost=tuple(outcomes)) for order, outcomes in lost.items()]
 
     def counted(self, orders: Sequence[Order]) -> list[Order]:
         """The orders with all outcomes that they lose."""
         losing = {outcome: set(self.never(outcome, orders)) for outcome in self.others}
-        return [replace(it, lost=tuple(outcome for outcome, lose in losing.items() if it in lose)) for it in orders]
+        return [it._replace(lost=tuple(outcome for outcome, lose in losing.items() if it in lose)) for it in orders]
 
     def never(self, outcome: Outcome, orders: Sequence[Order]) -> list[Order]:
         """Those of the orders that no run with an outcome has."""
@@ -194,7 +189,7 @@ class Search:
             fewer = self.unseen(worlds, {order: edges[order] for order in left})
             together = together * 2 if len(fewer) < len(left) else max(together // 2, FEW_TOGETHER)
             if len(fewer) == len(left):
-                count = fitting([len(edges[order]) for order in left])
+                count = sum(total <= AT_ONCE for total in accumulate(len(edges[order]) for order in left)) or 1
                 worlds = self.questions.worlds(outcome, [edges[order] for order in left[:count]])
                 if worlds:
                     fewer = self.unseen(worlds, {order: edges[order] for order in left})
@@ -227,11 +222,8 @@ class Search:
 
     def later(self) -> dict[Node, set[Node]]:
         """What is later than a node in all runs."""
-        first, *rest = (world for worlds in self.worlds.values() for world in worlds)
-        return {
-            start: ends.intersection(*(world.later.get(start, set()) for world in rest))
-            for start, ends in first.later.items()
-        }
+        first, *rest = (world.later for worlds in self.worlds.values() for world in worlds)
+        return {start: ends.intersection(*(later.get(start, set()) for later in rest)) for start, ends in first.items()}
 
     def weakest(self, orders: Sequence[Order], than: Sequence[Order], later: dict[Node, set[Node]]) -> list[Order]:
         """Those of the orders that bring about none of these others through what all runs have. One of micro-ops that
@@ -257,9 +249,8 @@ class Search:
     def kinship(self, edge: Edge) -> int:
         """0 where two micro-ops are one, share an address, or are of one core and one of them is a fence."""
         one, other = self.case.ops[edge[0][0]], self.case.ops[edge[1][0]]
-        if one.pa is None or other.pa is None:
-            return 0 if one.core == other.core else 1
-        return 0 if one.pa == other.pa else 1
+        is_akin = one.core == other.core if None in (one.pa, other.pa) else one.pa == other.pa
+        return 0 if is_akin else 1
 
     def sorted(self, orders: Sequence[Order]) -> list[Order]:
         """The nearest first, and behind all of these those of some values alone."""
@@ -271,13 +262,3 @@ class Search:
         (start, _, first), (end, _, last) = edge
         near = 0 if start == end else 1 if self.case.ops[start].core == self.case.ops[end].core else 2
         return near, self.kinship(edge), abs(first - last), int(start > end), abs(start - end), start, first
-
-
-def fitting(sizes: Sequence[int]) -> int:
-    """How many of the first ones are asked about at once, of these sizes."""
-    total = 0
-    for count, size in enumerate(sizes):
-        total += size
-        if count and total > AT_ONCE:
-            return count
-    return len(sizes)

@@ -2,8 +2,7 @@
 all pairs like it. And the order of a read before the writes that are newer than its value, which no edge alone says: a choice of
 two edges, of each other write of the address, that it is before the write that the read has its value from, or behind the read.
 """
-from dataclasses import dataclass
-from typing import Iterator
+from typing import Iterator, NamedTuple
 
 from tools.lint.asked import Asked
 from tools.mend.asking import Edge
@@ -25,8 +24,7 @@ PREMISES = (
 )
 
 
-@dataclass(frozen=True)
-class Premise:
+class Premise(NamedTuple):
     """A static predicate with its arguments, or its denial."""
 
     predicate: str
@@ -41,12 +39,10 @@ class Premise:
     def holds(self, case: Case, first: int, second: int) -> bool:
         takes, test = PREDICATES[self.predicate]
         ops = {FIRST: first, SECOND: second}
-        args = (ops[arg] if kind == MICROOP else arg for kind, arg in zip(takes, self.args))
-        return test(case, *args) is self.is_wanted
+        return test(case, *(ops[arg] if kind == MICROOP else arg for kind, arg in zip(takes, self.args))) is self.is_wanted
 
 
-@dataclass(frozen=True)
-class Place:
+class Place(NamedTuple):
     """The stage of a node by its number, and the core."""
 
     stage: int
@@ -64,8 +60,7 @@ class Place:
         return f"({name}, ({CORE if self.core == OTHERS else self.core}, {stage}))"
 
 
-@dataclass(frozen=True)
-class Relation:
+class Relation(NamedTuple):
     """All pairs of nodes in two places whose micro-ops, which may be one, meet the premises."""
 
     premises: tuple[Premise, ...]
@@ -158,8 +153,7 @@ class Relations:
             yield same if same.holds(case, first, second) else Premise("SameData", (FIRST, SECOND), False)
 
 
-@dataclass(frozen=True)
-class Choice:
+class Choice(NamedTuple):
     """The places of a read and of writes that are put in such an order."""
 
     read: Place

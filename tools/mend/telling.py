@@ -44,18 +44,15 @@ class Telling:
             yield "No axiom asks for the value at the end, which this test states: first write one that does."
 
     def order(self, order: Order) -> str:
-        return "add " + " and ".join(self.names.fact((*part.edge, True)) for part in order.parts) + self.where(order)
+        reads = dict.fromkeys(op for part in order.parts for op in part.where)
+        where = f", where {' and '.join(map(self.read, reads))}" if reads else ""
+        return "add " + " and ".join(self.names.fact((*part.edge, True)) for part in order.parts) + where
 
     def choice(self, choice: Choice) -> Iterator[str]:
         """A choice in the words of the test, a line for each read and write."""
         for read, write, source in choice.nodes(self.case):
             node = self.names.node
             yield f"add {node(read)} before {node(write)}, or {node(write)} before {node(source)}"
-
-    def where(self, order: Order) -> str:
-        """Of which values an order is."""
-        reads = dict.fromkeys(op for part in order.parts for op in part.where)
-        return f", where {' and '.join(map(self.read, reads))}" if reads else ""
 
     def read(self, op: int) -> str:
         one = self.case.ops[op]
@@ -68,8 +65,7 @@ class Telling:
         return ", ".join([*reads, *final])
 
     def lost(self, order: Order) -> Iterator[str]:
-        for outcome in order.lost[:3]:
-            yield f"    forbids, too: {self.outcome(outcome)}"
+        yield from (f"    forbids, too: {self.outcome(outcome)}" for outcome in order.lost[:3])
         if len(order.lost) > 3:
             yield f"    and {len(order.lost) - 3} more"
 
@@ -79,8 +75,6 @@ class Telling:
         of_program = "all other outcomes" if keeps == others else f"{keeps} of {others} other outcomes"
         said = f"With it this program keeps {of_program}"
         if counts is not None:
-            said += (
-                f"; of the shipped tests {counts.stricter} of {counts.allowed} turn to stricter, and "
-                f"{counts.mended} of {counts.bugs} BUGs are gone"
-            )
+            said += f"; of the shipped tests {counts.stricter} of {counts.allowed} turn to stricter, and "
+            said += f"{counts.mended} of {counts.bugs} BUGs are gone"
         yield f"    {said}."

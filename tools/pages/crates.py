@@ -10,10 +10,8 @@ import os
 import re
 import sys
 from collections.abc import Iterator
-from dataclasses import dataclass
 from itertools import takewhile
-
-sys.dont_write_bytecode = True
+from typing import NamedTuple
 
 from tools import TOP
 from tools.pages.antt import Fault, first_sentence
@@ -22,8 +20,7 @@ from tools.pages.antt import Fault, first_sentence
 NO_CLAUSE = "tests of crates"
 
 
-@dataclass
-class Crate:
+class Crate(NamedTuple):
     """A crate: its name, the heading that it stands under, and what it stands on."""
 
     name: str
@@ -103,8 +100,7 @@ def tables() -> Iterator[str]:
 def names() -> Iterator[str]:
     """The crates under each heading."""
     yield from ("| heading | crates |", "|---|---|")
-    for heading, under in by_heading().items():
-        yield f"| {heading} | {', '.join(f'`{it.name}`' for it in under)} |"
+    yield from (f"| {heading} | {', '.join(f'`{it.name}`' for it in under)} |" for heading, under in by_heading().items())
 
 
 def main(*words: str) -> int:
@@ -118,7 +114,3 @@ def main(*words: str) -> int:
         print(f"crates: {fault}", file=sys.stderr)
         return 1
     return 0
-
-
-if __name__ == "__main__":
-    sys.exit(main(*sys.argv[1:]))

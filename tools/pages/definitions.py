@@ -10,8 +10,6 @@ A WORD is `observable`, the first word of a command, or `all`. Definitions are f
 file is shown with its first sentence, and where only a part of it is reached, with the names of that part. Lines are
 those of definitions: a blank line, a comment and an import are none.
 """
-from __future__ import annotations
-
 import glob
 import os
 import re
@@ -19,12 +17,9 @@ import sys
 from collections.abc import Iterable, Iterator
 from dataclasses import dataclass, field
 
-sys.dont_write_bytecode = True
-
 from tools import TOP
-from tools.pages.antt import (
-    Definition, Fault, Import, first_sentence, imports_of, is_said, read_file, with_modules, without_imports, words_in
-)
+from tools.pages.antt import Definition, Fault, Import, first_sentence, imports_of, is_said, read_file, with_modules
+from tools.pages.antt import without_imports, words_in
 
 # what is no command, and can be asked for too
 OBSERVABLE, ALL = "observable", "all"
@@ -303,11 +298,11 @@ def sentence(top: Top) -> Iterator[str]:
     yield f"{len(every.files)} files with {every.count():,} lines what all clauses of `run` mean."
 
 
-def main() -> int:
+def main(*words: str) -> int:
     """Answers one call."""
     try:
         top = Top()
-        asked = sys.argv[1:] or ["--counts"]
+        asked = words or ("--counts",)
         of_status = asked[0] == "--status"
         if len(asked) != 1 + of_status:
             raise Fault("definitions takes one word")
@@ -320,7 +315,3 @@ def main() -> int:
         print(f"definitions: {fault}", file=sys.stderr)
         return 1
     return 0
-
-
-if __name__ == "__main__":
-    sys.exit(main())

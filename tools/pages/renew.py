@@ -11,8 +11,6 @@ import re
 import subprocess
 import sys
 
-sys.dont_write_bytecode = True
-
 from tools import TOP
 from tools.pages.antt import Fault
 
@@ -43,7 +41,3 @@ def main(*pages: str) -> int:
         print(f"renew: {fault}", file=sys.stderr)
         return 1
     return 0
-
-
-if __name__ == "__main__":
-    sys.exit(main(*sys.argv[1:]))

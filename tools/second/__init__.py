@@ -1,8 +1,7 @@
 """A second implementation of µspec models and litmus tests, which shares no code with the program.
 
-The program is proved against definitions; this package was written from a description of the language. Where the two
-differ, one of them reads it wrongly. It is made to be read and not to be fast. Each step is one module, and data flows
-one way:
+The program is proved against definitions; this package was written from a description of the language. Where the two differ, one
+of them reads it wrongly. It is made to be read and not to be fast. Each step is one module, and data flows one way:
 
     bytes    tokens.py      cut into tokens
     model    models.py      the written axioms, by the grammar

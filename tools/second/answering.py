@@ -21,16 +21,14 @@ In version 2 positions have signs, as in `judging.py`. The right side of a split
 hold, and rule 3 asks it so. A denied conjunction is a choice as a disjunction is one, and a candidate where the world makes
 it true. A candidate both of whose sides are closed comes before one with one such side.
 
-Splits that a refutation does not need are left out of it. The level of a split is how many splits lead to its sides, itself
-among them; what the tree asserts by itself has level 0. Each literal and each choice of a branch has the lowest level at which
-it is asserted. A clash needs the levels of the literals that it names. Where the left side of a split does not need the split's
-own level, its steps close the branch that was split, so that they stand for the split and both of its sides; else where the
-right side does not, its steps do. Where both sides need it, the split needs the levels of both but its own, and the one of its
-choice.
+Splits that a refutation does not need are left out of it. The level of a split is how many splits lead to its sides, itself among
+them; what the tree asserts by itself has level 0. Each literal and each choice of a branch has the lowest level at which it is
+asserted. A clash needs the levels of the literals that it names. Where the left side of a split does not need the split's own
+level, its steps close the branch that was split, so that they stand for the split and both of its sides; else where the right
+side does not, its steps do. Where both sides need it, the split needs the levels of both but its own, and the one of its choice.
 """
 from copy import copy
-from dataclasses import dataclass
-from typing import Iterator
+from typing import Iterator, NamedTuple
 
 from tools.second.closing import Alternatives
 from tools.second.conflicts import Failures
@@ -38,8 +36,7 @@ from tools.second.orders import Order
 from tools.second.positions import Clash, Inner, Leaf, Positions, Signed
 
 
-@dataclass(frozen=True)
-class Graph:
+class Graph(NamedTuple):
     """The present nodes by number, and the asserted edges in the order of first assertion."""
 
     nodes: list[int]

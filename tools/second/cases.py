@@ -107,8 +107,7 @@ def read_case(data: bytes) -> Case:
 
 
 def read_items(data: bytes, takes_open: bool = False) -> "tuple[Case, list[Item]]":
-    """The case, with its items as they are written. The whole grammar is judged before any item. A pattern takes open
-    reads, too."""
+    """The case, with its items as they are written. All of the grammar is judged before any item. A pattern takes open reads."""
     title, items = CaseReader(tokens(data), takes_open).items()
     return case_of(title, items), items
 

@@ -1,9 +1,8 @@
 """What is closed on a branch, asked literal by literal: nothing is asserted in trial.
 
-The *alternatives* of a disjunction are its members, and where a member is a disjunction again, the alternatives of that
-one. A part is *closed* where a literal that it asserts would clash by itself. An alternative is *as good as closed* also
-where two literals would clash together: two of its own, or one of its own and one of each alternative of a disjunction
-that it asserts.
+The *alternatives* of a disjunction are its members, and where a member is a disjunction again, the alternatives of that one. A
+part is *closed* where a literal that it asserts would clash by itself. An alternative is *as good as closed* also where two
+literals would clash together: two of its own, or one of its own and one of each alternative of a disjunction that it asserts.
 """
 from tools.second.orders import Order
 from tools.second.positions import Leaf, Positions, Signed
@@ -34,10 +33,8 @@ class Alternatives:
 
     def is_closed_beside(self, order: Order, place: Signed, others: list[Leaf]) -> bool:
         """Whether a literal of the position would clash, by itself or with one of the others."""
-        return any(
-            order.would_clash(leaf) or any(clash_together(order, leaf, other) for other in others)
-            for leaf in self.parts(place)[0]
-        )
+        leaves, _ = self.parts(place)
+        return any(order.would_clash(one) or any(clash_together(order, one, other) for other in others) for one in leaves)
 
     def is_as_good_as_closed(self, order: Order, place: Signed) -> bool:
         """Whether the alternative would close the branch: by its literals, or by a disjunction of closed alternatives."""

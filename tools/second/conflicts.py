@@ -9,7 +9,7 @@ are one time (Lecoutre and others 2009, Moskewicz and others 2001). And where a 
 side is searched by the splits that were needed on the left, in the same order.
 """
 from dataclasses import dataclass, field
-from typing import Sequence
+from typing import NamedTuple, Sequence
 
 from tools.second.positions import Signed
 
@@ -17,8 +17,7 @@ PERIOD = 64
 NO_RECORD = 0, 0
 
 
-@dataclass(frozen=True)
-class Script:
+class Script(NamedTuple):
     """How a part of the search failed: by a split, and then on each side by what its script says. A leaf has none."""
 
     choice: Signed
@@ -26,8 +25,7 @@ class Script:
     right: "Script | None"
 
 
-@dataclass(frozen=True)
-class Failure:
+class Failure(NamedTuple):
     """The levels that a failure needs, with the splits."""
 
     levels: frozenset[int]

@@ -40,8 +40,7 @@ def ground(model: Model, case: Case) -> Tree:
 
 
 def joined(conjunction: bool, members: list[Tree]) -> Tree:
-    """The members as one tree: constants are folded, a member of the same kind is taken apart, and equal ones count
-    once."""
+    """The members as one tree: constants are folded, a member of the same kind is taken apart, and equal ones count once."""
     kept: dict[Tree, None] = {}
     for member in members:
         if isinstance(member, bool):

@@ -1,8 +1,7 @@
 """Judges the text of a certificate against a model and a test, line by line.
 
-A graph is judged by evaluating the written axioms in its world. A refutation is judged by the positions of the ground
-tree: what is asserted on a branch is the root, both members of an asserted conjunction, and below a split the member of
-its side.
+A graph is judged by evaluating the written axioms in its world. A refutation is judged by the positions of the ground tree: what
+is asserted on a branch is the root, both members of an asserted conjunction, and below a split the member of its side.
 
 In a refutation of version 2, whose third line is `version 2`, positions have signs, and the right side of a split may use
 that the left one is false. `~p` says that position p does not hold: where p is a disjunction both members are denied with

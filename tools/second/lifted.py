@@ -1,10 +1,9 @@
 """Judges a lifted refutation, which speaks of the axioms themselves and of no ground tree.
 
-A fact says of a formula of an axiom, with values for its variables, that it holds or that it does not. A quantifier
-and a list have a start beside them: the fact speaks of their members from there on. A branch is a list of facts,
-numbered from 0. At first one branch is open: each axiom is said to hold. A line adds a part of a fact, splits the
-branch, or closes it. One that adds a fact gives it the next number, and both branches of a split go on from the same
-number.
+A fact says of a formula of an axiom, with values for its variables, that it holds or that it does not. A quantifier and a list
+have a start beside them: the fact speaks of their members from there on. A branch is a list of facts, numbered from 0. At first
+one branch is open: each axiom is said to hold. A line adds a part of a fact, splits the branch, or closes it. One that adds a
+fact gives it the next number, and both branches of a split go on from the same number.
 """
 from dataclasses import dataclass, replace
 from typing import Union

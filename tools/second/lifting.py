@@ -5,8 +5,7 @@ the number of the fact that it is the tree of. A split of a choice becomes one o
 once: a part that is always true is left out, and where one of two sides is false whatever the world, the fact is split
 and that side closed. Such a side on the right waits until what stands before it is closed.
 """
-from dataclasses import dataclass
-from typing import Iterator
+from typing import Iterator, NamedTuple
 
 from tools.second.cases import Case
 from tools.second.grounding import Literal
@@ -16,10 +15,8 @@ from tools.second.models import Binary, Edges, Expand, Model, Nodes, Not, Quanti
 from tools.second.positions import Clash, Inner, Leaf, Positions
 
 
-@dataclass
-class Later:
-    """A branch that waits: how many facts and keys it keeps, its own fact, and the position of the side that it takes;
-    None where it only has to be closed."""
+class Later(NamedTuple):
+    """A branch that waits: how many facts and keys it keeps, its fact, and the position of its side; None to be closed alone."""
 
     facts: int
     keys: int

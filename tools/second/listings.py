@@ -1,7 +1,6 @@
 """Herd's X86 listings: bytes to the case that a listing says, by docs/tests.md."""
 import re
-from dataclasses import dataclass
-from typing import Callable, Sequence
+from typing import Callable, NamedTuple, Sequence
 
 from tools.second.cases import GREATEST_CORE, MOST_OPS, Case, ExpectationItem, Item, Location, Op, OpItem, ValueItem
 from tools.second.cases import case_of, read_items
@@ -30,8 +29,7 @@ def pieces(more: bytes) -> re.Pattern[bytes]:
 PIECE = pieces(b"")
 
 
-@dataclass(frozen=True)
-class Instruction:
+class Instruction(NamedTuple):
     """What stands in a cell: its word, and of a store or a load the location; a store has a number, a load a register."""
 
     word: Token
@@ -44,8 +42,7 @@ class Instruction:
 Row = tuple[tuple[Instruction | None, ...], Token]
 
 
-@dataclass(frozen=True)
-class Equation:
+class Equation(NamedTuple):
     """A name with a number: of a location, or of a register where there is a thread."""
 
     name: Token
@@ -53,8 +50,7 @@ class Equation:
     thread: Token | None = None
 
 
-@dataclass(frozen=True)
-class Listing:
+class Listing(NamedTuple):
     """A listing as it is written, after its header."""
 
     inits: tuple[Equation, ...]
@@ -216,8 +212,7 @@ class Judge:
 
     def location(self, name: Token) -> Location:
         """The location of a name. Locations are numbered as they are named first."""
-        number = len(self.locations)
-        return self.locations.setdefault(name.piece, Location(number, 0, name.piece))
+        return self.locations.setdefault(name.piece, Location(len(self.locations), 0, name.piece))
 
     def judge_state(self, equation: Equation, known: dict[Location, Equation], fault: str) -> None:
         """A location has one value at the start, and one at the end."""

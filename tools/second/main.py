@@ -29,7 +29,6 @@ from tools.second.queries import InModel, read_query, with_axiom
 from tools.second.scopes import read_model
 from tools.second.searching import is_observable
 from tools.second.solvers import dimacs, smtlib
-from tools.second.standard_output import status_of
 from tools.second.tokens import Fault
 
 Read = TypeVar("Read")
@@ -174,5 +173,5 @@ def run(words: list[str], out: TextIO) -> int:
     return status
 
 
-if __name__ == "__main__":
-    sys.exit(status_of(lambda *words: run(list(words), sys.stdout), sys.argv[1:]))
+def main(*words: str) -> int:
+    return run(list(words), sys.stdout)

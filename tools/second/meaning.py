@@ -4,8 +4,7 @@ Guards come first: what a test decides of quantified formulas before all their v
 `forall i, forall j, IsAnyRead i /\\ .. => ..` holds for every j where i is no read, so that no j is looked at. A guard is
 a predicate with the value that decides all that stands below a quantifier.
 """
-from dataclasses import dataclass, replace
-from typing import Iterator
+from typing import Iterator, NamedTuple
 
 from tools.second.cases import Case
 from tools.second.models import Arg, Binary, Expand, Formula, Model, NodeTerm, Not, Number, Quantified, Static, Word
@@ -22,8 +21,7 @@ def value(arg: Arg, env: Environment) -> int:
     return arg.value if isinstance(arg, Number) else env[arg.name]
 
 
-@dataclass(frozen=True)
-class Guard:
+class Guard(NamedTuple):
     """A predicate that decides where it has this value. It is ahead where a quantifier stands before it."""
 
     predicate: Static
@@ -61,7 +59,7 @@ def deciding(formula: Formula, value: bool) -> list[Guard]:
     if isinstance(formula, Quantified) and formula.universal is value:
         # over nothing it has this value, too
         found = deciding(formula.body, value)
-        return [replace(one, is_ahead=True) for one in found if formula.name not in one.names]
+        return [one._replace(is_ahead=True) for one in found if formula.name not in one.names]
     return []
 
 
@@ -99,8 +97,7 @@ class Meaning:
     def body_of(self, formula: Expand, env: Environment) -> tuple[Formula, Environment]:
         """The body of a macro, with its parameters bound."""
         macro = self.macros[formula.macro.name]
-        bound = {word.name: value(arg, env) for word, arg in zip(macro.parameters, formula.args)}
-        return macro.body, {**env, **bound}
+        return macro.body, {**env, **{word.name: value(arg, env) for word, arg in zip(macro.parameters, formula.args)}}
 
     def node(self, term: NodeTerm, env: Environment) -> Node:
         """The node that a term names; without a core it is that of the micro-op."""

@@ -2,7 +2,7 @@
 import re
 from dataclasses import dataclass
 from functools import cached_property
-from typing import Union
+from typing import NamedTuple, Union
 
 from tools.second.tokens import Fault, Reader, Token
 
@@ -36,8 +36,7 @@ class Number:
 Arg = Union[Word, Number]
 
 
-@dataclass(frozen=True)
-class NodeTerm:
+class NodeTerm(NamedTuple):
     """(op, stage), or (op, (core, stage)). Without a core it is that of the micro-op."""
 
     op: Word
@@ -45,8 +44,7 @@ class NodeTerm:
     stage: Word
 
 
-@dataclass(frozen=True)
-class EdgeTerm:
+class EdgeTerm(NamedTuple):
     """An edge from one node to another. Its label is kept for readers alone; colours are not kept."""
 
     start: NodeTerm
@@ -109,8 +107,7 @@ class Expand:
 Formula = Union[Not, Binary, Quantified, Static, Nodes, Edges, Expand]
 
 
-@dataclass(frozen=True)
-class Stage:
+class Stage(NamedTuple):
     number: Number
     name: Word
 
@@ -218,8 +215,7 @@ class ModelReader(Reader):
 
     def formula(self, level: int = 0) -> Formula:
         """A formula with no looser connective outside brackets than that of this level; each groups to the right."""
-        is_tightest = level == len(CONNECTIVES) - 1
-        left = self.operand() if is_tightest else self.formula(level + 1)
+        left = self.operand() if level == len(CONNECTIVES) - 1 else self.formula(level + 1)
         # each of them could stand here, whatever the level
         if not self.sees(*CONNECTIVES) or self.next.piece != CONNECTIVES[level]:
             return left

@@ -30,8 +30,7 @@ class Pattern:
 
 
 def values_at(case: Case, place: int) -> tuple[Value, ...]:
-    """What a read may get: the value at the start at its physical address, then those of the writes there in test order,
-    each once."""
+    """What a read may get: the value at the start at its physical address, then those of the writes there in test order."""
     address = case.ops[place].pa
     assert address is not None
     return tuple(dict.fromkeys([case.initial_at(address), *written_at(case, address)]))

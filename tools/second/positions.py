@@ -1,12 +1,11 @@
 """The nested tree as numbered positions, and its nodes as numbers: what refutations speak of.
 
-Positions are counted in preorder over conjunctions, disjunctions and literals, from 0 at the root. Nodes are numbered
-as they are first seen in that order, the first end of an edge before the second. A tree that is a constant has no
-position.
+Positions are counted in preorder over conjunctions, disjunctions and literals, from 0 at the root. Nodes are numbered as they are
+first seen in that order, the first end of an edge before the second. A tree that is a constant has no position.
 """
 import re
 from dataclasses import dataclass
-from typing import Iterator, Sequence
+from typing import Iterator, NamedTuple, Sequence
 
 from tools.second.cases import GREATEST_CORE, Case
 from tools.second.grounding import Grounder, Group, Literal, Tree, nested
@@ -47,8 +46,7 @@ class Leaf:
         return [Leaf(self.start, None, True), Leaf(self.end, None, True)]
 
 
-@dataclass(frozen=True)
-class Clash:
+class Clash(NamedTuple):
     """The line that closes a branch: `cycle`, `path` or `absent` with its nodes."""
 
     word: str
@@ -120,8 +118,7 @@ class Positions:
 
     def leaf(self, literal: Literal) -> Leaf:
         """A literal, its nodes numbered."""
-        start = self.number(literal.start)
-        return Leaf(start, None if literal.end is None else self.number(literal.end), literal.wanted)
+        return Leaf(self.number(literal.start), None if literal.end is None else self.number(literal.end), literal.wanted)
 
     def number(self, node: Node) -> int:
         """The number of a node, the next one where it is new."""
@@ -149,8 +146,7 @@ class Positions:
             yield Leaf(row.start, row.end, row.wanted is not is_denied) if isinstance(row, Leaf) else (here, is_denied)
 
     def sides(self, choice: Signed, version: int) -> tuple[list[Signed], list[Signed]]:
-        """What the left and the right side of a split assert: in version 2 the right one also that the left member does not
-        hold."""
+        """What both sides of a split assert: in version 2 the right one also that the left member does not hold."""
         position, is_denied = choice
         row = self.rows[position]
         assert isinstance(row, Inner)

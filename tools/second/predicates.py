@@ -31,16 +31,8 @@ def virtual(op: Op) -> Page:
     return op.va
 
 
-def has_initial(case: Case, i: int) -> bool:
-    """The value is the initial one at its physical address."""
-    op = case.ops[i]
-    return op.pa is not None and op.value == case.initial_at(op.pa)
-
-
-def has_final(case: Case, i: int) -> bool:
-    """A final value is stated at its physical address, and it is the value."""
-    op = case.ops[i]
-    return op.pa in case.final and op.value == case.final[op.pa]
+def of_state(test: Callable[[Case, Op], bool]) -> Row:
+    return (MICROOP,), lambda case, i: test(case, case.ops[i])
 
 
 PREDICATES: dict[str, Row] = {
@@ -63,8 +55,8 @@ PREDICATES: dict[str, Row] = {
     "SamePhysicalTag": of_pair(lambda i, j: isinstance(i.pa, Page) and isinstance(j.pa, Page) and i.pa.tag == j.pa.tag),
     "SameIndex": of_accesses(lambda op: virtual(op).index),
     "SameData": of_accesses(lambda op: op.value),
-    "DataFromInitialStateAtPA": ((MICROOP,), has_initial),
-    "DataFromFinalStateAtPA": ((MICROOP,), has_final),
+    "DataFromInitialStateAtPA": of_state(lambda case, i: i.pa is not None and i.value == case.initial_at(i.pa)),
+    "DataFromFinalStateAtPA": of_state(lambda case, i: i.pa in case.final and i.value == case.final[i.pa]),
     "HasDependency": ((PLAIN, MICROOP, MICROOP), lambda case, kind, i, j: (kind, i, j) in case.dependencies),
     # i is at the page-table entry of j's virtual tag
     "EntryOf": of_pair(lambda i, j: j.va is not None and i.pa == EntryAddress(j.va.tag)),

@@ -129,10 +129,7 @@ def measured(formula: Formula, known: dict[str, tuple[int, int]]) -> tuple[int, 
         return 1, 0
     if isinstance(formula, (Nodes, Edges)):
         return 1 + len(formula.members), 0
-    if isinstance(formula, Expand):
-        below = [known[formula.macro.name]]
-    else:
-        below = [measured(part, known) for part in parts(formula)]
+    below = [known[formula.macro.name]] if isinstance(formula, Expand) else [measured(part, known) for part in parts(formula)]
     return 1 + sum(size for size, _ in below), 1 + max(height for _, height in below)
 
 

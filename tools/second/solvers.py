@@ -1,10 +1,9 @@
 """The question of a tree for other solvers, as DIMACS and as SMT-LIB: satisfiable exactly where some world makes the tree true.
 
-In DIMACS a variable stands for each ordered pair of two nodes (the first happens before the second) and for each node (it is
-in the world). An edge implies both its ends. Transitivity is written out for all triples; with irreflexivity, which
-is that no pair of a node with itself has a variable, it says that no two nodes are before each other. Each inner
-place of the tree has a variable that implies its members (Tseitin's transformation; the tree has negations at literals
-alone, so that one direction is enough).
+In DIMACS a variable stands for each ordered pair of two nodes (the first happens before the second) and for each node (it is in
+the world). An edge implies both its ends. Transitivity is written out for all triples; with irreflexivity, which is that no pair
+of a node with itself has a variable, it says that no two nodes are before each other. Each inner place of the tree has a variable
+that implies its members (Tseitin's transformation; the tree has negations at literals alone, so that one direction is enough).
 
 In SMT-LIB each pair and each node has a Boolean, too, and the tree is written as it is. Numbers as time stamps would be shorter
 and would say something else: a denied edge may be met by no order at all, and of two numbers one is at most the other.
@@ -78,20 +77,17 @@ def there(node: Node) -> str:
 
 
 def before(start: Node, end: Node) -> str:
-    """The symbol that says that one node happens before another."""
-    return f"e_{name(start)}__{name(end)}"
+    """The symbol that says that one node happens before another. An edge from a node to itself is never there."""
+    return "false" if start == end else f"e_{name(start)}__{name(end)}"
 
 
 def term(tree: Tree) -> str:
-    """A tree as a term. An edge from a node to itself is never there."""
+    """A tree as a term."""
     if isinstance(tree, bool):
         return "true" if tree else "false"
     if not isinstance(tree, Literal):
         return f"({'and' if tree.is_conjunction else 'or'} {' '.join(map(term, tree.members))})"
-    if tree.end is None:
-        symbol = there(tree.start)
-    else:
-        symbol = "false" if tree.start == tree.end else before(tree.start, tree.end)
+    symbol = there(tree.start) if tree.end is None else before(tree.start, tree.end)
     return symbol if tree.wanted else f"(not {symbol})"
 
 

@@ -1,7 +1,6 @@
 """Bytes to tokens, for models and tests alike, and for listings by their own pieces; and the faults of a file."""
 import re
-from dataclasses import dataclass
-from typing import Callable, TypeVar
+from typing import Callable, NamedTuple, TypeVar
 
 GREATEST_NUMBER = (1 << 64) - 1
 MOST_DIGITS = len(str(GREATEST_NUMBER))
@@ -36,8 +35,7 @@ class Fault(Exception):
         self.said = said
 
 
-@dataclass(frozen=True)
-class Token:
+class Token(NamedTuple):
     """A piece that counts, a number without zeros in front. `kind` is name, number, text, symbol, or end after the last one."""
 
     kind: str

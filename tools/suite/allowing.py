@@ -11,13 +11,13 @@ import time
 from contextlib import suppress
 from dataclasses import dataclass, field
 from glob import glob
+from typing import NamedTuple
 
-from tools.lint.lines import line_of
 from tools.suite.calling import GRACE, PYTHON, Calls, limited, memory_limit
 from tools.suite.files import Copies, File
 from tools.suite.telling import Refusal
 from tools.texts.memory_models import FORM, memory_model_of
-from tools.texts.quoting import quoted, shown
+from tools.texts.quoting import line_of, quoted, shown
 
 # a file of tools/agree/machines that is a machine
 MACHINE = re.compile(r"^def outcomes\(", re.MULTILINE)
@@ -42,9 +42,7 @@ class Rows:
                 lines = [line.split("\t") for line in file.read().splitlines()]
         except OSError as error:
             raise Refusal(f"the table {shown(path)} cannot be read") from error
-        head = [*COLUMNS]
-        if lines and lines[0][:1] == [COLUMNS[0]]:
-            head = lines.pop(0)
+        head = lines.pop(0) if lines and lines[0][:1] == [COLUMNS[0]] else [*COLUMNS]
         missing = [name for name in COLUMNS if name not in head]
         if missing:
             raise Refusal(f"the table {shown(path)} has no column {missing[0]}")
@@ -102,8 +100,7 @@ def line_of_unnamed(model: File, known: set[str]) -> str:
     return line_of(model.path, text, named.at, said)
 
 
-@dataclass(frozen=True)
-class Answer:
+class Answer(NamedTuple):
     """What a machine says of a test: whether it comes up, or which rows of a pattern do. Nothing where it does not run
     such tests; or it is late, or fails, and how."""
 
@@ -166,11 +163,6 @@ class Judges:
     seconds: float
     calls: Calls
     by_thread: dict[int, Machine] = field(default_factory=dict)
-
-    def end_all(self) -> None:
-        """Ends all processes, once no thread asks any more."""
-        for machine in self.by_thread.values():
-            machine.end()
 
     def answer(self, name: str, test: File, deadline: float | None) -> Answer:
         """What the machine of this name says of a test up to a moment of the clock, or within the limit of one test."""

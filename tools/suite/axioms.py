@@ -5,7 +5,6 @@ from contextlib import suppress
 from functools import partial
 from typing import Sequence
 
-from tools.lint.lines import line_of
 from tools.second.cores import without
 from tools.second.scopes import read_model
 from tools.second.tokens import Fault
@@ -16,6 +15,7 @@ from tools.suite.pairs import TIME, Checker, Found
 from tools.suite.running import checked
 from tools.suite.telling import Refusal, aligned
 from tools.texts.answers import cut_text
+from tools.texts.quoting import line_of
 
 NEEDED = "untested or not needed"
 
@@ -49,9 +49,7 @@ def answers_of(
     return side_by_side(checker.calls, jobs, tasks, is_long=True)
 
 
-def run_axioms(
-    model: File, tests: Sequence[File], checker: Checker, kept: Kept, folder: str, jobs: int
-) -> tuple[list[str], int]:
+def run_axioms(model: File, tests: Sequence[File], checker: Checker, kept: Kept, folder: str, jobs: int) -> tuple[list[str], int]:
     """The lines of the table with the count, and the status."""
     text = model.text or b""
     try:

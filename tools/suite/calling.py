@@ -10,11 +10,12 @@ import resource
 import signal
 import subprocess
 import sys
+import tempfile
 import threading
 from contextlib import suppress
 from typing import IO, Callable, Sequence, TypeVar
 
-from tools.ending import PATIENCE, SIGNALS
+from tools.ending import SIGNALS
 from tools.suite.telling import Progress, Refusal
 from tools.texts.quoting import quoted
 
@@ -117,9 +118,7 @@ class Calls:
             self.late.discard(process)
             if self.is_stopped:
                 raise Stopped
-        if is_late:
-            return None
-        return status if status >= 0 else 128 - status
+        return None if is_late else status if status >= 0 else 128 - status
 
     def end_late(self, process: Process) -> None:
         with self.lock:
@@ -136,8 +135,7 @@ class Calls:
 
 
 def limited(command: Sequence[str], kib: int | None, seconds: float | None) -> list[str]:
-    """The command under a limit of address space, and of the processor time that it may take on all processors. A limit that
-    stands is never raised."""
+    """The command under a limit of address space, and of processor time on all processors. What limit stands is never raised."""
     # the shell would take a dash for an option
     first = os.path.join(".", command[0]) if command[0].startswith("-") else command[0]
     most = math.inf if seconds is None else math.ceil(seconds) * len(os.sched_getaffinity(0)) + 1
@@ -185,7 +183,7 @@ def side_by_side(
     try:
         start(threads)
         for _ in tasks:
-            place = next_of(ended)
+            place = SIGNALS.patient(lambda seconds: ended.get(timeout=seconds), queue.Empty)
             if place not in answers:
                 raise failures[0]
             tell(place, answers[place])
@@ -201,11 +199,17 @@ def side_by_side(
     return [answers[place] for place in range(len(tasks))]
 
 
-def next_of(ended: "queue.SimpleQueue[int]") -> int:
-    while True:
-        with suppress(queue.Empty):
-            return ended.get(timeout=PATIENCE)
-        SIGNALS.look()
+def said_by(calls: Calls, command: Sequence[str], folder: str | None = None) -> tuple[int, bytes]:
+    """The status of a call without a limit of time, and what it writes, by way of this folder. A signal comes to this thread; the
+    call may clean up when it is ended."""
+    with tempfile.TemporaryFile(dir=folder) as out:
+
+        def work() -> int | None:
+            return calls.finished(calls.started(command, out, None, signal.SIGTERM), None)
+
+        (status,) = side_by_side(calls, 1, [work])
+        out.seek(0)
+        return status or 0, out.read()
 
 
 def start(threads: Sequence[threading.Thread]) -> None:

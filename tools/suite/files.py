@@ -4,7 +4,7 @@ import os
 import re
 import stat
 from dataclasses import dataclass, replace
-from typing import Iterable, Sequence
+from typing import Iterable, NamedTuple, Sequence
 
 from tools.suite.telling import Refusal
 from tools.texts import contents as reading
@@ -25,8 +25,7 @@ CELLS = "cells"
 PART = ".part"
 
 
-@dataclass(frozen=True)
-class Kind:
+class Kind(NamedTuple):
     """What checks a test, and what judges its certificate; a sweep has none, and an answer several."""
 
     check: str
@@ -133,8 +132,7 @@ def model_file(path: str) -> File:
 
 
 def test_file(path: str, folders: Sequence[str] = ()) -> File:
-    """A test. A listing, a pattern and a query keep their endings in the table. The test of a query stands beside it, or
-    in one of these folders."""
+    """A test. All but tests keep their endings in the table. The test of a query stands beside it, or in one of these folders."""
     file = file_at("test", path, os.path.basename(path).removesuffix(TEST_ENDING))
     if ending_of(path) != QUERY_ENDING:
         return file

@@ -4,7 +4,6 @@ folder of verdicts that are kept over suites.
 Each file is written under another name first and then takes the place of the old one: so no link is followed, and what
 stood before stands until the new one is whole.
 """
-import fcntl
 import json
 import os
 import re
@@ -36,9 +35,9 @@ FIRST = (BUG, STRICTER, TIME)
 
 
 @contextmanager
-def new_file(place: str) -> Iterator[IO[bytes]]:
-    """A file that is written beside a place. Nothing is left of it, if it is not moved there."""
-    part = place + PART
+def new_file(place: str, mark: str = "") -> Iterator[IO[bytes]]:
+    """A file that is written beside a place, under a name with this mark. Nothing is left of it, if it is not moved there."""
+    part = place + mark + PART
     with suppress(FileNotFoundError):
         os.unlink(part)
     with open(part, "x+b") as file:
@@ -49,8 +48,8 @@ def new_file(place: str) -> Iterator[IO[bytes]]:
                 os.unlink(part)
 
 
-def write_anew(place: str, text: bytes) -> None:
-    with new_file(place) as file:
+def write_anew(place: str, text: bytes, mark: str = "") -> None:
+    with new_file(place, mark) as file:
         file.write(text)
         file.flush()
         os.replace(file.name, place)
@@ -96,11 +95,7 @@ class Folder:
 
     def wait_in_turn(self) -> None:
         """Waits for another suite that writes here."""
-        try:
-            fcntl.flock(self.lock, fcntl.LOCK_EX | fcntl.LOCK_NB)
-        except BlockingIOError:
-            tell(f"suite: another suite writes into {shown(self.path)}: waiting for it")
-            SIGNALS.lock(self.lock)
+        SIGNALS.lock(self.lock, lambda: tell(f"suite: another suite writes into {shown(self.path)}: waiting for it"))
 
     def make_room(self, model: File) -> None:
         """Makes the folder of a model's certificates. A link to another folder is none."""
@@ -126,8 +121,7 @@ class Folder:
 
     def write_cells(self, cells: Cells) -> None:
         """Keeps the rows of a table: model, test and cell."""
-        text = "".join("\t".join((*pair, cell)) + "\n" for pair, cell in cells.items())
-        write_anew(self.cells, os.fsencode(text))
+        write_anew(self.cells, os.fsencode("".join("\t".join((*pair, cell)) + "\n" for pair, cell in cells.items())))
 
 
 class Baseline:
@@ -195,14 +189,14 @@ class State:
 
     def read(self) -> None:
         """Takes in what an interrupted suite left."""
+        self.pairs = {}
         try:
-            found = json.loads(contents_of_any_length(self.place))
+            found = json.loads(own_contents(self.place))
             pairs = found["pairs"] if found["program"] == self.program != "" else {}
             self.pairs = {name: pair for name, pair in pairs.items() if isinstance(pair, dict)}
         except FileNotFoundError:
-            self.pairs = {}
+            pass
         except (OSError, ValueError, KeyError, TypeError, AttributeError, RecursionError):
-            self.pairs = {}
             tell(f"suite: {shown(self.place)} is spoilt: it is made anew")
 
     def found(self, model: File, test: File) -> Found | None:
@@ -225,7 +219,7 @@ class State:
         """What the certificate of a pair says, with all that this comes from."""
         certificate = None
         with suppress(OSError):
-            certificate = contents_of_any_length(self.folder.place(model, test))
+            certificate = own_contents(self.folder.place(model, test))
         found = verdict_found(certificate or b"")
         return {
             "model": model.digest,
@@ -289,7 +283,7 @@ class Kept:
             return None
         place = self.place(model, test)
         try:
-            head, _, text = contents_of_any_length(place).partition(b"\n")
+            head, _, text = own_contents(place).partition(b"\n")
             is_whole = json.loads(head)["digest"] == digest_of(text)
         except (OSError, ValueError, KeyError, TypeError, RecursionError):
             return None
@@ -310,14 +304,8 @@ class Kept:
         text = said.read()
         place = self.place(model, test)
         head = json.dumps({"stated": found.stated, "digest": digest_of(text)}).encode("ascii")
-        part = f"{place}.{os.urandom(16).hex()}{PART}"
-        try:
-            with open(part, "xb") as file:
-                file.write(head + b"\n" + text)
-            os.replace(part, place)
-        except OSError:
-            with suppress(OSError):
-                os.unlink(part)
+        with suppress(OSError):
+            write_anew(place, head + b"\n" + text, f".{os.urandom(16).hex()}")
 
     def tell_taken(self) -> None:
         if self.taken:
@@ -344,10 +332,10 @@ class Kept:
                         yield status.st_mtime, entry.path, status.st_size
 
 
-def contents_of_any_length(place: str) -> bytes:
-    """The bytes of a file of the suite's own; no link is followed, and no pipe is waited for."""
+def own_contents(place: str, most: int = -1) -> bytes:
+    """The bytes of a file of the suite's own, so many at most; no link is followed, and no pipe is waited for."""
     handle = os.open(place, os.O_RDONLY | os.O_NOFOLLOW | os.O_NONBLOCK | os.O_CLOEXEC)
     with os.fdopen(handle, "rb") as file:
         if not stat.S_ISREG(os.fstat(handle).st_mode):
             raise OSError(f"{place} is no file")
-        return file.read()
+        return file.read(most)

@@ -87,7 +87,7 @@ from tools.suite.pairs import BUG, NOT_TAKEN, OBSERVABLE, OK, STRICTER, SWEPT, T
 from tools.suite.programs import checker_of, program_digest
 from tools.suite.running import Suite
 from tools.suite.telling import Refusal, Unread, open_streams, put, tell, width_of_terminal
-from tools.suite.words import BASELINE, JUNIT, SARIF, Words, folder_of, number_of_jobs, number_of_seconds, read_words
+from tools.suite.words import BASELINE, JUNIT, SARIF, Words, folder_of, limits_of, read_words
 from tools.texts.quoting import shown
 
 NO_TABLE = 2
@@ -115,14 +115,12 @@ def status_of(cells: Collection[str]) -> int:
     counts = counts_of(cells)
     if counts[TIME] or counts[FAULTS]:
         return 2
-    if counts[BUG]:
-        return 1
-    return 3 if counts[STRICTER] else 0
+    return 1 if counts[BUG] else 3 if counts[STRICTER] else 0
 
 
 def suite(words: Sequence[str], environ: Mapping[str, str], top: str) -> int:
     """Runs what the words ask for, prints the table and answers the status."""
-    seconds, jobs = number_of_seconds(environ), number_of_jobs(environ)
+    seconds, jobs = limits_of(environ)
     asked = read_words(words, environ, top)
     if "--axioms" not in asked.options:
         return pairs(asked, environ, top, seconds, jobs)
@@ -176,8 +174,10 @@ def pairs(asked: Words, environ: Mapping[str, str], top: str, seconds: float, jo
     return status
 
 
-def answer(words: Sequence[str]) -> int:
+def main(*words: str) -> int:
     """Runs the suite, and says what went wrong with it."""
+    sys.setrecursionlimit(RECURSION)
+    open_streams()
     SIGNALS.receive(ENDING)
     try:
         if "--help" in words:
@@ -197,10 +197,3 @@ def answer(words: Sequence[str]) -> int:
         # Python's own status for this is 1, which says that there are bugs
         tell(traceback.format_exc(), end="")
     return NO_TABLE
-
-
-if __name__ == "__main__":
-    sys.setrecursionlimit(RECURSION)
-    open_streams()
-    # where a signal ended the suite it ends this process, too, once nothing is left behind
-    sys.exit(SIGNALS.status_or_end(lambda: answer(sys.argv[1:])))

@@ -4,7 +4,7 @@ import re
 import tempfile
 from dataclasses import dataclass
 from functools import lru_cache
-from typing import IO
+from typing import IO, NamedTuple
 
 from tools.suite.calling import Calls
 from tools.suite.files import Copies, File
@@ -29,8 +29,7 @@ HEAD = 4096
 # pylint: disable=import-outside-toplevel
 
 
-@dataclass(frozen=True)
-class Found:
+class Found(NamedTuple):
     """What is known of a pair: a verdict whose certificate is judged, with what the test states of its outcome; or the
     rows of a sweep that are observable, each as the sweep writes it; or the word that answers a query, as what is stated;
     or the cell of a fault, with the place in a file that is refused."""
@@ -171,9 +170,7 @@ def cell_of(found: Found, is_allowed: bool | None) -> str:
 
 def cell_of_rows(found: Found, allowed: frozenset[str]) -> str:
     """What the table shows of a sweep, where a machine says which rows come up."""
-    if found.rows - allowed:
-        return BUG
-    return STRICTER if allowed - found.rows else OK
+    return BUG if found.rows - allowed else STRICTER if allowed - found.rows else OK
 
 
 def kind_of(cell: str) -> str:

@@ -2,12 +2,11 @@
 import os
 import shlex
 import shutil
-import signal
 import tempfile
 from typing import Mapping
 
 from tools import standing
-from tools.suite.calling import Calls, memory_limit, side_by_side
+from tools.suite.calling import Calls, memory_limit, said_by, side_by_side
 from tools.suite.files import digest_of
 from tools.suite.pairs import Checker
 from tools.suite.telling import Refusal
@@ -53,15 +52,7 @@ def command_of(value: str) -> list[str]:
 
 def standing_program(top: str, calls: Calls) -> standing.Standing:
     """The program of the sources that are here, which is made where it is not there."""
-    with tempfile.TemporaryFile() as out:
-
-        def build() -> int | None:
-            # it may clean up when it is ended
-            return calls.finished(calls.started(standing.command(top), out, None, signal.SIGTERM), None)
-
-        (status,) = side_by_side(calls, 1, [build])
-        out.seek(0)
-        said = out.read()
+    status, said = said_by(calls, standing.command(top))
     if status != 0:
         raise Refusal(f"there is no program to call in {shown(top)}")
     return standing.read_standing(said)

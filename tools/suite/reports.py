@@ -3,7 +3,6 @@ SARIF what is BUG or stricter, and below its table slips that lint names, and fa
 import json
 import os
 import re
-from dataclasses import dataclass
 from typing import Iterable, Iterator, Mapping, NamedTuple, Sequence
 from urllib.parse import quote
 from xml.etree import ElementTree
@@ -35,8 +34,7 @@ SCHEMA = "https://json.schemastore.org/sarif-2.1.0.json"
 PLACE = re.compile(r":([1-9][0-9]*):([1-9][0-9]*): ([a-z0-9'-]+): (.*)", re.DOTALL)
 
 
-@dataclass(frozen=True)
-class Case:
+class Case(NamedTuple):
     """A pair: its cell, whether that is the same in the baseline, and the lines below the table that speak of it."""
 
     model: File

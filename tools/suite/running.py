@@ -145,7 +145,8 @@ class Suite:
             deadline = None if is_pattern else time.monotonic() + seconds
             tasks = [partial(judges.answer, name, test, deadline) for name, test in asked]
             self.answers.update(zip(asked, side_by_side(self.checker.calls, jobs, tasks)))
-        judges.end_all()
+        for machine in judges.by_thread.values():
+            machine.end()
 
     def named_judge(self, model: File, test: File) -> str | None:
         """The memory model whose machine is to say what a pair should be: the pair has a verdict, or rows, that mean something, and

@@ -87,8 +87,7 @@ def aligned(rows: Sequence[Sequence[str]]) -> list[str]:
 
 
 def table_of_models(models: Sequence[str], rows: Sequence[Sequence[str]], width: int | None) -> list[str]:
-    """A row for each test with the cells of the models. Where the lines are wider than the terminal the models have
-    numbers, and a key stands above."""
+    """A row for each test with the cells of the models, which get numbers and a key above where the terminal is narrower."""
     lines = aligned([["test", *models], *rows])
     if width is None or max(map(len, lines)) <= width:
         return lines
@@ -98,6 +97,5 @@ def table_of_models(models: Sequence[str], rows: Sequence[Sequence[str]], width:
 
 def width_of_terminal() -> int | None:
     """How many columns the terminal has that the table goes to; None where it goes to something else."""
-    if sys.stdout is None or not sys.stdout.isatty():
-        return None
-    return shutil.get_terminal_size((0, 0)).columns or None
+    is_terminal = sys.stdout is not None and sys.stdout.isatty()
+    return shutil.get_terminal_size((0, 0)).columns or None if is_terminal else None

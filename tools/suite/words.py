@@ -1,12 +1,10 @@
 """The words and the variables of the environment that the suite is called with."""
 import os
 import re
-from dataclasses import dataclass
-from typing import Mapping, Sequence
+from typing import Mapping, NamedTuple, Sequence
 
-from tools.suite.files import (
-    KINDS, MODEL_ENDING, File, ending_of, is_row, is_test, judge_distinct, judge_present, model_file, test_file
-)
+from tools.suite.files import KINDS, MODEL_ENDING, File, ending_of, is_row, is_test, judge_distinct, judge_present
+from tools.suite.files import model_file, test_file
 from tools.suite.telling import Refusal
 from tools.texts.quoting import quoted, shown
 
@@ -18,8 +16,7 @@ BASELINE, JUNIT, SARIF = "--baseline", "--junit", "--sarif"
 OPTIONS_OF_PATHS = (BASELINE, JUNIT, SARIF)
 
 
-@dataclass(frozen=True)
-class Words:
+class Words(NamedTuple):
     """What the suite is asked for: options, some with a path, models and tests."""
 
     options: Mapping[str, str]
@@ -107,14 +104,10 @@ def files_in(folder: str, endings: Sequence[str]) -> list[str]:
     return found
 
 
-def number_of_seconds(environ: Mapping[str, str]) -> float:
-    """The limit of one call."""
-    return number_in(environ, "SUITE_SECONDS", SECONDS, "20", "a number above 0")
-
-
-def number_of_jobs(environ: Mapping[str, str]) -> int:
-    """How many calls run side by side."""
-    return int(number_in(environ, "SUITE_JOBS", JOBS, str(len(os.sched_getaffinity(0))), "a number from 1 to 9999"))
+def limits_of(environ: Mapping[str, str]) -> tuple[float, int]:
+    """The limit of one call, in seconds, and how many calls run side by side."""
+    seconds = number_in(environ, "SUITE_SECONDS", SECONDS, "20", "a number above 0")
+    return seconds, int(number_in(environ, "SUITE_JOBS", JOBS, str(len(os.sched_getaffinity(0))), "a number from 1 to 9999"))
 
 
 def number_in(environ: Mapping[str, str], name: str, form: re.Pattern[str], default: str, kind: str) -> float:

@@ -5,15 +5,12 @@
 A line `word WORD SENTENCE`, with a tab before the sentence, is a word that may stand there, and `file .ENDING` says that
 a file with this ending may, `file` that any file may. Where a file may stand, a folder may.
 """
-import sys
 from typing import Iterator
 
 from tools import TOP
 from tools.telling.forms import Forms
 
-OPTIONS = (
-    "--all", "--as", "--between", "--fences", "--help", "--locations", "--locked", "--open", "--random", "--reading",
-)
+OPTIONS = ("--all", "--as", "--between", "--fences", "--help", "--locations", "--locked", "--open", "--random", "--reading")
 TESTS = {
     "explain": (".test", ".litmus"), "mend": (".test", ".litmus"),
     "lint": (".test", ".litmus", ".pattern"), "agree": (".test", ".litmus", ".pattern"),
@@ -49,8 +46,7 @@ def may_stand(kind: str, command: str, forms: Forms) -> Iterator[str]:
 
 def words(found: dict[str, str]) -> Iterator[str]:
     """Lines of these words, each with its sentence."""
-    for word, sentence in found.items():
-        yield f"word {word}\t{sentence}"
+    yield from (f"word {word}\t{sentence}" for word, sentence in found.items())
 
 
 def kinds_at(kinds: list[str], place: int) -> Iterator[str]:
@@ -84,7 +80,3 @@ def main(*before: str) -> None:
         found = [*words(commands(forms)), "word --help\tShows these forms."]
     for line in dict.fromkeys(found):
         print(line)
-
-
-if __name__ == "__main__":
-    main(*sys.argv[1:])

@@ -1,8 +1,7 @@
 """The forms of the commands, from the table commands.txt."""
 import os
 import textwrap
-from dataclasses import dataclass
-from typing import Iterator
+from typing import Iterator, NamedTuple
 
 from tools.texts.quoting import quoted
 
@@ -10,8 +9,7 @@ STATUSES = "Exit status: 0 observable, 1 unobservable, 6 a refused certificate, 
 WIDTH = 80
 
 
-@dataclass(frozen=True)
-class Form:
+class Form(NamedTuple):
     """One form of a command: who answers it, its word, the words after it, and what it does."""
 
     whose: str

@@ -7,11 +7,9 @@
     python3 tools telling unread                  says nothing; the status is 0 where nobody reads standard output, a pipe, any more
 """
 import select
-import sys
 from typing import Iterator
 
 from tools import TOP
-from tools.second.standard_output import status_of
 from tools.telling.files import unreadable
 from tools.telling.forms import Forms
 
@@ -50,7 +48,3 @@ def main(what: str, *words: str) -> int:
     for line in lines(what, list(words)):
         print(line)
     return 0
-
-
-if __name__ == "__main__":
-    sys.exit(status_of(main, sys.argv[1:]))

@@ -1,15 +1,13 @@
 """Where a refused file has its fault, what could stand there, and which command reads the file."""
 import os
 import re
-from dataclasses import dataclass
-from typing import Iterator
+from typing import Iterator, NamedTuple
 
 from tools.telling.files import row, sentence
 from tools.telling.forms import Forms
 from tools.texts.contents import contents
 from tools.texts.expecting import sentence_of, syntax_fault
-from tools.texts.naming import line_and_column
-from tools.texts.quoting import shown
+from tools.texts.quoting import line_and_column, shown
 
 # how much of a long line is shown, and what of it before the mark
 MOST_SHOWN, FAR, BEFORE = 120, 100, 60
@@ -23,8 +21,7 @@ INSTRUCTION = re.compile(rb"[A-Z$]|(?:mov|xchg|mfence|lock|add|sub|inc|dec|cmp|x
 OPERAND = re.compile(rb"(?:[|]|(?:MOV|mov)[^|]*,|LOCK|lock)[ \t]*$")
 
 
-@dataclass(frozen=True)
-class Refusal:
+class Refusal(NamedTuple):
     """What the program refuses: a model, a test or a query, by the word of its fault, at a line and a column."""
 
     kind: str
@@ -142,13 +139,6 @@ def left_out_word(data: bytes, refusal: Refusal) -> str:
     if is_ended and (is_instruction or is_operand) and OPERAND.search(before):
         return "XCHG"
     return "XCHG" if is_ended and is_instruction and is_closed and not before.strip(b" \t") else ""
-
-
-def listing_lines(top: str, said: str, path: str) -> Iterator[str]:
-    """Where a listing has the fault that this line refuses, and what to do about what is left out."""
-    refusal = refusal_of(said)
-    yield from place_of(top, path, refusal)
-    yield from left_out(top, path, refusal)
 
 
 def told(top: str, said: str, words: list[str]) -> Iterator[str]:

@@ -5,7 +5,8 @@ them with the text of its model.
 """
 import re
 from bisect import bisect
-from dataclasses import dataclass, replace
+from dataclasses import replace
+from typing import NamedTuple
 
 from tools.second.cores import with_axioms, without
 from tools.second.models import Axiom, Model, ModelReader, Not
@@ -22,11 +23,9 @@ class AnswerRefused(Exception):
 
     def __init__(self, line: int) -> None:
         super().__init__(f"answer refused at line {line}")
-        self.line = line
 
 
-@dataclass(frozen=True)
-class Part:
+class Part(NamedTuple):
     """A certificate in an answer: the line above it, the number of its first line, its lines."""
 
     heading: str
@@ -34,8 +33,7 @@ class Part:
     lines: list[str]
 
 
-@dataclass(frozen=True)
-class Core:
+class Core(NamedTuple):
     """An answer of `core`: the axioms of the set by their numbers, or none; the certificate of the set, or of the model
     where there is none, and then one for each axiom left out."""
 
@@ -43,10 +41,8 @@ class Core:
     parts: list[Part]
 
 
-@dataclass(frozen=True)
-class Asked:
-    """An answer of `ask`: its word, the certificate of the model with the formula as an axiom, and that with its
-    denial."""
+class Asked(NamedTuple):
+    """An answer of `ask`: its word, the certificate of the model with the formula as an axiom, and that with its denial."""
 
     word: str
     parts: list[Part]
@@ -122,8 +118,7 @@ class AnswerReader:
         return Asked(word, [self.certificate(self.expect("with"), holds), self.certificate(self.expect("against"), fails)])
 
 
-@dataclass(frozen=True)
-class ModelOfPart:
+class ModelOfPart(NamedTuple):
     """The model that a certificate is of. Places in it are places in `text`, which begins with the whole model, and
     behind it has the query from `query_at` on. `written` is a file that says the model."""
 
@@ -134,8 +129,7 @@ class ModelOfPart:
 
 
 def model_of(answer: Answer, part: Part, model: Model, text: bytes, query: bytes) -> ModelOfPart:
-    """The model that a certificate of an answer is of. The query is one that is read beside the model without a
-    fault."""
+    """The model that a certificate of an answer is of. The query is one that is read beside the model without a fault."""
     if isinstance(answer, Core):
         kept = answer.kept
         if kept is None:

@@ -9,6 +9,7 @@ from tools.second.meaning import Node
 from tools.second.models import Axiom, Model
 from tools.second.positions import NodeNames
 from tools.texts.origins import Origin
+from tools.texts.quoting import line_and_column
 
 LETTERS = ("x", "y", "z", "w", "u", "v", "a", "b", "c", "d", "e", "f")
 # behind a micro-op: a name, and the value that the micro-op has
@@ -16,11 +17,6 @@ NAMED = re.compile(rb"[^%\n]*%[ \t]*([A-Za-z_][A-Za-z0-9_]{0,15})[ \t]*(?:=|\bis
 
 # a node (with None) or an edge, and whether it is asked for
 Fact = tuple[Node, Node | None, bool]
-
-
-def line_and_column(text: bytes, at: int) -> str:
-    lines = text[:at].split(b"\n")
-    return f"{len(lines)}:{len(lines[-1]) + 1}"
 
 
 class Names:

@@ -1,6 +1,6 @@
 """Where in the model each position of the nested tree comes from: the axiom, the micro-ops and cores that its quantifiers
 took, the macro, and the label of an edge."""
-from dataclasses import dataclass
+from typing import NamedTuple
 
 from tools.second.cases import Case
 from tools.second.grounding import Grounder, Group, Literal, Tree, nested
@@ -19,10 +19,8 @@ class TooLarge(Exception):
     """The axioms say more of a test than is traced."""
 
 
-@dataclass(frozen=True)
-class Taken:
-    """What a quantifier took: its name, whether it is over micro-ops, and the value; and whether that is one of which some
-    value is enough."""
+class Taken(NamedTuple):
+    """What a quantifier took: its name, whether it is over micro-ops, the value; and whether some value of it is enough."""
 
     name: str
     is_microop: bool
@@ -30,8 +28,7 @@ class Taken:
     is_chosen: bool = False
 
 
-@dataclass(frozen=True)
-class Origin:
+class Origin(NamedTuple):
     """Where a part of the tree comes from. `macro` is the innermost one, and `at` the place of the formula."""
 
     axiom: Axiom

@@ -16,14 +16,12 @@ FURTHER = 4
 NODE = r"(?:\(\w+, \w+\)\S*|\S+)"
 WHOLE = re.compile(rf"(?<!\S)(?<! before ){NODE} before {NODE}(?!\S)(?! before )|\bfact \d+")
 BOUND = "\x1f"
-# No line begins further in than this. The facts below a split, and the rest of a long one, stand further in than a
-# branch does.
+# No line begins further in than this. The facts below a split, and the rest of a long one, stand further in than a branch does.
 MOST_INDENT = 40
 
 
 def width_of_output() -> int:
-    """How wide a line may be: what COLUMNS says, or else the terminal that standard output is, or else the usual
-    width."""
+    """How wide a line may be: what COLUMNS says, or else the terminal that standard output is, or else the usual width."""
     return max(LEAST_WIDTH, shutil.get_terminal_size((USUAL_WIDTH, 1)).columns)
 
 
@@ -40,15 +38,13 @@ def within(lines: Iterable[str], width: int) -> Iterator[str]:
 
 
 def broken(line: str, width: int) -> Iterator[str]:
-    """The parts of a line that is too wide: broken before what says where something comes from, and then between
-    words."""
+    """The parts of a line that is too wide: broken before what says where something comes from, and then between words."""
     text = line.lstrip(" ")
     first = line[: len(line) - len(text)]
     rest = " " * min(len(first) + FURTHER, width // 2)
     room = width - len(rest)
     text = WHOLE.sub(lambda found: found[0].replace(" ", BOUND) if len(found[0]) <= room else found[0], text)
     for number, part in enumerate(text.split(GAP)):
-        lines = textwrap.wrap(
-            part, width, initial_indent=rest if number else first, subsequent_indent=rest, break_on_hyphens=False
-        )
+        begins = rest if number else first
+        lines = textwrap.wrap(part, width, initial_indent=begins, subsequent_indent=rest, break_on_hyphens=False)
         yield from (one.replace(BOUND, " ") for one in lines)

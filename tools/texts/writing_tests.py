@@ -1,14 +1,12 @@
 """The test that a listing of herd's says, as a text that every command takes.
 
-The names of the listing stand in comments: of its threads, locations and registers, and what its author wrote beside
-them.
+The names of the listing stand in comments: of its threads, locations and registers, and what its author wrote beside them.
 """
 from dataclasses import replace
 from typing import Iterable, Iterator
 
-from tools.second.cases import (
-    OPEN, Address, Case, Entry, ExpectationItem, Item, Location, Op, OpItem, Page, ValueItem, read_case
-)
+from tools.second.cases import OPEN, Address, Case, Entry, ExpectationItem, Item, Location, Op, OpItem, Page, ValueItem
+from tools.second.cases import read_case
 from tools.second.listings import PIECE, Instruction, Judge, Listing, ListingReader, behind_header, read_listing
 from tools.second.tokens import Fault, tokens
 from tools.texts.contents import LIMIT

@@ -1,5 +1,5 @@
 -- Bytes are one formula at most, and none where they have a fault as a query; and they have one first fault at most.
-use Rattle.std.proofs.Common.{◌≡◌, ℕ, List, sym, ◌∙◌, ap, subst}
+use Rattle.std.proofs.Common.{◌≡◌, ℕ, List, unwrap_or, sym, ◌∙◌, ap, subst}
 use Rattle.pc_common.specs.declared.{fault.{FaultKind.TheVariants.{Lexical, Syntax, Depth}, InputFault.{InputFault}}}
 use Rattle.pc_common.specs.declared.fault.Which.TheVariants.{Query}
 use Rattle.ll_grammar.specs.{FirstFault.{IsFirstTokenFault}, declared.fault.Fault.{Fault as TokenFault}}

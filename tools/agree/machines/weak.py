@@ -67,11 +67,8 @@ class Rules:
 
     def follows(self, state: State, op: Op, *kinds: str) -> bool:
         """Whether all that it depends on, in these ways, has executed."""
-        return all(
-            source in state.executed
-            for kind, source, target in self.test.dependencies
-            if target == op.place and kind in kinds
-        )
+        sources = {source for kind, source, target in self.test.dependencies if target == op.place and kind in kinds}
+        return sources <= state.executed
 
     def may_execute(self, state: State, op: Op) -> bool:
         """Rules 1 and 3, and of rule 4 the order of reads."""

@@ -15,14 +15,12 @@ a fence may have been (oldest_read.py).
 """
 from typing import Callable, Iterator, NamedTuple
 
-from tools.agree.litmus import (
-    Address, Memory, Op, Outcome, ReadValues, Test, Value, ends, replaced, values_of, with_item, with_read
-)
+from tools.agree.litmus import Address, Memory, Op, Outcome, ReadValues, Test, Value, ends, replaced, values_of, with_item
+from tools.agree.litmus import with_read
 
 
 class Line(NamedTuple):
-    """A line, which has the value of memory; or, of the read that asked, an answer on its way, with its value where it
-    is late."""
+    """A line, which has the value of memory; or, of the read that asked, an answer on its way, with its value once it is late."""
 
     asker: int | None = None
     is_oldest: bool = False
