@@ -289,6 +289,10 @@ pipecheck: these words are no command; how check is called stands above
         ):
             self.shows(name, status, out, "check", model, test)
         self.says("nothing beside a verdict", 1, CYCLIC, "", "check", REVERSE, FORBIDDEN)
+        version_2 = f"{HEADER}version 2\n"
+        self.shows("check2: a split, and a path that is denied on each side", 1, version_2 + AGAIN + LAST, "check2", either, FORBIDDEN)
+        cycle = "cycle 0.0@0:S 1.0@0:S\nend\n"
+        self.shows("check2: a refutation without a split", 1, version_2 + cycle, "check2", REVERSE, FORBIDDEN)
 
     def test_a_pipeline_that_keeps_program_order(self) -> None:
         """It says nothing of values."""
@@ -360,35 +364,6 @@ pipecheck: these words are no command; how check is called stands above
         self.breaks_off("each first part of a refutation is refused where it breaks off", "verify", either, FORBIDDEN, whole)
         self.judged("the whole of it", 1, UNOBSERVABLE, either, FORBIDDEN, whole)
 
-    def test_version_2(self) -> None:
-        """The right side of a split keeps that the left one is false."""
-        sign = self.file("sign.uspec", SIGNS)
-        negative = self.file("neg.uspec", f"""{STAGES}Axiom "n": forall microops "i",
-  ((NodeExists (i, S) /\\ EdgeExists ((i, U), (i, S)))
-   \\/ (~NodeExists (i, T) /\\ EdgeExists ((i, U), (i, S))))
-  /\\ (~NodeExists (i, U) \\/ ~EdgeExists ((i, U), (i, S)))
-  /\\ (~NodeExists (i, U) \\/ EdgeExists ((i, T), (i, S))).
-""")
-        one = self.file("one.test", ONE)
-        either, signed = self.file("either.uspec", EITHER), "unobservable\ntest unstated\nversion 2\nsplit 1\n"
-        denied = lines("split 9", "absent 0.0@0:U", "path 0.0@0:U 0.0@0:S", "split ~2", "absent 0.0@0:S", "path 0.0@0:U 0.0@0:S")
-        cyclic = f"{HEADER}version 2\ncycle 0.0@0:S 1.0@0:S\nend\n"
-        for name, status, out, model, test in (
-            ("a refutation of version 2", 1, f"{signed}absent 0.0@0:T\nabsent 0.0@0:U\nend\n", sign, one),
-            ("a split with a sign", 1, f"{signed}{denied}end\n", negative, one),
-            ("a split, and a path that is denied on each side", 1, f"{HEADER}version 2\n{AGAIN}{LAST}", either, FORBIDDEN),
-            ("a refutation without a split", 1, cyclic, REVERSE, FORBIDDEN),
-            ("a graph has no version", 0, ORDERED, PO, TWO),
-        ):
-            self.shows(f"check2: {name}", status, out, "check2", model, test)
-        unstated, both = "unobservable\ntest unstated\n", "split ~2\nabsent 0.0@0:U\nabsent 0.0@0:U\nend\n"
-        for name, status, out, text in (
-            ("a split of a denied And", 1, UNOBSERVABLE, f"{signed}absent 0.0@0:T\n{both}"),
-            ("a sign in a text of version 1", 6, refused(5), f"{unstated}split 1\nabsent 0.0@0:T\n{both}"),
-            ("a sign where the position is asserted without one", 6, refused(5), f"{signed}split ~2\n{both}"),
-        ):
-            self.judged(name, status, out, sign, one, text)
-
 
 class Lifted(Answers):
     """Lifted refutations, which speak of the axioms themselves, and what makes them of refutations of version 1."""
@@ -408,60 +383,6 @@ class Lifted(Answers):
         self.says("nothing beside a refused one", 6, refused(6), "", "verify-lifted", BUFFER, MP, LIFTED_MP)
         self.shows("verify of a lifted refutation", 6, refused(3), "verify", IN_ORDER, MP, LIFTED_MP)
 
-    def two_writes(self, name: str, status: int, out: str, text: str | bytes) -> None:
-        """What is said of this text of the two writes in both orders."""
-        self.judged(f"verify-lifted: {name}", status, out, REVERSE, FORBIDDEN, text, "verify-lifted")
-
-    def test_changed_lines(self) -> None:
-        """Each text is refused at the first of these lines; of the second one, the old part becomes the new one."""
-        whole = read(LIFTED_TWO).splitlines()
-        for at, name, line, old, new in (
-            (3, "another third line", 3, "lifted", "version 2"),
-            (4, "a micro-op that the test has not", 4, "0.0", "2.0"),
-            (4, "a core for a micro-op", 4, "0.0", "0"),
-            (4, "a leading zero", 4, "0 0.0", "00 0.0"),
-            (4, "two spaces", 4, " ", "  "),
-            (4, "a number past 64 bits", 4, "0 0.0", "18446744073709551616 0.0"),
-            (5, "a fact that is not there yet", 5, "2", "3"),
-            (6, "a split of a forall", 6, "3", "2"),
-            (7, "an implication is not false by itself", 7, "4", "3"),
-            (7, "the end with two branches open", 7, "false 4", "end"),
-            (8, "a fact of the branch that was closed", 8, "member 4 0", "false 4"),
-            (8, "a member past the last", 8, "4 0", "4 1"),
-            (9, "a side of a single edge", 9, "inst 1 0.0", "left 5"),
-            (14, "an edge that does not end where the next begins", 14, "5 9", "5 5"),
-            (14, "a list for its edge", 14, "5 9", "5 8"),
-            (14, "a path without a denial", 14, "cycle", "path"),
-            (16, "a line after the end", 15, "end", "end\nend"),
-        ):
-            self.assertIn(old, whole[line - 1])
-            changed = [*whole[: line - 1], whole[line - 1].replace(old, new, 1), *whole[line:]]
-            self.two_writes(name, 6, refused(at), lines(*changed))
-        self.two_writes("without its third line", 6, refused(3), lines(*whole[:2], *whole[3:]))
-        self.two_writes("without its end", 6, refused(15), lines(*whole[:14]))
-
-    def test_denied_nodes(self) -> None:
-        """A model that asks for its first axiom, and denies it."""
-        nodes = self.file("nodes.uspec", f"""{S}Axiom "c": forall cores "c", exists microop "i", NodeExists (i, (c, S)).
-Axiom "d": ~(exists microop "i", NodesExist [(i, S)]) /\\ True.
-""")
-        asked = ("inst 0 0", "left 1", "not 3", "split 2", "member 5 0", "inst 4 0.0", "split 7")
-        rest = (
-            "absent 8 6", "false 8", "split 5", "member 6 0", "inst 4 1.0", "split 8", "absent 9 7", "false 9", "false 6", "end",
-        )
-        for name, status, out, body in (
-            ("nodes that are asked for and denied", 1, UNOBSERVABLE, (*asked, *rest)),
-            ("absent of a fact that is no denial", 6, refused(11), (*asked, "absent 6 8")),
-            ("a split after the end of a list", 6, refused(12), (*asked, "absent 8 6", "split 8")),
-            ("a core that is not in the range", 6, refused(4), ("inst 0 1",)),
-            ("false of an exists with members left", 6, refused(5), ("inst 0 0", "false 2")),
-        ):
-            text = lines("unobservable", "test permitted: stricter", "lifted", *body)
-            self.judged(f"verify-lifted: {name}", status, out, nodes, TWO, text, "verify-lifted")
-        never, empty = self.file("never.uspec", NEVER), self.file("empty.test", 'Litmus "e".\n')
-        text = lines("unobservable", "test unstated", "lifted", "false 0", "end")
-        self.judged("verify-lifted: an exists over nothing", 1, UNOBSERVABLE, never, empty, text, "verify-lifted")
-
     def test_texts(self) -> None:
         whole = read(LIFTED_TWO)
         by_line = whole.splitlines(keepends=True)
@@ -475,11 +396,12 @@ Axiom "d": ~(exists microop "i", NodesExist [(i, S)]) /\\ True.
             ("a step of 60,000,000 spaces", 4, "".join(by_line[:3]) + " " * 60_000_000 + "\n"),
             ("100,000 lines that leave a branch open", 100_006, "".join(by_line[:5]) + open_branch + "end\n"),
         ):
-            self.two_writes(name, 6, refused(at), text)
+            self.judged(f"verify-lifted: {name}", 6, refused(at), REVERSE, FORBIDDEN, text, "verify-lifted")
         facts = "inst 0 0.0\n" * 50_000
         last = ("inst 1 0.0", "inst 50006 1.0", "split 50007", "false 50008", "member 50008 0", "cycle 50005 50009", "end")
         text = "".join(by_line[:7]) + facts + lines("member 4 0", *last)
-        self.two_writes("50,000 facts on one branch", 1, UNOBSERVABLE, text)
+        name = "verify-lifted: 50,000 facts on one branch"
+        self.judged(name, 1, UNOBSERVABLE, REVERSE, FORBIDDEN, text, "verify-lifted")
         name = "verify-lifted: each first part is refused where it breaks off"
         self.breaks_off(name, "verify-lifted", REVERSE, FORBIDDEN, whole)
 
@@ -493,12 +415,6 @@ Axiom "d": ~(exists microop "i", NodesExist [(i, S)]) /\\ True.
         self.shows("lift of a spoilt refutation", 6, refused(3), "lift", IN_ORDER, MP, SPOILT)
         self.shows("lift of a lifted refutation", 6, refused(3), "lift", REVERSE, FORBIDDEN, LIFTED_TWO)
         either = self.file("either.uspec", EITHER)
-        for name, line, model, text in (
-            ("lift of a refutation of version 2", 3, either, f"{HEADER}version 2\n{AGAIN}{LAST}"),
-            ("lift of an empty text", 1, REVERSE, ""),
-            ("lift of a text whose first line is none", 1, REVERSE, "test forbidden: ok\nversion 2\n"),
-        ):
-            self.judged(name, 6, refused(line), model, FORBIDDEN, text, "lift")
         two, said = self.file("two", f"{HEADER}version 2\n{AGAIN}{LAST}"), "lift takes a refutation of version 1, as check writes it"
         self.says("lift: which version it takes", 6, refused(3), f"pipecheck: {said}\n", "lift", either, FORBIDDEN, two)
 
@@ -559,9 +475,6 @@ class Questions(Answers):
         self.judged("core: its first graph is of the second axiom", 0, OBSERVABLE, reverse, FORBIDDEN, by_reverse)
         self.judged("core: its second graph is of the first axiom", 0, OBSERVABLE, PO, FORBIDDEN, by_order)
         self.shows("core: none", 0, f"core none\n{ORDERED}end\n", "core", PO, TWO)
-        alone = "core 1\naxiom 0\nrefutation\nunobservable\ntest permitted: stricter\nfalse\nend\n"
-        free = "without 0\nobservable\ntest permitted: ok\nend\nend\n"
-        self.shows("core: an axiom that is False by itself", 0, alone + free, "core", self.file("never.uspec", NEVER), TWO)
         true = self.file("true.uspec", "True.\n")
         self.tells(
             "core: a refusal is told", "model", true, "1:1", "syntax: no model can continue with this token", "core", true, TWO,
@@ -626,10 +539,6 @@ class Questions(Answers):
         test = self.walk("Litmus2", "Maps 7 2 0")
         for name, word in (("a mark of 2", "check"), ("a mark of 2: check2 says it too", "check2")):
             self.tells(name, "test", test, "2:50", "mark-value: a mark of a page-table entry over 1", word, model, test)
-        for name, column, entry in (("both marks over 1", 50, "Maps 7 2 3"), ("a dirty mark over 1", 52, "Maps 7 1 3")):
-            self.shows(name, 3, f"refused test mark-value at 2:{column}\n", "check", model, self.walk("Litmus2", entry))
-        again = self.file("again.test", 'Litmus2 "d".\nInit (Entry 3) 7.\nInit (Entry 3) (Maps 7 2 0).\n')
-        self.shows("a mark of 2 where an address comes again", 3, "refused test again-initial at 3:1\n", "check", model, again)
         default = self.file("default.test", lines(
             'Litmus2 "d".', "Microop 0 0 0 0 (Read (VA 5 0) (Entry 5) (Maps 5 0 0)).",
             "Microop 1 0 0 0 (Read (VA 5 0) (PA 5 0) (Data 0)).",
@@ -662,14 +571,6 @@ class Listings(Answers):
         self.says("check86: ~exists is forbidden", 0, forbidden, "", "check86", BUFFER, self.listing(denied))
         name = "verify86: a graph of a test is one of the listing"
         self.shows(name, 0, OBSERVABLE, "verify86", BUFFER, self.listing(denied), SB_CERTIFICATE)
-        other = denied.replace("EAX", "exists").replace("[x]", "[MFENCE]").replace("[y]", "[ (* of y *) MOV\n]")
-        for name, text in (
-            ("lines that end with CR and LF", denied.replace("\n", "\r\n")),
-            ("other names, blanks and comments", other.replace("\n{", "\n \t{ (* x=2 *)")),
-        ):
-            self.shows(f"check86: {name}", 0, forbidden, "check86", BUFFER, self.listing(text))
-        filled = LISTING.replace(" MOV EAX,[y]", " MFENCE|;\n" * 60 + " MOV EAX,[y]")
-        self.shows("check86: 64 instructions", 0, FREE, "check86", self.file("empty.uspec", ""), self.listing(filled))
 
     def test_faults_beside_others(self) -> None:
         large, model = self.file("too-large.litmus", LISTING + " " * (MOST_OF_A_FILE + 1)), "refused model syntax at 7:1\n"
@@ -684,54 +585,6 @@ class Listings(Answers):
         said = "x86-open: the condition gives this register no value"
         self.tells("check86: where a listing has its fault", "test", open_one, "8:20", said, "check86", BUFFER, open_one)
 
-    def test_faults(self) -> None:
-        """Of this line the old part becomes the new one; an empty old part stands at its end."""
-        whole = LISTING.splitlines()
-        for fault, name, line, old, new in (
-            ("syntax at 1:1", "another architecture", 1, "X86", "PPC"),
-            ("syntax at 1:1", "X86_64", 1, "X86", "X86_64"),
-            ("syntax at 1:1", "a tab after X86", 1, " ", "\t"),
-            ("syntax at 1:1", "a name of two words", 1, "", " 2"),
-            ("syntax at 2:2", "a line of the header that begins with a blank", 2, '"Pod', ' "Pod'),
-            ("syntax at 3:1", "a line of the header without =", 3, "=", " "),
-            ("lexical at 9:1", "a comment that is none of a listing", 9, "exists", "% exists"),
-            ("lexical at 9:1", "a comment that is open at the end", 9, "exists", "(* exists"),
-            ("lexical at 10:10", "a disjunction", 10, "/\\", "\\/"),
-            ("lexical at 10:8", "a negative number", 10, "=0", "=-1"),
-            ("syntax at 10:9", "a number that begins with 0x", 10, "=0", "=0x1"),
-            ("syntax at 10:2", "a bracket in a condition", 10, "0:", "(0:"),
-            ("syntax at 10:5", "a condition that is denied inside", 10, "(", "not ("),
-            ("syntax at 4:3", "a location without a value in the first block", 4, "", "x; "),
-            ("syntax at 4:7", "a type in the first block", 4, "", " int x=0;"),
-            ("syntax at 4:3", "a register in the first block", 4, "", " 0:EAX=0;"),
-            ("syntax at 8:2", "another instruction", 8, "MOV", "ADD"),
-            ("syntax at 7:10", "a store of a register", 7, "$1", "EBX"),
-            ("syntax at 9:1", "locations", 9, "exists", "locations [x;]\nexists"),
-            ("syntax at 9:1", "forall", 9, "exists", "forall"),
-            ("syntax at 11:1", "a bracket that is open at the end", 10, ")", ""),
-            ("again-initial at 4:8", "a second value at the start", 4, "", " x=1; x=1;"),
-            ("core-number at 6:332", "65 columns", 6, ";", "".join(f"| P{it}" for it in range(2, 65)) + ";"),
-            ("x86-column at 6:16", "the name of a column", 6, "P1", "P2"),
-            ("x86-column at 8:14", "a cell too few", 8, "| MOV EAX,[x] ;", ";"),
-            ("x86-column at 8:29", "a cell too many", 8, ";", "|;"),
-            ("too-many-ops at 69:16", "65 instructions", 8, " MOV EAX,[y]", " MFENCE|;\n" * 61 + " MOV EAX,[y]"),
-            ("x86-reload at 9:6", "a register that is loaded again", 8, "", "\n MOV EAX,[x]|;"),
-            ("x86-unloaded at 10:2", "a register that is not loaded", 10, "EAX", "EBX"),
-            ("x86-unloaded at 10:2", "a thread that there is not", 10, "0:", "2:"),
-            ("x86-again at 10:13", "a second value of a register", 10, "1:", "0:"),
-            ("again-final at 10:21", "a second value at the end", 10, "1:EAX=0)", "x=1 /\\ [x]=1)"),
-            ("x86-open at 8:6", "registers without a value", 10, "(0:EAX=0 /\\ 1:EAX=0)", "x=1"),
-        ):
-            row = whole[line - 1]
-            self.assertIn(old, row)
-            changed = row.replace(old, new, 1) if old else row + new
-            self.refuses(name, fault, lines(*whole[: line - 1], changed, *whole[line:]))
-        self.refuses("a header and nothing after it", "syntax at 4:1", lines(*whole[:3]))
-
-    def refuses(self, name: str, fault: str, text: str) -> None:
-        """A listing of this text has this first fault."""
-        self.shows(f"check86: {name}", 3, f"refused test {fault}\n", "check86", BUFFER, self.listing(text))
-
     def test_examples(self) -> None:
         pairs = (" 0 0", " 0 1", " 1 0", " 1 1")
         maps = (" Maps:6:1:0 Maps:5:1:0 0", " Maps:6:1:0 Maps:7:1:0 0", " Maps:8:1:0 Maps:5:1:0 0", " Maps:8:1:0 Maps:7:1:0 0")
@@ -745,19 +598,9 @@ class Listings(Answers):
         ):
             self.shows(name, 0, out, "sweep", model, pattern)
 
-    def opens(self, *ops: str, word: str = "Litmus") -> tuple[str, str, str]:
+    def opens(self, *ops: str) -> tuple[str, str, str]:
         """The words of a sweep of a pattern of these lines on an empty model."""
-        return "sweep", self.file("empty.uspec", ""), self.file("open.pattern", lines(f'{word} "p".', *ops))
-
-    def test_values(self) -> None:
-        again = self.opens(stored(0, 5), stored(1, 0), open_read(2, 0), stored(3, 5), stored(4, 3))
-        self.shows("values that are written twice, and the initial one written again", 0, swept(" 0", " 5", " 3"), *again)
-        initial = self.opens(open_read(0, 0), open_read(1, 1), "Init (PA 1 0) 18446744073709551615.")
-        self.shows("reads that nothing writes", 0, swept(" 0 18446744073709551615"), *initial)
-        self.shows("a number at an entry", 0, swept(" Maps:3:0:0", " 3"), *self.opens(
-            "Microop 0 0 0 0 (Read (VA 3 0) (Entry 3) (Data Any)).", "Microop 0 0 0 1 (Write (VA 3 0) (Entry 3) (Data 3)).",
-            word="Litmus2",
-        ))
+        return "sweep", self.file("empty.uspec", ""), self.file("open.pattern", lines('Litmus "p".', *ops))
 
     def test_rows(self) -> None:
         reads = [open_read(number, 0) for number in range(1, 14)]
@@ -774,13 +617,10 @@ class Listings(Answers):
         words = self.opens(stored(0, 1), *reads)
         said = "too-many-rows: of a pattern: with this open read there are more than 4,096 rows"
         self.tells("one open read too many", "test", words[2], "15:48", said, *words)
-        other = self.opens(stored(0, 1), *reads, "Microop 14 64 0 0 (Fence).")
-        self.shows("too many rows come after all other faults", 3, "refused test core-number at 16:12\n", *other)
 
     def test_what_may_not_be_open(self) -> None:
         words = self.opens(open_read(0, 0), stored(1, "Any"))
         self.tells("a write that is open", "test", words[2], "3:48", NO_TEST, *words, due="a number")
-        self.shows("an initial value that is open", 3, "refused test syntax at 2:15\n", *self.opens("Init (PA 0 0) Any."))
         pattern = self.file("mp.pattern", lines(*(it for it in read(MP_PATTERN).splitlines() if not it.startswith("%"))))
         for word in ("check", "check2"):
             self.shows(f"{word} takes no pattern", 3, "refused test syntax at 4:47\n", word, IN_ORDER, pattern)

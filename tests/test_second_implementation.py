@@ -1,5 +1,6 @@
-"""The second implementation on certificates of version 2, whose splits have signs, on lifted refutations, on lifting, on minimal
-sets of axioms, on queries, on tests with page-table entries, on herd's X86 listings, and on patterns.
+"""The second implementation, and the program, which has to answer the same: on certificates of version 2, whose splits have signs,
+on lifted refutations, on lifting, on minimal sets of axioms, on queries, on tests with page-table entries, on herd's X86 listings,
+and on patterns.
 
 In the tables `; ` stands between the lines of a text, and a number that is wanted is the line at which a certificate is refused.
 """
@@ -12,9 +13,10 @@ import tempfile
 from functools import partial
 from typing import Any, Callable, Iterable
 
-from tests.cases import TOP, Cases, read, run, write
+from tests.cases import TOP, Cases, Done, program, read, run, write
+from tests.test_answers import ONE, SIGNS, STAGES, WALK
 
-from tools.second.main import Refused, judged
+from tools.second.main import judged
 from tools.second.main import run as answer
 from tools.second.answering import Branch
 from tools.second.cases import read_case
@@ -24,12 +26,6 @@ from tools.second.predicates import PREDICATES
 from tools.second.scopes import read_model
 from tools.texts.writing_tests import without_names
 
-ONE = 'Litmus "o".; Microop 0 0 0 0 (Write (VA 0 0) (PA 0 0) (Data 1)).'
-STAGES = 'StageName 0 "S".\nStageName 1 "T".\nStageName 2 "U".\n'
-SIGN = STAGES + """Axiom "s": forall microops "i",
-  ((NodeExists (i, S) /\\ NodeExists (i, T)) \\/ NodeExists (i, U))
-  /\\ ~NodeExists (i, U) /\\ ~NodeExists (i, T).
-"""
 NEG = STAGES + """Axiom "n": forall microops "i",
   ((NodeExists (i, S) /\\ EdgeExists ((i, U), (i, S)))
    \\/ (~NodeExists (i, T) /\\ EdgeExists ((i, U), (i, S))))
@@ -47,21 +43,21 @@ GRAPH = "observable; test unstated; end"
 
 # of one write: what is judged, the model, the certificate, the answer
 CERTIFICATES = [
-    ("splits without signs under version 2", SIGN, f"{VERSION_2}; split 1; {T}; {U}; end", VERIFIED),
-    ("a split of a denied conjunction", SIGN, f"{VERSION_2}; {SIGNED}", VERIFIED),
-    ("a sign in version 1", SIGN, f"{HEADER}; {SIGNED}", 5),
-    ("a sign where the position is asserted without one", SIGN, f"{VERSION_2}; split 1; split ~2; split ~2; {U}; {U}; end", 5),
-    ("a position that is asserted with a sign, split without one", SIGN, f"{VERSION_2}; split 1; {T}; split 2; {U}; {U}; end", 6),
-    ("a space after the sign", SIGN, f"{VERSION_2}; split 1; {T}; split ~ 2; {U}; {U}; end", 6),
+    ("splits without signs under version 2", SIGNS, f"{VERSION_2}; split 1; {T}; {U}; end", VERIFIED),
+    ("a split of a denied conjunction", SIGNS, f"{VERSION_2}; {SIGNED}", VERIFIED),
+    ("a sign in version 1", SIGNS, f"{HEADER}; {SIGNED}", 5),
+    ("a sign where the position is asserted without one", SIGNS, f"{VERSION_2}; split 1; split ~2; split ~2; {U}; {U}; end", 5),
+    ("a position that is asserted with a sign, split without one", SIGNS, f"{VERSION_2}; split 1; {T}; split 2; {U}; {U}; end", 6),
+    ("a space after the sign", SIGNS, f"{VERSION_2}; split 1; {T}; split ~ 2; {U}; {U}; end", 6),
     ("a denied conjunction of a node and an edge", NEG, f"{VERSION_2}; {DENIED}", VERIFIED),
     ("a denied side is asserted in version 2 alone", NEG, f"{HEADER}; split 1; split 9; {U}; {PATH}; {S}", 7),
-    ("version 2 twice", SIGN, f"{VERSION_2}; version 2; {SIGNED}", 4),
+    ("version 2 twice", SIGNS, f"{VERSION_2}; version 2; {SIGNED}", 4),
     ("version 2 in a graph", STAGES, "observable; test unstated; version 2; end", 3),
-    ("version 2 and nothing more", SIGN, VERSION_2, 4),
+    ("version 2 and nothing more", SIGNS, VERSION_2, 4),
 ]
 # what `check2` is to find: the model, the text
 FOUND = [
-    ("check2 closes both sides", SIGN, f"{VERSION_2}; split 1; {T}; {U}; end"),
+    ("check2 closes both sides", SIGNS, f"{VERSION_2}; split 1; {T}; {U}; end"),
     ("check2 splits a denied conjunction", NEG, f"{VERSION_2}; {DENIED}"),
     ("check2 finds a graph", STAGES, GRAPH),
     ("check2 of a false constant", STAGES + 'Axiom "f": False.\n', f"{VERSION_2}; false; end"),
@@ -196,7 +192,7 @@ CORES = [
 LIFTS = [
     ("a cycle of one edge", STAGES + ITSELF, CYCLE, f"{HEADER}; lifted; inst 0 0.0; member 1 0; cycle 2; end"),
     ("a macro", STAGES + MACRO + BY_MACRO, CYCLE, f"{HEADER}; lifted; inst 0 0.0; bind 1; member 2 0; cycle 3; end"),
-    ("a choice, and denied lists that end after it", SIGN, f"{HEADER}; split 1; {T}; {U}; end",
+    ("a choice, and denied lists that end after it", SIGNS, f"{HEADER}; split 1; {T}; {U}; end",
      f"{HEADER}; lifted; inst 0 0.0; left 1; right 1; left 3; not 4; split 5; right 3; not 7; split 8; split 2; left 10; "
      "member 11 0; right 10; member 13 0; absent 9 14; member 10 0; absent 6 11; false 9; false 6; end"),
     ("a left side that is false in the test", STAGES + ITSELF.replace("AddEdge", "IsAnyRead i \\/ AddEdge"), CYCLE,
@@ -208,9 +204,11 @@ LIFTS = [
     ("an exists of which each value is false", 'Axiom "x": exists microop "i", IsAnyRead i.\n', f"{HEADER}; false; end",
      f"{HEADER}; lifted; split 0; false 1; false 1; end"),
     ("a graph", STAGES, GRAPH, "verified observable"),
-    ("a refutation of version 2", SIGN, f"{VERSION_2}; {SIGNED}", 3),
+    ("a refutation of version 2", SIGNS, f"{VERSION_2}; {SIGNED}", 3),
     ("a lifted refutation", STAGES + ITSELF, f"{HEADER}; lifted; inst 0 0.0; member 1 0; cycle 2; end", 3),
-    ("a refutation that breaks off", SIGN, f"{HEADER}; split 1; {T}", 5),
+    ("a refutation that breaks off", SIGNS, f"{HEADER}; split 1; {T}", 5),
+    ("an empty text", STAGES, "", 1),
+    ("a text whose first line is none", STAGES, "test unstated; version 2", 1),
 ]
 
 FREE_NAME = STAGES + 'DefineMacro "m" "a": NodeExists (i, S) /\\ NodeExists (a, S).\n' + NODE
@@ -229,14 +227,10 @@ QUERIES = [
     ("a query beside a model with a fault", "True.", "~", "refused model syntax at 1:1"),
 ]
 
-WALK = """StageName 0 "S".
-Axiom "walk": forall microops "i", forall microops "j",
-  EntryOf i j /\\ MapsTagOf i j => AddEdge ((i, S), (j, S), "walk").
-"""
 READ = "Microop 0 0 0 0 (Read (VA 3 0) (Entry 3) (Maps 7 1 0))."
 WRITE = "Microop 0 0 0 1 (Write (VA 3 0) (PA 7 0) (Data 1))."
 WALKED = "observable; test unstated; node 0.0@0:S; node 0.1@0:S; edge 0.0@0:S 0.1@0:S; end"
-ZEROS, NINES = "0" * 5_000, "9" * 5_000
+ZEROS, NINES, GREATEST = "0" * 5_000, "9" * 5_000, "18446744073709551615"
 
 
 def marked(marks: str) -> str:
@@ -332,7 +326,7 @@ WAYS = [
 # what is changed in the listing, and each text that stands in its place, with the refusal
 SPOILT = {
     "X86 T": [("X86", "syntax at 1:1"), ("X86\tT", "syntax at 1:1"), ("X86 T x", "syntax at 1:1"), (" X86 T", "syntax at 1:1"),
-              ("PPC T", "syntax at 1:1")],
+              ("PPC T", "syntax at 1:1"), ("X86_64 T", "syntax at 1:1")],
     '"PodWR': [(' "PodWR', "syntax at 2:2")],
     "Com=Fr Fr": [("Com Fr Fr", "syntax at 3:1")],
     "{ x=0": [("x=0", "syntax at 5:2"), (f"{{ x={NINES}", "lexical at 4:5"), ("{ int x=0", "syntax at 4:7"),
@@ -349,9 +343,9 @@ SPOILT = {
     "exists": [("% no comment\nexists", "lexical at 9:1"), ("(* open\nexists", "lexical at 9:1"),
                ("locations [x;]\nexists", "syntax at 9:1"), ("forall", "syntax at 9:1"), ("~ exist", "syntax at 9:3")],
     "5 /\\ 1": [("5 \\/ 1", "lexical at 10:10")],
-    "(0:EAX=5": [("(not 0:EAX=5", "syntax at 10:6")],
+    "(0:EAX=5": [("(not 0:EAX=5", "syntax at 10:6"), ("((0:EAX=5", "syntax at 10:2")],
     "0:EAX=5": [("0:EBX=5", "x86-unloaded at 10:2"), ("2:EAX=5", "x86-unloaded at 10:2"),
-                ("0:EAX=5 /\\ 0:EAX=5", "x86-again at 10:13")],
+                ("0:EAX=5 /\\ 0:EAX=5", "x86-again at 10:13"), ("0:EAX=-1", "lexical at 10:8"), ("0:EAX=0x1", "syntax at 10:9")],
     "/\\ 1:EAX=0": [("", "x86-open at 8:20")],
     "0:EAX=5 /\\ 1:EAX=0 /\\ ": [("", "x86-open at 8:6")],
     "y=1": [("y=1 /\\ [y]=1", "again-final at 10:32")],
@@ -387,7 +381,7 @@ SWEPT = [
     ("no open read", "Litmus", stores(0, 1), [""]),
     ("no item", "Litmus", "", [""]),
     ("a read that nothing writes", "Litmus", opens(0), [" 0"]),
-    ("an initial value", "Litmus", f"Init (PA 0 0) 7.; {opens(0)}; Init (PA 0 1) 8.", [" 7"]),
+    ("an initial value", "Litmus", f"Init (PA 0 0) {GREATEST}.; {opens(0)}; Init (PA 0 1) 8.", [f" {GREATEST}"]),
     ("an initial value after the read", "Litmus", f"{opens(0)}; Init (PA 0 0) 7.", [" 7"]),
     ("writes before and after the read, in test order", "Litmus", f"{stores(0, 5)}; {opens(1)}; {stores(2, 3)}",
      [" 0", " 5", " 3"]),
@@ -433,16 +427,19 @@ def text_of(lines: str) -> str:
 
 
 def said(word: str, *texts: str | bytes) -> str:
-    """What a command writes of files with these texts, in lines as they stand in the tables."""
+    """What a command writes of files with these texts, which is what the program writes, in lines as they stand in the tables."""
     out = io.StringIO()
     with tempfile.TemporaryDirectory() as folder:
-        answer([word, *(write(f"{folder}/{number}", text) for number, text in enumerate(texts))], out)
-    return out.getvalue().rstrip("\n").replace("\n", "; ")
+        files = [write(f"{folder}/{number}", text) for number, text in enumerate(texts)]
+        status = answer([word, *files], out)
+        by_program = run([program(), word, *files])
+    assert by_program == Done(status, out.getvalue(), ""), f"the program says {by_program}"
+    return by_program.out.rstrip("\n").replace("\n", "; ")
 
 
 def of_one(word: str, model: str, *more: str) -> str:
     """What a command writes of one write in a model."""
-    return said(word, model, text_of(ONE), *map(text_of, more))
+    return said(word, model, ONE, *map(text_of, more))
 
 
 def of_titled(word: str, model: str, first: str, lines: str) -> str:
@@ -459,11 +456,10 @@ def shipped_lifted(name: str, number: int, lines: str | None) -> str:
 
 
 def told_listing(text: str) -> str:
-    """What the case of a listing says, its addresses by their numbers, or its refusal."""
-    try:
-        return str(without_names(judged("test", read_listing, text.encode("ascii"))))
-    except Refused as fault:
-        return str(fault)
+    """What the case of a listing says, its addresses by their numbers, or its refusal. It is answered on a model of values."""
+    answered = said("check86", read("examples/store-buffer.uspec"), text)
+    is_refused = answered.startswith("refused")
+    return answered if is_refused else str(without_names(judged("test", read_listing, text.encode("ascii"))))
 
 
 # beside an edge from S to T: an Or, written with names of stages, and whether it is forced, with one alternative left or none
@@ -500,7 +496,7 @@ def is_forced(disjunction: str) -> bool:
     written = re.sub(r"(?<!, )\b([S-V])\b", r"NodeExists (i, \1)", written)
     stages = "".join(f'StageName {number} "{name}".\n' for number, name in enumerate("STUV"))
     model = f'{stages}Axiom "f": forall microops "i", EdgeExists ((i, S), (i, T)) /\\ ({written}).\n'
-    branch = Branch(Positions(read_model(model.encode("ascii")), read_case(text_of(ONE).encode("ascii"))), 1)
+    branch = Branch(Positions(read_model(model.encode("ascii")), read_case(ONE.encode("ascii"))), 1)
     branch.assert_side([(0, False)], 0)
     return branch.alternatives.forced(branch.order, [(2, False)]) == (2, False)
 
@@ -542,7 +538,7 @@ class Second(Cases):
         self.tells(lambda model, lines: of_one("verify-lifted", model, f"{HEADER}; lifted; {lines}"), LIFTED, "lifted: ")
 
     def test_questions(self) -> None:
-        self.tells(lambda model, query: said("ask", model, text_of(ONE), query).partition("; ")[0], QUERIES, "ask: ")
+        self.tells(lambda model, query: said("ask", model, ONE, query).partition("; ")[0], QUERIES, "ask: ")
         self.tells(partial(of_titled, "check", WALK), FILES)
 
     def test_predicates(self) -> None:
