@@ -28,6 +28,8 @@ from dataclasses import dataclass
 from hashlib import sha256
 from typing import Any, Callable, Iterator, Mapping, Sequence
 
+from tools.ending import Signals
+
 TOP = os.path.dirname(os.path.dirname(os.path.realpath(__file__)))
 
 # What the script says where the program without its proofs answers. Where that one is tested, cases say what stands on standard
@@ -225,13 +227,26 @@ def comes(is_so: Callable[[], bool]) -> bool:
     return True
 
 
-def signal_unseen() -> None:
-    """Has a thread get TERM in a second, when the main thread waits: so Python does not see it at once."""
+def done_by(signals: Signals, work: Callable[[], int]) -> Done:
+    """What a tool wrote that does this work, and how it ended."""
+    return call(lambda: signals.status_or_end(work), [])
+
+
+def done_by_unseen(signals: Signals, work: Callable[[], object]) -> Done:
+    """The same, where a thread gets TERM in a second, when the main thread waits: so Python does not see it at once."""
     def get() -> None:
         time.sleep(1)
         signal.pthread_kill(threading.get_ident(), signal.SIGTERM)
 
-    threading.Thread(target=get, daemon=True).start()
+    def entry() -> int:
+        # where it is not seen, the clock ends this process
+        signal.alarm(PATIENCE)
+        signals.receive()
+        threading.Thread(target=get, daemon=True).start()
+        work()
+        return 0
+
+    return done_by(signals, entry)
 
 
 def write(path: str, text: str | bytes) -> str:

@@ -14,7 +14,7 @@ from itertools import permutations, product
 from typing import Callable, Iterable, Iterator
 
 from tests.cases import (
-    PATIENCE, TOP, Cases, Done, apart, call, comes, command, environment, pipecheck, program, read, replaced, run, signal_unseen,
+    PATIENCE, TOP, Cases, Done, apart, call, comes, command, done_by_unseen, environment, pipecheck, program, read, replaced, run,
     tool, tool_entry, without_output, write
 )
 
@@ -220,18 +220,12 @@ exec "{program()}" "$@"
     def test_unseen(self) -> None:
         """A signal that Python does not see at once, while all processes that compare have long to do."""
 
-        def entry() -> int:
-            # where it is not seen, the clock ends this process
-            signal.alarm(PATIENCE)
-            ending.SIGNALS.receive()
-            signal_unseen()
-            try:
-                with working.Workers(time.sleep) as workers:
-                    return len([*workers.answers([600])])
-            except ending.Interrupted as interrupted:
-                return interrupted.number
+        def work() -> None:
+            with working.Workers(time.sleep) as workers:
+                list(workers.answers([600]))
 
-        self.same("a signal that Python does not see at once ends agree", call(entry, []).status, signal.SIGTERM)
+        done = done_by_unseen(ending.SIGNALS, work)
+        self.same("a signal that Python does not see at once ends agree", done.status, 128 + signal.SIGTERM)
 
     def test_full_device(self) -> None:
         with without_output("full") as how:

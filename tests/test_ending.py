@@ -8,7 +8,7 @@ import tempfile
 from typing import Any, Callable, ContextManager
 
 from tests.cases import (
-    PATIENCE, TOP, Cases, Done, call, program, replaced, script_entry, signal_unseen, tool_entry, write
+    PATIENCE, TOP, Cases, Done, call, done_by, done_by_unseen, program, replaced, script_entry, tool_entry, write
 )
 
 from tools import ending
@@ -110,18 +110,15 @@ class Ended(Cases):
     def test_unseen(self) -> None:
         """A signal that Python does not see at once while a call waits for another one that builds."""
 
-        def work() -> int:
-            # where it is not seen, the clock ends this process
-            signal.alarm(PATIENCE)
-            SIGNALS.receive()
-            signal_unseen()
+        def work() -> None:
             with replaced(builder, "OUT", self.work), builder.in_turn("pipecheck"):
-                return 0
+                pass
 
         said = "pipecheck: another call is building the program: waiting for it\n"
         with open(f"{self.work}/pipecheck_lock", "wb") as lock:
             fcntl.flock(lock, fcntl.LOCK_EX)
-            self.same("TERM comes while a call waits for another one that builds", done_by(SIGNALS, work), Done(143, "", said))
+            done = done_by_unseen(SIGNALS, work)
+        self.same("TERM comes while a call waits for another one that builds", done, Done(143, "", said))
 
     def test_removed(self) -> None:
         """A signal that comes just before a folder is to be removed."""
@@ -158,8 +155,3 @@ class Ended(Cases):
         done = done_by(signals, work)
         self.same("what is held is done, and the first of two signals ends the tool", (done, os.path.exists(f"{self.work}/held")),
                   (Done(129, "", ""), True))
-
-
-def done_by(signals: ending.Signals, work: Callable[[], int]) -> Done:
-    """What a tool wrote that does this work, and how it ended."""
-    return call(lambda: signals.status_or_end(work), [])

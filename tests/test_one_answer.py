@@ -8,7 +8,6 @@ from __future__ import annotations
 
 import io
 import os
-import re
 import sys
 from functools import cache
 from glob import glob
@@ -30,13 +29,6 @@ contents = cache(bytes_of)
 
 # a small model that asks for values, program order and fences of no kind
 MODEL = f"{TOP}/examples/store-buffer.uspec"
-FORMS = [re.compile(it) for it in (rb"[A-Za-z]\w*", rb"\d+", rb"/\\|[^\s\w]", rb" /\\ [^ )]+")]
-OTHERS = [
-    b"(*", b"*)", b"%", b"'", b"\\/", b"~", b"\r", b"\t", b"\n", b"\x00", b"\xff", b";", b"|", b"{", b"}", b"=", b'"',
-    b"MOV", b"MFENCE", b"exists", b"P2", b"0:EAX=1", b"x=1;", b"7", b"18446744073709551616", b"X86 ", b"locations",
-    b"EBX", b"[x]",
-]
-
 SHIPPED = {
     "two": ("po-and-reverse.uspec", "two-forbidden.test"),
     "mp": ("in-order.uspec", "mp.test"),
@@ -61,29 +53,8 @@ def second(*words: str) -> str:
     return out.getvalue()
 
 
-def spoilt(chance: Random, listing: bytes) -> bytes:
-    """The listing with one to three changes of tokens, lines or bytes."""
-    for _ in range(chance.randint(1, 3)):
-        form = chance.choice(FORMS)
-        places = [match.span() for match in form.finditer(listing)]
-        start, end = chance.choice(places or [(0, 0)])
-        other_start, other_end = chance.choice(places or [(0, 0)])
-        lines = listing.splitlines(keepends=True)
-        line = chance.randrange(len(lines)) if lines else 0
-        listing = (
-            listing[:start] + listing[end:],
-            listing[:start] + listing[other_start:other_end] + listing[end:],
-            listing[:start] + chance.choice(OTHERS) + listing[end:],
-            listing[:start] + chance.choice(OTHERS) + listing[start:],
-            b"".join(lines[:line] + lines[line : line + 1] + lines[line:]),
-            listing[:end] + listing[start:],
-            b"".join(lines[:line] + lines[line + 1 :]),
-        )[chance.choice((0, 1, 1, 2, 3, 4, 5, 6))]
-    return listing
-
-
 class SpoiltListings(Cases):
-    """Listings of examples/x86 with some tokens, lines or bytes changed."""
+    """Listings of examples/x86 with some pieces or bytes changed."""
 
     def test_listings(self) -> None:
         chance, path = Random(86), f"{self.work}/spoilt.litmus"
@@ -91,7 +62,7 @@ class SpoiltListings(Cases):
         words = set()
         with self.case(f"spoilt listings: {COUNT} answered alike by check86"):
             for _ in range(COUNT):
-                listing = spoilt(chance, chance.choice(listings))
+                listing = random_texts.changed_file(chance, chance.choice(listings))
                 write(path, listing)
                 found = second("check86", MODEL, path)
                 self.assertEqual(run([program(), "check86", MODEL, path]).out, found, listing)

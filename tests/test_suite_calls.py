@@ -22,12 +22,12 @@ from functools import partial
 from typing import Any, Callable
 
 from tests.cases import (
-    PATIENCE, TOP, Done, apart, call, comes, files_below, program, read, replaced, signal_unseen, text_of, tool, within,
+    PATIENCE, TOP, Done, apart, comes, done_by_unseen, files_below, program, read, replaced, text_of, tool, within,
     without_output, write
 )
 from tests.suite_cases import CORR, EARLY, GOOD, MP, SB, SC, TUTORIAL, SuiteCases, no_lint, of_suite, tabled
 
-from tools.ending import SIGNALS as RECEIVED, Interrupted
+from tools.ending import SIGNALS as RECEIVED
 from tools.texts.memory_models import memory_model_of
 from tools.suite import keeping
 from tools.suite.calling import Calls, side_by_side
@@ -443,32 +443,17 @@ class Signals(SuiteCases):
         process.send_signal(signal.SIGTERM)
         process.wait(PATIENCE)
 
-    def unseen(self, wait: Callable[[], object]) -> Done:
-        """What a process says that waits so, and gets a signal that Python does not see at once."""
-
-        def entry() -> int:
-            # where it is not seen, the clock ends this process
-            signal.alarm(PATIENCE)
-            RECEIVED.receive()
-            signal_unseen()
-            try:
-                wait()
-            except Interrupted as interrupted:
-                return interrupted.number
-            return 0
-
-        return call(entry, [])
-
     def test_unseen(self) -> None:
         """Python does not see at once what comes just before it waits, nor what another thread gets, as here."""
         calls = Calls()
         with open(os.devnull, "wb") as out:
-            done = self.unseen(lambda: side_by_side(calls, 1, [lambda: calls.status(["sleep", "600"], None, 600, out)]))
-        self.same("a signal that Python does not see at once ends a call", done.status, signal.SIGTERM)
+            waits = partial(side_by_side, calls, 1, [lambda: calls.status(["sleep", "600"], None, 600, out)])
+            done = done_by_unseen(RECEIVED, waits)
+        self.same("a signal that Python does not see at once ends a call", done.status, 128 + signal.SIGTERM)
         Folder(f"{self.work}/kept").wait_in_turn()
-        done = self.unseen(lambda: Folder(f"{self.work}/kept").wait_in_turn())
+        done = done_by_unseen(RECEIVED, lambda: Folder(f"{self.work}/kept").wait_in_turn())
         said = f"suite: another suite writes into {self.work}/kept: waiting for it\n"
-        self.same("... and a suite that waits for another one", done, Done(signal.SIGTERM, "", said))
+        self.same("... and a suite that waits for another one", done, Done(128 + signal.SIGTERM, "", said))
 
     def test_early(self) -> None:
         """Ctrl-C while Python still loads what the suite is made of ends it without a word. What Python says is what it loads."""
