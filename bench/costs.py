@@ -41,7 +41,7 @@ from dataclasses import dataclass, field
 from pathlib import Path
 from typing import NamedTuple
 
-from counting import TOP, Misused
+from counting import TOP, Misused, chosen
 
 PROGRAM = "pipecheck_cli"
 # what a crate is proved of, and what is tried on it
@@ -451,10 +451,7 @@ def answer(asked: argparse.Namespace, kept: str) -> int:
     else:
         trees = shown = [Tree(TOP, kept, kit())]
         titles = ["the gate"]
-    there = list(dict.fromkeys(it for tree in trees for it in tree.below))
-    unknown = [it for it in asked.names if it not in there]
-    if unknown:
-        raise Misused(f"no such crate: {unknown[0]}")
+    chosen("crate", asked.names, [it for tree in trees for it in tree.below])
     names = asked.names or list(dict.fromkeys(it for tree in trees for it in (tree.below if is_gate else of_program(tree))))
     faults = measure_all(trees, names, 2 if asked.between else 1, time.monotonic() + 60 * asked.minutes, is_gate)
     show(shown, titles, names, is_gate)

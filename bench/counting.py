@@ -103,6 +103,15 @@ class Misused(Exception):
     """Words that mean nothing to a script: what is wrong."""
 
 
+def chosen(what: str, names: Iterable[str], there: Iterable[str]) -> list[str]:
+    """These names, each of which has to be there, or all."""
+    found, known = list(names), list(there)
+    for name in found:
+        if name not in known:
+            raise Misused(f"there is no {what} {name}; there are {', '.join(known)}")
+    return found or known
+
+
 def call(main: Callable[[list[str]], int]) -> None:
     """Ends a script with the status that its words have, or with 2 where they mean nothing. All files that it makes meanwhile go."""
     with tempfile.TemporaryDirectory() as tempfile.tempdir:
