@@ -50,10 +50,8 @@ SLOWEST = 10
 LANES = (2, 4, 8)
 USAGE = "bench/costs.py [--between OLD NEW [--gate]] [--into FOLDER] [--minutes N] [NAME ..]"
 # What the prover calls the parts of a function.
-PART = re.compile(
-    r"\.(Statement|Met|Proof|Kinds|TheLink|TheLinks|Code|Mir|Key|Reads|Layout|Named|Tie|Goals|Given|Answers"
-    r"|Invariants|Paired|Carried|Laws|Lts|View|Symbol|The[A-Z]\w*)(-[\w-]+)?$"
-)
+PART = re.compile(r"\.(Statement|Met|Proof|Kinds|TheLink|TheLinks|Code|Mir|Key|Reads|Layout|Named|Tie|Goals|Given|Answers"
+                  r"|Invariants|Paired|Carried|Laws|Lts|View|Symbol|The[A-Z]\w*)(-[\w-]+)?$")
 
 
 class NotMeasured(Exception):
@@ -92,10 +90,8 @@ class Processes:
         with self.alone:
             if self.are_ended:
                 raise Ended
-            child = subprocess.Popen(
-                words, cwd=folder, stdin=subprocess.DEVNULL, stdout=subprocess.DEVNULL, stderr=subprocess.DEVNULL,
-                start_new_session=True,
-            )
+            child = subprocess.Popen(words, cwd=folder, stdin=subprocess.DEVNULL, stdout=subprocess.DEVNULL,
+                                     stderr=subprocess.DEVNULL, start_new_session=True)
             self.running.add(child.pid)
         _, status, usage = os.wait4(child.pid, 0)
         with self.alone:
@@ -386,10 +382,8 @@ def total(costs: list[Cost]) -> Cost:
 
 
 def commit_of(name: str) -> str:
-    found = subprocess.run(
-        ["git", "-C", TOP, "rev-parse", "--verify", "--quiet", f"{name}^{{commit}}"],
-        capture_output=True, text=True, check=False,
-    )
+    found = subprocess.run(["git", "-C", TOP, "rev-parse", "--verify", "--quiet", f"{name}^{{commit}}"], capture_output=True,
+                           text=True, check=False)
     if found.returncode:
         raise Misused(f"no such commit: {name}")
     return found.stdout.strip()

@@ -162,9 +162,8 @@ def turns_in(profile: str) -> int:
 
 def under_callgrind(profile: str, *command: str) -> tuple[int, str]:
     """How many instructions a command takes, and what it writes."""
-    done = subprocess.run(
-        ["valgrind", "--tool=callgrind", f"--callgrind-out-file={profile}", *command], capture_output=True, check=False
-    )
+    done = subprocess.run(["valgrind", "--tool=callgrind", f"--callgrind-out-file={profile}", *command], capture_output=True,
+                          check=False)
     found = re.search(rb"Collected : (\d+)", done.stderr)
     if not found:
         raise SystemExit(f"not counted: valgrind ended with status {done.returncode}")

@@ -121,11 +121,9 @@ class Programs(AgreeCases):
                        f"pipecheck agree: error: {said}\n")
 
     def test_small(self) -> None:
-        self.gives(
-            "a model and its machine agree on all small programs with fences",
-            [pipecheck(), "agree", "--all", "2+2", "--fences", BUFFER], 0,
-            f"tso-buffer.uspec: 232 programs\n{SWEPT}232 agree, 0 differ\n", env=self.variables({}),
-        )
+        self.gives("a model and its machine agree on all small programs with fences",
+                   [pipecheck(), "agree", "--all", "2+2", "--fences", BUFFER], 0,
+                   f"tso-buffer.uspec: 232 programs\n{SWEPT}232 agree, 0 differ\n", env=self.variables({}))
         done = self.agree("--all", "1+1")
         last = "".join(done.out.splitlines(keepends=True)[-2:])
         name = "without a word for models all of examples/models are compared"
@@ -259,10 +257,8 @@ class Files(AgreeCases):
         """These are read by what the environment says of names."""
         env = self.variables({"LC_ALL": "C"})
         fault = write(f"{self.work}/a\u009bb.uspec", FILES["fault.uspec"])
-        self.gives(
-            "a path that would break a line is one word of bash", [*AGREE, fault, MP], 3,
-            f"$'{self.work}/a\\u009bb.uspec':{FAULT.partition(':')[2]}\n", env=env,
-        )
+        self.gives("a path that would break a line is one word of bash", [*AGREE, fault, MP], 3,
+                   f"$'{self.work}/a\\u009bb.uspec':{FAULT.partition(':')[2]}\n", env=env)
         link = f"{self.work}/c\u009b.uspec"
         os.symlink(f"{TOP}/{EARLY}", link)
         self.gives("so is the name of a model in a line of what differs", [*AGREE, link, PATTERN], 1, f"""\

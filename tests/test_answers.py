@@ -205,17 +205,13 @@ class Words(Answers):
         self.says("no words: the forms of the commands", 2, USAGE, forms + LACKING)
         self.says("--help: the forms of the commands on standard output", 0, forms, "", "--help")
         self.says("help: the forms of the commands on standard output", 0, forms, "", "help")
-        self.says(
-            "help with a word that is no command: the forms of all", 2, USAGE,
-            f"{forms}pipecheck: there is no command chekc; those that there are stand above\n", "help", "chekc",
-        )
-        self.says(
-            "words that are no command: the forms of the one that was meant", 2, USAGE, """pipecheck check MODEL TEST
+        self.says("help with a word that is no command: the forms of all", 2, USAGE,
+                  f"{forms}pipecheck: there is no command chekc; those that there are stand above\n", "help", "chekc")
+        self.says("words that are no command: the forms of the one that was meant", 2, USAGE, """pipecheck check MODEL TEST
     Says whether the outcome of a litmus test is observable on a model. MODEL
     and TEST are files.
 pipecheck: these words are no command; how check is called stands above
-""", "check", PO,
-        )
+""", "check", PO)
 
     def test_files_that_cannot_be_read(self) -> None:
         none, folder, both = f"{self.work}/none", self.work, (REVERSE, FORBIDDEN)
@@ -267,10 +263,8 @@ pipecheck: these words are no command; how check is called stands above
 
     def test_a_word_that_is_not_utf_8(self) -> None:
         self.gives("a word that is not UTF-8", [program(), "check", b"\xff", TWO], 8)
-        self.gives(
-            "that the arguments could not be had", [pipecheck(), "check", b"\xff", TWO], 8, "",
-            "pipecheck: the arguments could not be had, as where one of them is not UTF-8\n",
-        )
+        self.gives("that the arguments could not be had", [pipecheck(), "check", b"\xff", TWO], 8, "",
+                   "pipecheck: the arguments could not be had, as where one of them is not UTF-8\n")
 
     def test_verdicts(self) -> None:
         either, absent = self.file("either.uspec", EITHER), self.file("absent.uspec", ABSENT)
@@ -476,10 +470,8 @@ class Questions(Answers):
         self.judged("core: its second graph is of the first axiom", 0, OBSERVABLE, PO, FORBIDDEN, by_order)
         self.shows("core: none", 0, f"core none\n{ORDERED}end\n", "core", PO, TWO)
         true = self.file("true.uspec", "True.\n")
-        self.tells(
-            "core: a refusal is told", "model", true, "1:1", "syntax: no model can continue with this token", "core", true, TWO,
-            due="`StageName`, `Axiom` or `DefineMacro`",
-        )
+        self.tells("core: a refusal is told", "model", true, "1:1", "syntax: no model can continue with this token", "core", true,
+                   TWO, due="`StageName`, `Axiom` or `DefineMacro`")
 
     def test_core_on_shipped_models(self) -> None:
         for name in ("sc-inorder", "tso-ooo", "tutorial"):
@@ -539,10 +531,8 @@ class Questions(Answers):
         test = self.walk("Litmus2", "Maps 7 2 0")
         for name, word in (("a mark of 2", "check"), ("a mark of 2: check2 says it too", "check2")):
             self.tells(name, "test", test, "2:50", "mark-value: a mark of a page-table entry over 1", word, model, test)
-        default = self.file("default.test", lines(
-            'Litmus2 "d".', "Microop 0 0 0 0 (Read (VA 5 0) (Entry 5) (Maps 5 0 0)).",
-            "Microop 1 0 0 0 (Read (VA 5 0) (PA 5 0) (Data 0)).",
-        ))
+        default = self.file("default.test", lines('Litmus2 "d".', "Microop 0 0 0 0 (Read (VA 5 0) (Entry 5) (Maps 5 0 0)).",
+                                                  "Microop 1 0 0 0 (Read (VA 5 0) (PA 5 0) (Data 0))."))
         initial = f'{S}Axiom "a": forall microops "i", DataFromInitialStateAtPA i => NodeExists (i, S).\n'
         held = "observable\ntest unstated\nnode 0.0@0:S\nnode 1.0@0:S\nend\n"
         name = "what an entry and a page hold where no line says it"
@@ -743,17 +733,13 @@ class Faults(Answers):
 
     def test_sizes(self) -> None:
         edges = '((i, S), (i, T), "");' * 40_000
-        self.on(
-            "a list of 40,000 edges", 0, "observable\ntest unstated\nnode 0.0@0:S\nnode 0.0@0:T\nedge 0.0@0:S 0.0@0:T\nend\n",
-            f'{S}StageName 1 "T".\nAxiom "x": forall microops "i", AddEdges [{edges}].\n', ONE,
-        )
+        self.on("a list of 40,000 edges", 0, "observable\ntest unstated\nnode 0.0@0:S\nnode 0.0@0:T\nedge 0.0@0:S 0.0@0:T\nend\n",
+                f'{S}StageName 1 "T".\nAxiom "x": forall microops "i", AddEdges [{edges}].\n', ONE)
         # each axiom has the size 1,000, and there are as many as the limit allows; so the tree has 997,000 literals
         million = f'{S}DefineMacro "k" "i": NodesExist [(i, S){"; (i, S)" * 996}].\n'
         million += 'Axiom "a": forall microops "i", ExpandMacro k i.\n' * 1000
         self.on("997,000 literals", 0, "observable\ntest unstated\nnode 0.0@0:S\nend\n", million, ONE)
-        self.on(
-            "one axiom past the limit of sizes", 3, "refused model too-big at 1003:1\n", f'{million}Axiom "b": True.\n', ONE
-        )
+        self.on("one axiom past the limit of sizes", 3, "refused model too-big at 1003:1\n", f'{million}Axiom "b": True.\n', ONE)
 
     def test_depths(self) -> None:
         """Each construct that may nest, at its limit, in an eighth of the usual stack; docs/faults.md names this stack."""
@@ -764,10 +750,8 @@ class Faults(Answers):
         rows += [("32 quantifiers in each other", f'Axiom "x": {quantifiers}True.\n')]
         empty = self.file("empty.test", 'Litmus "e".\n')
         for name, model in rows:
-            self.gives(
-                f"{name} in 1024 KiB of stack", [program(), "check", self.file("deep.uspec", model), empty], 0, FREE,
-                preexec_fn=within(resource.RLIMIT_STACK, 1024 * 1024),
-            )
+            self.gives(f"{name} in 1024 KiB of stack", [program(), "check", self.file("deep.uspec", model), empty], 0, FREE,
+                       preexec_fn=within(resource.RLIMIT_STACK, 1024 * 1024))
 
     def test_300_nodes(self) -> None:
         """A chain of those of one micro-op at 64 stages of each core, as far as they go: a program that gives up from some size on
@@ -776,9 +760,8 @@ class Faults(Answers):
         terms = [f"(i, ({k // 64}, S{k % 64}))" for k in range(300)]
         nodes = [f"0.0@{k // 64}:S{k % 64}" for k in range(300)]
         stages = lines(*(f'StageName {k} "S{k}".' for k in range(64)))
-        chain = stages + lines(
-            'Axiom "chain": forall microops "i", AddEdges [', *(f"({start}, {end});" for start, end in zip(terms, terms[1:])), "]."
-        )
+        chain = stages + lines('Axiom "chain": forall microops "i", AddEdges [',
+                               *(f"({start}, {end});" for start, end in zip(terms, terms[1:])), "].")
         back = f'Axiom "back": forall microops "i", AddEdge ({terms[299]}, {terms[0]}) \\/ AddEdge ({terms[299]}, {terms[1]}).\n'
         edges = [f"edge {start} {end}" for start, end in zip(nodes, nodes[1:])]
         graph = lines("observable", "test unstated", *(f"node {it}" for it in nodes), *edges, "end")
@@ -810,10 +793,8 @@ class Faults(Answers):
 
     def test_memory(self) -> None:
         """10,000 axioms take more memory than the 16 MiB that the shell and the program may have."""
-        self.gives(
-            "that memory was refused", ["./pipecheck", "check", self.file("many.uspec", MANY), TWO], 7, "",
-            "pipecheck: memory was refused, so there is no answer\n", preexec_fn=within(resource.RLIMIT_AS, 16384 * 1024),
-        )
+        self.gives("that memory was refused", ["./pipecheck", "check", self.file("many.uspec", MANY), TWO], 7, "",
+                   "pipecheck: memory was refused, so there is no answer\n", preexec_fn=within(resource.RLIMIT_AS, 16384 * 1024))
 
     def test_standard_output(self) -> None:
         """Where it fails, whatever the words, nothing is seen of what was written."""

@@ -130,10 +130,8 @@ class Families(Cases):
         good = ["ok      one", "ok      two", f"2 passed, 0 failed, 0 skipped{BY_THAT_PROGRAM}"]
         slow = ["ok      test it", f"1 passed, 0 failed, 0 skipped{BY_THAT_PROGRAM}"]
         self.runs("a family of which all cases pass", 0, good, "good")
-        self.runs(
-            "... in place of a shell that began something else", 0, slow, "slow",
-            before=f"until [ -e '{self.work}/begun' ]; do sleep 0.1; done &",
-        )
+        self.runs("... in place of a shell that began something else", 0, slow, "slow",
+                  before=f"until [ -e '{self.work}/begun' ]; do sleep 0.1; done &")
         self.runs("one case by a part of its name", 0, [good[1], f"1 passed, 0 failed, 0 skipped{BY_THAT_PROGRAM}"], "good", "wo")
         six = ["ok      six", f"1 passed, 0 failed, 0 skipped{BY_THAT_PROGRAM}"]
         self.runs("... that stands under with", 0, six, "parts", "six")

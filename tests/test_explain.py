@@ -679,10 +679,8 @@ class Endings(Cases):
     def test_interrupt(self) -> None:
         """Ctrl-C at eight moments of the beginning: nothing is said"""
         for delay in (0.03, 0.04, 0.05, 0.06, 0.07, 0.08, 0.1, 0.12):
-            with subprocess.Popen(
-                [f"{TOP}/pipecheck", "explain", *SB], cwd=TOP, stdin=subprocess.DEVNULL, stdout=subprocess.DEVNULL,
-                stderr=subprocess.PIPE, preexec_fn=attend_signals,
-            ) as process:
+            with subprocess.Popen([f"{TOP}/pipecheck", "explain", *SB], cwd=TOP, stdin=subprocess.DEVNULL,
+                                  stdout=subprocess.DEVNULL, stderr=subprocess.PIPE, preexec_fn=attend_signals) as process:
                 time.sleep(delay)
                 os.killpg(process.pid, signal.SIGINT)
                 said = process.communicate()[1].decode()

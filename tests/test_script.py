@@ -49,10 +49,8 @@ class NotBuilt(InACopy):
     def test_a_clone_without_the_toolchain(self) -> None:
         self.answers("a clone without the toolchain", CHECK, 125, "", NO_TOOLCHAIN)
         self.answers("explain in a clone without the toolchain", ("explain", *MP), 125, "", NO_TOOLCHAIN)
-        self.answers(
-            "--clean keeps what proves a program that is not built", ("--clean",), 125, "",
-            "pipecheck: the program is not built from these sources, so that what proves it is kept\n",
-        )
+        self.answers("--clean keeps what proves a program that is not built", ("--clean",), 125, "",
+                     "pipecheck: the program is not built from these sources, so that what proves it is kept\n")
 
     def test_forms(self) -> None:
         for word in ("--help", "help", "-h"):
@@ -82,10 +80,9 @@ class NotBuilt(InACopy):
         alone = f"{self.work}/alone"
         os.mkdir(alone)
         shutil.copy2(f"{TOP}/pipecheck", alone)
-        self.answers(
-            "a copied script has no checkout", CHECK, 125, "",
-            f"pipecheck: {alone} has neither a checkout nor an installed program beside this script: nothing is built\n", cwd=alone,
-        )
+        self.answers("a copied script has no checkout", CHECK, 125, "",
+                     f"pipecheck: {alone} has neither a checkout nor an installed program beside this script: nothing is built\n",
+                     cwd=alone)
         self.same("... and leaves nothing behind", os.listdir(alone), ["pipecheck"])
         shutil.copy2(f"{TOP}/commands.txt", alone)
         shutil.copytree(f"{TOP}/script", f"{alone}/script")
@@ -112,34 +109,26 @@ class Built(InACopy):
         self.same("... leaves the program", [it for it in files_below(f"{self.top}/crates") if "/out/" in it], left)
         self.answers("... which is called as before", CHECK, 1, VERDICT)
         command(f"{self.work}/tools/rt", "echo 'a kit logic 0123456789abcdef'\n")
-        self.answers(
-            "--version names the program", ("--version",), 0,
-            f"commit unknown\nlogic 0123456789abcdef\nprogram sha256 {hash_of(program())}, proved\n",
-            env={"PATH": f"{self.work}/tools:{self.plain}"},
-        )
+        self.answers("--version names the program", ("--version",), 0,
+                     f"commit unknown\nlogic 0123456789abcdef\nprogram sha256 {hash_of(program())}, proved\n",
+                     env={"PATH": f"{self.work}/tools:{self.plain}"})
 
     def test_a_signal(self) -> None:
         """The shell says its own word of it before."""
         as_proved(self.top, command(f"{self.work}/ended", "kill -SEGV $$\n"))
         done = self.call_it(*CHECK)
         said = "".join(it for it in done.err.splitlines(True) if it.startswith("pipecheck: "))
-        self.judge(
-            "a signal is named", Done(done.status, done.out, said), 139, "",
-            "pipecheck: the signal SEGV ended the program, so there is no answer: docs/faults.md, 'A signal'\n",
-        )
+        self.judge("a signal is named", Done(done.status, done.out, said), 139, "",
+                   "pipecheck: the signal SEGV ended the program, so there is no answer: docs/faults.md, 'A signal'\n")
 
     def test_limits_of_memory(self) -> None:
         many = ("check", write(f"{self.work}/many.uspec", MANY), "examples/two.test")
         self.answers("a limit of memory", many, 7, "", MEMORY, env={"PIPECHECK_MEMORY": "16"})
-        self.answers(
-            "a limit is never raised", many, 7, "", MEMORY, env={"PIPECHECK_MEMORY": "4000"},
-            preexec_fn=within(resource.RLIMIT_AS, 16384 * 1024),
-        )
+        self.answers("a limit is never raised", many, 7, "", MEMORY, env={"PIPECHECK_MEMORY": "4000"},
+                     preexec_fn=within(resource.RLIMIT_AS, 16384 * 1024))
         self.answers("no limit of memory", CHECK, 1, VERDICT, env={"PIPECHECK_MEMORY": "none"})
-        self.answers(
-            "a limit that is no number", CHECK, 125, "", "pipecheck: PIPECHECK_MEMORY is a number of MiB, or none, and not lots\n",
-            env={"PIPECHECK_MEMORY": "lots"},
-        )
+        self.answers("a limit that is no number", CHECK, 125, "",
+                     "pipecheck: PIPECHECK_MEMORY is a number of MiB, or none, and not lots\n", env={"PIPECHECK_MEMORY": "lots"})
 
     def test_limits_of_files(self) -> None:
         """Of 1,024 bytes, and where no file may have a byte."""
@@ -194,8 +183,6 @@ class Built(InACopy):
             reader, writer = os.pipe()
             os.write(writer, read(test).encode())
             os.close(writer)
-            self.answers(
-                "a pipe that nobody reads, and a test that can be read only once", ("check", model, f"/dev/fd/{reader}"), 5,
-                stdout=pipe, pass_fds=(reader,),
-            )
+            self.answers("a pipe that nobody reads, and a test that can be read only once", ("check", model, f"/dev/fd/{reader}"),
+                         5, stdout=pipe, pass_fds=(reader,))
             os.close(reader)

@@ -176,11 +176,9 @@ class Checkers(SuiteCases):
                     tabled("nodes", "four status:5", "1 faults"))
         os.mkdir(f"{self.work}/temporary")
         done = self.started(EARLY, "WORK/four.test", preexec_fn=limited, env={"TMPDIR": "WORK/temporary"})
-        self.judge(
-            "a limit of the size of files that a copy of a model passes",
-            Done(done.status, done.out, re.sub("tmp[a-z0-9_]*:", "FOLDER:", done.err.replace(self.work, "WORK"))), 2, "",
-            f"suite: {EARLY} cannot be copied into WORK/temporary/FOLDER: File too large\n",
-        )
+        self.judge("a limit of the size of files that a copy of a model passes",
+                   Done(done.status, done.out, re.sub("tmp[a-z0-9_]*:", "FOLDER:", done.err.replace(self.work, "WORK"))), 2, "",
+                   f"suite: {EARLY} cannot be copied into WORK/temporary/FOLDER: File too large\n")
         self.same("a copy of a model that passes the limit of size leaves nothing", os.listdir(f"{self.work}/temporary"), [])
         done = self.started(SC, preexec_fn=within(resource.RLIMIT_AS, 20_000 << 10))
         self.judge("a limit of memory that Python cannot load the suite in", Done(done.status, done.out, ""), 2)
@@ -206,11 +204,9 @@ exec "{program()}" "$@\"""")
         self.same("the suite's program is replaced after its first answer", os.path.exists(f"{self.work}/second"), False)
         self.two_programs()
         patterns = (f"examples/patterns/{it}.pattern" for it in ("MP", "R", "SB"))
-        self.gives(
-            "a program that is replaced while agree runs",
-            [*tool("agree", self.top), "examples/models/tso-ooo.uspec", *patterns], 0,
-            "swept by the program\n3 agree, 0 differ\n",
-        )
+        self.gives("a program that is replaced while agree runs",
+                   [*tool("agree", self.top), "examples/models/tso-ooo.uspec", *patterns], 0,
+                   "swept by the program\n3 agree, 0 differ\n")
         self.same("agree's program is replaced after its first answer", os.path.exists(f"{self.work}/second"), False)
 
     def two_programs(self) -> None:

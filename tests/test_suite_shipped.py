@@ -41,10 +41,8 @@ class Shipped(SuiteCases):
             -signal.SIGTERM, "suite: N pairs are kept, and the next suite goes on from there\n"
         ))
         self.same("a suite that is ended leaves no part", glob.glob(f"{self.work}/ended/*/*.part"), [])
-        self.counts(
-            "a suite goes on from what it has: all shipped tests on all shipped models", TESTS,
-            "suite: N pairs stand from a suite that was interrupted\n", **env,
-        )
+        self.counts("a suite goes on from what it has: all shipped tests on all shipped models", TESTS,
+                    "suite: N pairs stand from a suite that was interrupted\n", **env)
         self.counts("all shipped listings on all shipped models", LISTINGS, "", **{**env, "SUITE_TESTS": f"{TOP}/examples/x86"})
         self.same("tests that are written in both forms have one verdict", self.verdicts_of_both_forms(), (630, []))
 
@@ -104,10 +102,8 @@ class Agreement(SuiteCases):
 
     def test_files(self) -> None:
         listings = (f"examples/x86/{it}.litmus" for it in ("n6", "SB+mfences", "R+po+mfence"))
-        self.agree(
-            "the machines agree on final values, on locked instructions, on page tables and on listings", 0, "208 agree, 0 differ\n",
-            *names_of("tests/Final*.test"), *LOCKED, *TRANSLATION, *listings,
-        )
+        self.agree("the machines agree on final values, on locked instructions, on page tables and on listings", 0,
+                   "208 agree, 0 differ\n", *names_of("tests/Final*.test"), *LOCKED, *TRANSLATION, *listings)
         self.agree("the buggy TLBs differ from their machine where they should", 1, """\
 tlb-late-hold.uspec remap+invalidate+walk.test: shown yes, tlb allows no
 tlb-late-hold.uspec shootdown.test: shown yes, tlb allows no
@@ -128,7 +124,5 @@ swept by the program
 """, "examples/buggy/tso-ooo-commit-early.uspec", *patterns)
 
     def test_table(self) -> None:
-        self.gives(
-            "the table of the tests with page-table entries is the one that the machine gives",
-            [*tool("table"), "translation"], 0, read("examples/translation/memory-models.tsv"),
-        )
+        self.gives("the table of the tests with page-table entries is the one that the machine gives",
+                   [*tool("table"), "translation"], 0, read("examples/translation/memory-models.tsv"))

@@ -322,10 +322,8 @@ class Keeping(SuiteCases):
         self.stand("verdicts are kept", 0)
         shutil.rmtree(f"{self.work}/kept/sc-inorder")
         self.stand("verdicts that are kept stand in another suite", 2)
-        self.shows(
-            "verdicts that are kept stand with their certificates", 1, "verified unobservable\n",
-            "verify", SC, MP, f"{self.work}/kept/sc-inorder/MP.test.certificate",
-        )
+        self.shows("verdicts that are kept stand with their certificates", 1, "verified unobservable\n", "verify", SC, MP,
+                   f"{self.work}/kept/sc-inorder/MP.test.certificate")
         self.put("tests/MP.test", read(MP) + "% another test\n")
         self.stand("verdicts stand for the same bytes of a test alone", 1)
         self.copy("tests", MP)
