@@ -31,20 +31,7 @@ ORDERED = f"observable\ntest permitted: ok\n{PO_EDGE}"
 CYCLIC = "unobservable\ntest forbidden: ok\ncycle 0.0@0:S 1.0@0:S\nend\n"
 FREE = "observable\ntest unstated\nend\n"
 FALSE = "unobservable\ntest unstated\nfalse\nend\n"
-BUFFERED = """node 0.0@0:Exec
-node 0.0@0:Mem
-node 2.0@1:Exec
-node 2.0@1:Mem
-node 1.0@0:Exec
-node 3.0@1:Exec
-edge 0.0@0:Exec 0.0@0:Mem
-edge 2.0@1:Exec 2.0@1:Mem
-edge 0.0@0:Exec 1.0@0:Exec
-edge 2.0@1:Exec 3.0@1:Exec
-edge 1.0@0:Exec 2.0@1:Mem
-edge 3.0@1:Exec 0.0@0:Mem
-end
-"""
+BUFFERED = read(SB_CERTIFICATE).partition("\ntest forbidden: BUG\n")[2]
 IN_MEMORY = "cycle 0.0@0:Mem 1.0@0:Mem 2.0@1:Mem 3.0@1:Mem\nend\n"
 # 64 MiB are the limit of a certificate, 1 MiB that of another file
 MOST = 67_108_864
@@ -99,19 +86,7 @@ def writes(count: int, value: int) -> str:
 
 
 ONE = lines('Litmus "o".', op(0, "Write", 0, 1))
-
-
-LISTING = """X86 SB
-"PodWR Fre PodWR Fre"
-Com=Fr Fr
-{
-}
- P0          | P1          ;
- MOV [x],$1  | MOV [y],$1  ;
- MOV EAX,[y] | MOV EAX,[x] ;
-exists
-(0:EAX=0 /\\ 1:EAX=0)
-"""
+LISTING = read("examples/x86/SB.litmus")
 
 
 def open_read(number: int, address: int) -> str:
@@ -284,7 +259,8 @@ pipecheck: these words are no command; how check is called stands above
             self.shows(name, status, out, "check", model, test)
         self.says("nothing beside a verdict", 1, CYCLIC, "", "check", REVERSE, FORBIDDEN)
         version_2 = f"{HEADER}version 2\n"
-        self.shows("check2: a split, and a path that is denied on each side", 1, version_2 + AGAIN + LAST, "check2", either, FORBIDDEN)
+        denied = version_2 + AGAIN + LAST
+        self.shows("check2: a split, and a path that is denied on each side", 1, denied, "check2", either, FORBIDDEN)
         cycle = "cycle 0.0@0:S 1.0@0:S\nend\n"
         self.shows("check2: a refutation without a split", 1, version_2 + cycle, "check2", REVERSE, FORBIDDEN)
 
@@ -564,7 +540,7 @@ class Listings(Answers):
 
     def test_faults_beside_others(self) -> None:
         large, model = self.file("too-large.litmus", LISTING + " " * (MOST_OF_A_FILE + 1)), "refused model syntax at 7:1\n"
-        open_one, at = self.file("open.litmus", LISTING.replace(" /\\ 1:EAX=0", "")), "refused test x86-open at 8:20\n"
+        open_one, at = self.file("open.litmus", LISTING.replace(" /\\ 1:EAX=0", "")), "refused test x86-open at 9:20\n"
         for name, out, words in (
             ("check of a listing", "refused test lexical at 3:4\n", ("check", BUFFER, self.listing())),
             ("check86: a listing past 1 MiB", "refused test too-large at 1:1\n", ("check86", PO, large)),
@@ -573,7 +549,7 @@ class Listings(Answers):
         ):
             self.shows(name, 3, out, *words)
         said = "x86-open: the condition gives this register no value"
-        self.tells("check86: where a listing has its fault", "test", open_one, "8:20", said, "check86", BUFFER, open_one)
+        self.tells("check86: where a listing has its fault", "test", open_one, "9:20", said, "check86", BUFFER, open_one)
 
     def test_examples(self) -> None:
         pairs = (" 0 0", " 0 1", " 1 0", " 1 1")

@@ -469,26 +469,8 @@ class Script(Cases):
 
     def test_files(self) -> None:
         here = [f"{TOP}/pipecheck", "explain"]
-        self.gives("a refutation without a choice", [*here, *MP], 1, """unobservable: no run of this model shows the outcome
-test forbidden: ok
-
-The micro-ops of the test:
-  0.0 core 0 writes [x] = 1
-  1.0 core 0 writes [y] = 1
-  2.0 core 1 reads [y] = 1
-  3.0 core 1 reads [x] = 0
-  [x] is PA 0 0, [y] is PA 1 0
-
-Places are lines and columns of examples/in-order.uspec.
-
-The model leaves no choice, and what it asks for cannot be:
-cycle: no order has one
-  0.0@0:Mem before 1.0@0:Mem   "po" by axiom "PO" at 5:1, i = 0.0, j = 1.0
-  1.0@0:Mem before 2.0@1:Mem   "rf" by axiom "read" at 7:1, i = 2.0, w = 1.0
-  2.0@1:Mem before 3.0@1:Mem   "po" by axiom "PO" at 5:1, i = 2.0, j = 3.0
-  3.0@1:Mem before 0.0@0:Mem   "fr" by axiom "read" at 7:1, i = 3.0, v = 0.0
-Every branch is closed.
-""", env=PLAIN)
+        on_page = read("docs/explain.md").partition(f"$ ./pipecheck explain {' '.join(MP)}\n")[2].partition("```")[0]
+        self.gives("a refutation without a choice", [*here, *MP], 1, on_page, env=PLAIN)
         self.gives("a graph that check finds", [*here, *SB], 0, GRAPH, env=PLAIN)
         self.explains("a graph that is given", [*SB, SB_GRAPH], 0, GRAPH)
         self.explains("a lifted refutation", [*TWO, TWO_LIFTED], 1, LIFTED)
