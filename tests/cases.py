@@ -39,6 +39,9 @@ WITHOUT_PROOFS = (
     "processors\n"
 )
 BY_THAT_PROGRAM = ", by the program without its proofs"
+USAGE = "pipecheck: bad command line\n"
+UNWRITTEN = "pipecheck: standard output could not be written: what it got is not the whole answer\n"
+NO_TEST, NO_MODEL = (f"syntax: no {it} can continue with this token" for it in ("test", "model"))
 # what it says where no program stands and none can be made
 NO_TOOLCHAIN = (
     "pipecheck: the program is not built, and the toolchain that builds it, rt, is missing: README.md, 'Getting started', says "
@@ -354,6 +357,25 @@ def command_forms() -> str:
     return (
         f"{forms_of()}Exit status: 0 observable, 1 unobservable, 6 a refused certificate, any other no\nverdict (docs/faults.md).\n"
     )
+
+
+def meant(word: str) -> str:
+    """What is said of words that are no command, of which the first one is a command's."""
+    return f"{forms_of(word)}pipecheck: these words are no command; how {word} is called stands above\n"
+
+
+def missing(path: str) -> str:
+    """What is said of a file that is missing."""
+    return f"pipecheck: a file could not be read\npipecheck: {path} is not there\n"
+
+
+def told(path: str, place: str, said: str, due: str = "", folder: str = TOP) -> str:
+    """How a refusal of a file is told: the place, the fault's word with its sentence, the line there with blanks for tabs, a mark
+    below its column, and what is expected there."""
+    line, column = map(int, place.split(":"))
+    row = read(os.path.join(folder, path)).splitlines()[line - 1].replace("\t", " ")
+    expected = f"pipecheck: {due} is expected\n" if due else ""
+    return f"{path}:{place}: {said}\n    {row}\n{' ' * (3 + column)}^\n{expected}"
 
 
 def copy_checkout(folder: str, copied: Sequence[str] = (), crates: Sequence[str] = ()) -> str:

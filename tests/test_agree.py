@@ -14,8 +14,8 @@ from itertools import permutations, product
 from typing import Callable, Iterable, Iterator
 
 from tests.cases import (
-    PATIENCE, TOP, Cases, Done, apart, call, comes, command, done_by_unseen, environment, pipecheck, program, read, replaced, run,
-    tool, tool_entry, without_output, write
+    PATIENCE, TOP, Cases, Done, apart, call, comes, command, done_by_unseen, environment, pipecheck, program, read, replaced,
+    run, tool, tool_entry, without_output, write
 )
 
 # what is imported here is there in each process that is forked from this one

@@ -9,7 +9,10 @@ import shutil
 from itertools import product
 from typing import Sequence
 
-from tests.cases import TOP, Cases, Done, command_forms, copy_checkout, pipecheck, program, read, run, unread, within, write
+from tests.cases import (
+    NO_MODEL, NO_TEST, TOP, UNWRITTEN, USAGE, Cases, Done, command_forms, copy_checkout, meant, missing, pipecheck, program,
+    read, run, told, unread, within, write
+)
 
 PO, REVERSE = "examples/po.uspec", "examples/po-and-reverse.uspec"
 IN_ORDER, BUFFER = "examples/in-order.uspec", "examples/store-buffer.uspec"
@@ -20,12 +23,9 @@ SPOILT = "examples/certificates/mp-spoilt.txt"
 LIFTED_TWO, LIFTED_MP = "examples/lifted/two.txt", "examples/lifted/mp.txt"
 MP_PATTERN = "examples/patterns/MP.pattern"
 
-USAGE = "pipecheck: bad command line\n"
 UNREAD = "pipecheck: a file could not be read\n"
-UNWRITTEN = "pipecheck: standard output could not be written: what it got is not the whole answer\n"
 LACKING = "pipecheck: a command is missing; those that there are stand above\n"
 OBSERVABLE, UNOBSERVABLE = "verified observable\n", "verified unobservable\n"
-NO_TEST = "syntax: no test can continue with this token"
 PO_EDGE = "node 0.0@0:S\nnode 1.0@0:S\nedge 0.0@0:S 1.0@0:S\nend\n"
 ORDERED = f"observable\ntest permitted: ok\n{PO_EDGE}"
 CYCLIC = "unobservable\ntest forbidden: ok\ncycle 0.0@0:S 1.0@0:S\nend\n"
@@ -133,12 +133,8 @@ class Answers(Cases):
         self.shows(name, status, out, word, model, test, self.file("certificate", text))
 
     def tells(self, name: str, what: str, path: str, place: str, said: str, *words: str, due: str = "") -> None:
-        """This file is refused, and the script tells it: the place, the fault's word with its sentence, the line there with blanks
-        for tabs, a mark below its column, and what is expected there."""
-        line, column = map(int, place.split(":"))
-        row = read(path).splitlines()[line - 1].replace("\t", " ")
-        told = lines(f"{path}:{place}: {said}", f"    {row}", f"{' ' * (3 + column)}^", *[f"pipecheck: {due} is expected"] * bool(due))
-        self.says(name, 3, f"refused {what} {said.partition(':')[0]} at {place}\n", told, *words)
+        """This file is refused, and the script tells it."""
+        self.says(name, 3, f"refused {what} {said.partition(':')[0]} at {place}\n", told(path, place, said, due), *words)
 
     def breaks_off(self, name: str, word: str, model: str, test: str, text: str) -> None:
         """Each first part of the text, by its length, is refused at the line that it breaks off in."""
@@ -182,11 +178,7 @@ class Words(Answers):
         self.says("help: the forms of the commands on standard output", 0, forms, "", "help")
         self.says("help with a word that is no command: the forms of all", 2, USAGE,
                   f"{forms}pipecheck: there is no command chekc; those that there are stand above\n", "help", "chekc")
-        self.says("words that are no command: the forms of the one that was meant", 2, USAGE, """pipecheck check MODEL TEST
-    Says whether the outcome of a litmus test is observable on a model. MODEL
-    and TEST are files.
-pipecheck: these words are no command; how check is called stands above
-""", "check", PO)
+        self.says("words that are no command: the forms of the one that was meant", 2, USAGE, meant("check"), "check", PO)
 
     def test_files_that_cannot_be_read(self) -> None:
         none, folder, both = f"{self.work}/none", self.work, (REVERSE, FORBIDDEN)
@@ -210,15 +202,14 @@ pipecheck: these words are no command; how check is called stands above
             self.shows(name, 4, "", *words)
         link = f"{self.work}/link"
         os.symlink(none, link)
-        missing = f"{UNREAD}pipecheck: {none} is not there\n"
         for name, said, words in (
-            ("which file is missing", missing, ("check", PO, none)),
-            ("that both files are missing", f"{missing}pipecheck: two\\ words is not there\n", ("check", none, "two words")),
-            ("that the certificate is missing", missing, ("verify", PO, TWO, none)),
+            ("which file is missing", missing(none), ("check", PO, none)),
+            ("that both files are missing", f"{missing(none)}pipecheck: two\\ words is not there\n", ("check", none, "two words")),
+            ("that the certificate is missing", missing(none), ("verify", PO, TWO, none)),
             ("which file is a directory", f"{UNREAD}pipecheck: {folder} is a directory\n", ("check", folder, TWO)),
             ("which file is a link to none", f"{UNREAD}pipecheck: {link} is a link to what is not there\n", ("check", link, TWO)),
-            ("verify-lifted: which file is missing", missing, ("verify-lifted", *both, none)),
-            ("verify86: which file is missing", missing, ("verify86", PO, none, SB_CERTIFICATE)),
+            ("verify-lifted: which file is missing", missing(none), ("verify-lifted", *both, none)),
+            ("verify86: which file is missing", missing(none), ("verify86", PO, none, SB_CERTIFICATE)),
         ):
             self.says(name, 4, "", said, *words)
 
@@ -446,8 +437,8 @@ class Questions(Answers):
         self.judged("core: its second graph is of the first axiom", 0, OBSERVABLE, PO, FORBIDDEN, by_order)
         self.shows("core: none", 0, f"core none\n{ORDERED}end\n", "core", PO, TWO)
         true = self.file("true.uspec", "True.\n")
-        self.tells("core: a refusal is told", "model", true, "1:1", "syntax: no model can continue with this token", "core", true,
-                   TWO, due="`StageName`, `Axiom` or `DefineMacro`")
+        items = "`StageName`, `Axiom` or `DefineMacro`"
+        self.tells("core: a refusal is told", "model", true, "1:1", NO_MODEL, "core", true, TWO, due=items)
 
     def test_core_on_shipped_models(self) -> None:
         for name in ("sc-inorder", "tso-ooo", "tutorial"):

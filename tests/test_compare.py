@@ -18,7 +18,8 @@ from glob import glob
 from typing import Any
 
 from tests.cases import (
-    PATIENCE, TOP, Cases, call, comes, command, pipecheck, program, read, run, tool, tool_entry, without_output, write
+    PATIENCE, TOP, UNWRITTEN, USAGE, Cases, call, comes, command, meant, missing, pipecheck, program, read, run, tool,
+    tool_entry, without_output, write
 )
 
 from tools.agree.machines import tso
@@ -458,18 +459,12 @@ class Words(Compared):
         self.judge(f"compare: {name}", done, status, out, err)
 
     def test_script(self) -> None:
-        form = """pipecheck compare MODEL LISTING.. LOG
-    Compares the states in a log of herd7 or litmus7 with those that the model
-    shows of the listings of the same names.
-pipecheck: these words are no command; how compare is called stands above
-"""
         write("bad.uspec", 'StageName 0 "S".\nAxiom "x": IsAnyRead i 7.\n')
         write("log 2", SB_MACHINE)
         write("-m", read(BUFFERS))
-        self.by_script("no log", [BUFFERS, "SB.litmus"], 2, "pipecheck: bad command line\n", form)
+        self.by_script("no log", [BUFFERS, "SB.litmus"], 2, USAGE, meant("compare"))
         self.by_script("names with a dash or a blank", ["-m", "SB.litmus", "log 2"], 0, counted(SB_BOTH), "")
-        self.by_script("a file that is not there", [BUFFERS, "gone.litmus", "log"], 4, "",
-                       "pipecheck: a file could not be read\npipecheck: gone.litmus is not there\n")
+        self.by_script("a file that is not there", [BUFFERS, "gone.litmus", "log"], 4, "", missing("gone.litmus"))
         self.by_script("a refused model", ["bad.uspec", "SB.litmus", "log"], 3, "", "bad.uspec:2:12: arity: the model is refused\n")
 
     def test_python(self) -> None:
@@ -495,8 +490,7 @@ pipecheck: these words are no command; how compare is called stands above
                        "/bin/true")
 
     def test_outputs(self) -> None:
-        unwritten = "pipecheck: standard output could not be written: what it got is not the whole answer\n"
-        for name, kind, said in (("a full device", "full", unwritten), ("a pipe whose reader has enough", "unread", "")):
+        for name, kind, said in (("a full device", "full", UNWRITTEN), ("a pipe whose reader has enough", "unread", "")):
             with without_output(kind) as how:
                 self.by_script(name, [BUFFERS, "SB.litmus", "log"], 5, "", said, **how)
 

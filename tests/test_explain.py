@@ -15,10 +15,10 @@ from threading import Thread
 from typing import Any, Sequence
 
 from tests.cases import (
-    TOP, Cases, Done, call, command, commands_without, heed_signals, pipecheck, program, read, replaced, run, status_of, within,
-    without_output, without_proofs, write
+    NO_TEST, TOP, UNWRITTEN, Cases, Done, call, command, commands_without, heed_signals, missing, pipecheck, program, read,
+    replaced, run, status_of, told, within, without_output, without_proofs, write
 )
-from tests.test_answers import ABSENT, EITHER, NEVER, ONE, SIGNS, SPOILT, UNWRITTEN, WALK
+from tests.test_answers import ABSENT, EITHER, NEVER, ONE, SIGNS, SPOILT, WALK
 
 from tools.explain import judged
 from tools.texts import origins
@@ -477,21 +477,14 @@ class Script(Cases):
         spoilt = write(f"{self.work}/spoilt", re.sub("(?m)^false 8$", "false 9", read(TWO_LIFTED)))
         self.explains("a refused lifted refutation, and nothing else", [*TWO, spoilt], 6, "certificate refused at line 12\n")
         self.explains("a refused certificate, and nothing else", [*MP, SPOILT], 6, REFUSED)
-        self.explains("a refused file", [MP[0], MP[0]], 3, "refused test syntax at 2:1\n", """\
-examples/in-order.uspec:2:1: syntax: no test can continue with this token
-    StageName 0 "Exec".
-    ^
-pipecheck: `Litmus` or `Litmus2` is expected
-pipecheck: examples/in-order.uspec is a model, and stands for the test: check MODEL TEST
-""")
-        self.explains("a certificate that is not there", [*MP, f"{self.work}/gone"], 4, "",
-                      f"pipecheck: a file could not be read\npipecheck: {self.work}/gone is not there\n")
+        self.explains("a refused file", [MP[0], MP[0]], 3, "refused test syntax at 2:1\n",
+                      told(MP[0], "2:1", NO_TEST, "`Litmus` or `Litmus2`")
+                      + f"pipecheck: {MP[0]} is a model, and stands for the test: check MODEL TEST\n")
+        gone = f"{self.work}/gone"
+        self.explains("a certificate that is not there", [*MP, gone], 4, "", missing(gone))
         opened = write(f"{self.work}/open.litmus", read("examples/x86/SB.litmus").replace(" /\\ 1:EAX=0", ""))
         self.explains("a refused listing", [SB[0], opened], 3, "refused test x86-open at 9:20\n",
-                      f"""{opened}:9:20: x86-open: the condition gives this register no value
-     MOV EAX,[y] | MOV EAX,[x] ;
-                       ^
-""")
+                      told(opened, "9:20", "x86-open: the condition gives this register no value"))
         model, test = write(f"{self.work}/model.uspec", ""), write(f"{self.work}/each.test", EACH)
         # sets have another order with each seed
         for seed in ("1", "2"):

@@ -5,7 +5,7 @@ from __future__ import annotations
 
 import re
 
-from tests.cases import Cases, Done, pipecheck, program, run, without_proofs, write
+from tests.cases import Cases, Done, missing, pipecheck, program, run, told, without_proofs, write
 from tests.test_answers import ONE
 from tests.test_explain import PLAIN, explained, odds, refutation_of_odds
 
@@ -231,16 +231,15 @@ class Answers(Cases):
         wrong = write(f"{self.work}/word", answer.replace("ask sometimes", "ask always"))
         faulty = write(f"{self.work}/faulty.query", 'forall microop "i",\n  NodeExists (i, Nowhere)')
         gone = f"{self.work}/gone"
-        unread = f"pipecheck: a file could not be read\npipecheck: {gone} is not there\n"
-        told = f"{faulty}:2:18: stage-unknown: no stage has the name\n      NodeExists (i, Nowhere)\n{' ' * 21}^\n"
+        said = told(faulty, "2:18", "stage-unknown: no stage has the name")
         for name, words, status, out, err in (
             ("ask: a word that does not follow", (*ASK, wrong, QUERY), 6, refused(answer.split("\n").index("against") + 2), ""),
             # that query holds in both worlds
             ("ask: the answer to another query", (*ASK, path, NEVER[2]), 6, refused(len(answer.splitlines()) - 1), ""),
-            ("ask: a query with a fault", (*ASK, path, faulty), 3, "refused query stage-unknown at 2:18\n", told),
+            ("ask: a query with a fault", (*ASK, path, faulty), 3, "refused query stage-unknown at 2:18\n", said),
             ("a certificate beside a query", (*LONG, QUERY), 125, "", ONLY),
-            ("ask: beside a query that is not there", (*ASK, path, gone), 4, "", unread),
-            ("an answer that is not there, beside a query", (*ASK, gone, QUERY), 4, "", unread),
+            ("ask: beside a query that is not there", (*ASK, path, gone), 4, "", missing(gone)),
+            ("an answer that is not there, beside a query", (*ASK, gone, QUERY), 4, "", missing(gone)),
         ):
             self.gives(name, [pipecheck(), "explain", *words], status, out, err, env=PLAIN)
         # as deep as a formula may be, so that its denial is deeper

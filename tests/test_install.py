@@ -12,8 +12,8 @@ import subprocess
 from typing import Any, Callable, Iterator, Mapping, Sequence
 
 from tests.cases import (
-    NO_TOOLCHAIN, TOP, Beside, Done, InACheckout, as_proved, at_once, call, command, command_forms, copy_checkout, hash_of,
-    heed_signals, holding, program, read, run, tool, within, write
+    NO_TEST, NO_TOOLCHAIN, TOP, Beside, Done, InACheckout, as_proved, at_once, call, command, command_forms, copy_checkout,
+    hash_of, heed_signals, holding, program, read, run, told, tool, within, write
 )
 
 # where these stand tests.cases says
@@ -152,13 +152,10 @@ class Installed(Installs):
     def test_commands(self) -> None:
         for name, status, out, err, words in (
             ("check", 1, VERDICT, "", ("check", "in-order.uspec", "mp.test")),
-            ("a refusal with its sentence", 3, "refused test syntax at 2:1\n", """\
-in-order.uspec:2:1: syntax: no test can continue with this token
-    StageName 0 "Exec".
-    ^
-pipecheck: `Litmus` or `Litmus2` is expected
-pipecheck: in-order.uspec is a model, and stands for the test: check MODEL TEST
-""", ("check", "in-order.uspec", "in-order.uspec")),
+            ("a refusal with its sentence", 3, "refused test syntax at 2:1\n",
+             told("in-order.uspec", "2:1", NO_TEST, "`Litmus` or `Litmus2`", self.work)
+             + "pipecheck: in-order.uspec is a model, and stands for the test: check MODEL TEST\n",
+             ("check", "in-order.uspec", "in-order.uspec")),
             ("help", 0, command_forms(), "", ("help",)),
             ("lint", 0, "", "", ("lint", "in-order.uspec", "mp.test")),
             ("nothing to clean", 125, "", "pipecheck: an installed copy has nothing to clean\n", ("--clean",)),

@@ -14,9 +14,9 @@ from dataclasses import dataclass, field, replace
 from typing import Any, Callable, Iterable, Sequence
 
 from tests.cases import (
-    TOP, Cases, Done, call, commands_without, pipecheck, program, read, replaced, run, without_output, without_proofs, write
+    NO_MODEL, NO_TEST, TOP, UNWRITTEN, Cases, Done, call, commands_without, missing, pipecheck, program, read, replaced, run,
+    told, without_output, without_proofs, write
 )
-from tests.test_answers import UNWRITTEN
 
 from tools.lint import main as lint
 from tools.lint import idle as linting_idle
@@ -687,7 +687,7 @@ class Command(Cases):
         self.gives("a refused test", [f"{TOP}/pipecheck", "lint", "good.uspec", "good.test", "bad.test"], 3,
                    "bad.test:2:11: core-number: a core number over 63\n", **here)
         self.gives("a test that is not there", [*script, "good.uspec", "gone"], 4, "",
-                   "pipecheck: a file could not be read\npipecheck: gone is not there\n", **here)
+                   missing("gone"), **here)
         self.gives("without Python", [*script, "good.uspec"], 125, "",
                    "pipecheck: lint is written in Python, and there is no python3 here\n",
                    env={"PATH": commands_without(f"{self.work}/bin", "python")}, **here)
@@ -706,18 +706,11 @@ class Command(Cases):
     def test_expected(self) -> None:
         write(f"{self.work}/syntax.uspec", "StageName 0 Exec.\n")
         self.gives("expected: a name of a stage", [pipecheck(), "check", "syntax.uspec", "good.test"], 3,
-                   "refused model syntax at 1:13\n", """syntax.uspec:1:13: syntax: no model can continue with this token
-    StageName 0 Exec.
-                ^
-pipecheck: a name in quotes is expected
-""", cwd=self.work)
+                   "refused model syntax at 1:13\n", told("syntax.uspec", "1:13", NO_MODEL, "a name in quotes", self.work),
+                   cwd=self.work)
         self.gives("a model in place of a test", [pipecheck(), "check", "good.uspec", "good.uspec"], 3,
-                   "refused test syntax at 1:1\n", """good.uspec:1:1: syntax: no test can continue with this token
-    StageName 0 "S".
-    ^
-pipecheck: `Litmus` or `Litmus2` is expected
-pipecheck: good.uspec is a model, and stands for the test: check MODEL TEST
-""", cwd=self.work)
+                   "refused test syntax at 1:1\n", told("good.uspec", "1:1", NO_TEST, "`Litmus` or `Litmus2`", self.work)
+                   + "pipecheck: good.uspec is a model, and stands for the test: check MODEL TEST\n", cwd=self.work)
         for name, said, text in EXPECTED:
             if self.is_wanted(f"expected: {name}"):
                 path = write(f"{self.work}/syntax.uspec", f"{text}\n")

@@ -5,9 +5,11 @@ import os
 import signal
 import subprocess
 import sys
-import textwrap
 
-from tests.cases import TOP, Cases, Done, call, comes, command, pipecheck, program, read, replaced, status_of, write
+from tests.cases import (
+    NO_MODEL, TOP, USAGE, Cases, Done, call, comes, command, meant, missing, pipecheck, program, read, replaced, status_of,
+    told, write
+)
 
 from tools.mend import main as mend
 from tools.second.standard_output import status_of as status_of_main
@@ -145,25 +147,17 @@ class Script(Cases):
         script = [pipecheck(), "mend"]
         limited = ["bash", "-c", 'ulimit -v 1000000 && exec "$@"', "limited", *script]
         plain: dict[str, str | None] = {"COLUMNS": None, "PIPECHECK": None}
-        forms = next(it for it in read("commands.txt").splitlines() if it.startswith("script|mend|MODEL TEST|")).split("|")[3]
         rows: tuple[tuple[str, list[str], int, str, str, dict[str, str | None]], ...] = (
             ("a program without another outcome", [*script, replay, alone], 1, ALONE, "", {}),
             ("... under a limit of address space, which the machine has then", [*limited, replay, alone], 1, ALONE, "", {}),
             ("an outcome that is not shown", [f"{TOP}/pipecheck", "mend", IN_ORDER, MP], 1, NOTHING, "", {}),
             ("a model with a fault", [*script, bad, MP], 3, "refused model syntax at 1:1\n",
-             f"""{bad}:1:1: syntax: no model can continue with this token
-    Litmus "mp".
-    ^
-pipecheck: `StageName`, `Axiom` or `DefineMacro` is expected
-pipecheck: {bad} is a test, and stands for the model: check MODEL TEST
-""", {}),
-            ("a file that is not there", [*script, none, MP], 4, "",
-             f"pipecheck: a file could not be read\npipecheck: {none} is not there\n", {}),
+             told(bad, "1:1", NO_MODEL, "`StageName`, `Axiom` or `DefineMacro`")
+             + f"pipecheck: {bad} is a test, and stands for the model: check MODEL TEST\n", {}),
+            ("a file that is not there", [*script, none, MP], 4, "", missing(none), {}),
             ("a program that is none", [*script, IN_ORDER, MP], 125, "", "pipecheck: no checker: /bin/true\n",
              {"PIPECHECK": "/bin/true"}),
-            ("too few words", [f"{TOP}/pipecheck", "mend", IN_ORDER], 2, "pipecheck: bad command line\n",
-             "pipecheck mend MODEL TEST\n" + textwrap.fill(forms, 80, initial_indent="    ", subsequent_indent="    ")
-             + "\npipecheck: these words are no command; how mend is called stands above\n", {}),
+            ("too few words", [f"{TOP}/pipecheck", "mend", IN_ORDER], 2, USAGE, meant("mend"), {}),
         )
         for name, words, status, out, err, env in rows:
             self.gives(name, words, status, out, err, env={**plain, **env})

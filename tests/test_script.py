@@ -8,17 +8,15 @@ import shutil
 from typing import Any
 
 from tests.cases import (
-    NO_TOOLCHAIN, TOP, Done, InACheckout, as_proved, command, command_forms, copy_checkout, files_below, forms_of, hash_of,
-    program, read, run, unread, within, write
+    NO_TOOLCHAIN, TOP, UNWRITTEN, Done, InACheckout, as_proved, command, command_forms, copy_checkout, files_below, forms_of,
+    hash_of, meant, missing, program, read, run, unread, within, write
 )
+from tests.test_answers import MANY
 
 MP = ("examples/in-order.uspec", "examples/mp.test")
 CHECK = ("check", *MP)
 VERDICT = "unobservable\ntest forbidden: ok\ncycle 0.0@0:Mem 1.0@0:Mem 2.0@1:Mem 3.0@1:Mem\nend\n"
 MEMORY = "pipecheck: memory was refused, so there is no answer\n"
-UNWRITTEN = "pipecheck: standard output could not be written: what it got is not the whole answer\n"
-AXIOM = 'Axiom "a": forall microop "i", forall microop "j", ProgramOrder i j => AddEdge ((i, S), (j, S), "").\n'
-MANY = 'StageName 0 "S".\n' + AXIOM * 10_000
 OUT = "crates/pipecheck_cli/out"
 
 
@@ -166,16 +164,9 @@ class Built(InACopy):
                 ("an unobservable one", 1, "", CHECK, {}),
                 ("a core", 0, f'{model}:5:1: axiom 1: "PO"\n{model}:7:1: axiom 2: "read"\n', ("core", *MP), {}),
                 ("a certificate that is refused", 6, "", ("verify", *MP, "examples/certificates/mp-spoilt.txt"), {}),
-                (
-                    "a file that is not there", 4, f"pipecheck: a file could not be read\npipecheck: {none} is not there\n",
-                    ("check", none, test), {},
-                ),
+                ("a file that is not there", 4, missing(none), ("check", none, test), {}),
                 ("a limit of memory", 7, MEMORY, ("check", many, "examples/two.test"), small),
-                (
-                    "words that are no command", 2,
-                    f"{forms_of('check')}pipecheck: these words are no command; how check is called stands above\n",
-                    ("check", model), {},
-                ),
+                ("words that are no command", 2, meant("check"), ("check", model), {}),
                 ("the forms", 0, "", ("help",), {}),
                 ("the version", 0, "", ("--version",), {}),
             ):
