@@ -2,7 +2,6 @@
 the exit status; and the script `pipecheck`, for what it says on standard error."""
 from __future__ import annotations
 
-import io
 import os
 import resource
 import shutil
@@ -112,15 +111,6 @@ def macros(count: int, body: str, before: str = "") -> str:
     return lines(f'{before}DefineMacro "m0": True.', *defined, f'Axiom "x": ExpandMacro m{count}.')
 
 
-def second(*words: str) -> str:
-    """The answer of the second implementation, which is read where it is asked first."""
-    from tools.second.main import run as answer
-
-    out = io.StringIO()
-    answer(list(words), out)
-    return out.getvalue()
-
-
 class Answers(Cases):
     """What cases of answers share."""
 
@@ -204,7 +194,7 @@ class Words(Answers):
         os.symlink(none, link)
         for name, said, words in (
             ("which file is missing", missing(none), ("check", PO, none)),
-            ("that both files are missing", f"{missing(none)}pipecheck: two\\ words is not there\n", ("check", none, "two words")),
+            ("that both files are missing", missing(none) + "pipecheck: two\\ words is not there\n", ("check", none, "two words")),
             ("that the certificate is missing", missing(none), ("verify", PO, TWO, none)),
             ("which file is a directory", f"{UNREAD}pipecheck: {folder} is a directory\n", ("check", folder, TWO)),
             ("which file is a link to none", f"{UNREAD}pipecheck: {link} is a link to what is not there\n", ("check", link, TWO)),
@@ -421,8 +411,7 @@ class Lifted(Answers):
 
 
 class Questions(Answers):
-    """Minimal sets of axioms, and formulas that are asked, on shipped files with the texts of the second implementation; and tests
-    with page-table entries."""
+    """Minimal sets of axioms, formulas that are asked, and tests with page-table entries."""
 
     def test_core(self) -> None:
         shown = "observable\ntest forbidden: BUG\n"
@@ -440,27 +429,6 @@ class Questions(Answers):
         items = "`StageName`, `Axiom` or `DefineMacro`"
         self.tells("core: a refusal is told", "model", true, "1:1", NO_MODEL, "core", true, TWO, due=items)
 
-    def test_core_on_shipped_models(self) -> None:
-        for name in ("sc-inorder", "tso-ooo", "tutorial"):
-            for litmus in ("MP", "SB"):
-                files = (f"examples/models/{name}.uspec", f"examples/tests/{litmus}.test")
-                self.shows(f"core: {litmus} on {name}", 0, second("core", *files), "core", *files)
-
-    def test_a_lock_of_three_cores(self) -> None:
-        """A search of 127 splits, which follows what failed: three cores take a lock, to add 1 to a counter each, and the last
-        addition is lost."""
-        ops = ['Litmus "lock".']
-        for core, (got, put) in enumerate(((0, 1), (1, 2), (1, 100))):
-            first = 4 * core
-            ops += [
-                op(first, "Read Locked", 0, 0, core), op(first, "Write Locked", 0, 1, core, 1), op(first + 1, "Read", 1, got, core),
-                op(first + 2, "Write", 1, put, core), op(first + 3, "Write", 0, 0, core),
-            ]
-        files = ("examples/models/tso-buffer.uspec", self.file("lock.test", lines(*ops)))
-        for word in ("check", "check2"):
-            if self.is_wanted(name := f"{word}: a lock of three cores"):
-                self.shows(name, 1, second(word, *files), word, *files)
-
     def test_ask(self) -> None:
         both = 'exists microop "i", exists microop "j", ProgramOrder i j /\\ EdgeExists ((i, S), (j, S))'
         always = f"ask always\nwith\n{ORDERED}against\nunobservable\ntest permitted: stricter\npath 0.0@0:S 1.0@0:S\nend\nend\n"
@@ -471,14 +439,6 @@ class Questions(Answers):
         stage = self.file("stage.query", 'exists microop "i", NodeExists (i, T)\n')
         said = "stage-unknown: no stage has the name"
         self.tells("ask: a refusal is told", "query", stage, "1:36", said, "ask", PO, TWO, stage)
-
-    def test_shipped_questions(self) -> None:
-        for line in read("examples/queries/answers.tsv").splitlines()[1:]:
-            query, name, litmus, word = line.split("\t")
-            files = (f"examples/models/{name}.uspec", f"examples/tests/{litmus}.test", f"examples/queries/{query}.query")
-            text = second("ask", *files)
-            self.same(f"ask: {query} of {litmus} on {name} is {word}", f"ask {word}" in text.splitlines())
-            self.shows(f"ask: {query} of {litmus} on {name}", 0, text, "ask", *files)
 
     def walk(self, word: str, entry: str) -> str:
         """A test of this format, with a read of an entry and a write to the page that it maps to."""
