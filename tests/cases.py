@@ -298,16 +298,16 @@ class Cases(unittest.TestCase):
         with self.subTest(case=name):
             yield
 
-    def judge(self, name: str, done: Done, status: int = 0, out: str = "", err: str = "") -> None:
-        """Judges what a call wrote, beside what is said of the program without its proofs."""
-        done = without_proofs(done)
-        with self.case(name):
-            self.assertEqual((done.status, done.out, done.err), (status, out, err))
+    def judge(self, name: str, done: Done | Callable[[], Done], status: int = 0, out: str = "", err: str = "") -> None:
+        """Judges what a call wrote, or a call that is made where this case is to run, beside what is said of the program without
+        its proofs."""
+        if self.is_wanted(name):
+            with self.case(name):
+                self.assertEqual(without_proofs(done if isinstance(done, Done) else done()), Done(status, out, err))
 
     def gives(self, name: str, words: Sequence[str | bytes], status: int = 0, out: str = "", err: str = "", **how: Any) -> None:
         """A command ends with this status and writes these two texts; `how` are words of `run`."""
-        if self.is_wanted(name):
-            self.judge(name, run(words, **how), status, out, err)
+        self.judge(name, lambda: run(words, **how), status, out, err)
 
     def shows(self, name: str, status: int, out: str, *words: str) -> None:
         """The program itself writes this to standard output, and nothing to standard error."""

@@ -169,8 +169,7 @@ class SuiteCases(Cases):
     def writes(self, name: str, done: Done, status: int, text: str, said: str = "") -> None:
         """The suite wrote this table with the folder of certificates above the last line, which counts."""
         *lines, count = text.splitlines(keepends=True)
-        if self.is_wanted(name):
-            self.judge(name, of_suite(done, self.work), status, "".join([*lines, "certificates: WORK/kept\n", count]), said)
+        self.judge(name, of_suite(done, self.work), status, "".join([*lines, "certificates: WORK/kept\n", count]), said)
 
     def table(self, name: str, status: int, text: str, *words: str, **env: str) -> None:
         """The suite writes this table."""
@@ -184,5 +183,4 @@ class SuiteCases(Cases):
 
     def refuses(self, name: str, line: str, *words: str, **env: str) -> None:
         """The suite says this line and prints no table."""
-        if self.is_wanted(name):
-            self.judge(name, of_suite(self.called(*words, **env), self.work), 2, "", f"suite: {line}\n")
+        self.judge(name, lambda: of_suite(self.called(*words, **env), self.work), 2, "", f"suite: {line}\n")

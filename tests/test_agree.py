@@ -94,8 +94,7 @@ class AgreeCases(Cases):
 
     def agrees(self, name: str, status: int, out: str, err: str, *words: str, **env: str) -> None:
         """Agree writes these two texts."""
-        if self.is_wanted(name):
-            self.judge(name, self.agree(*words, **env), status, out, err)
+        self.judge(name, lambda: self.agree(*words, **env), status, out, err)
 
 
 class Programs(AgreeCases):

@@ -44,8 +44,7 @@ class Checked(Cases):
         for name, start in starts.items():
             found = [it for it in lines if it.startswith(start)]
             lines = [it for it in lines if not it.startswith(start)]
-            with self.case(name):
-                self.assertEqual((said.status in (0, 1), found), (True, []))
+            self.same(name, (said.status in (0, 1), found), (True, []))
 
 
 class Shell(Checked):

@@ -464,8 +464,8 @@ class Script(Cases):
         from this one."""
         if how.keys() - {"cwd"}:
             self.gives(name, [pipecheck(), "explain", *words], status, out, err, **{**how, "env": {**PLAIN, **how.get("env", {})}})
-        elif self.is_wanted(name):
-            self.judge(name, explained(*words, **how), status, out, err)
+        else:
+            self.judge(name, lambda: explained(*words, **how), status, out, err)
 
     def test_files(self) -> None:
         here = [f"{TOP}/pipecheck", "explain"]
@@ -574,8 +574,7 @@ pipecheck: a text in quotes is expected
         line = "; ".join(f"((i, S{k}), (i, S{k + 1}))" for k in range(63))
         model = write(f"{self.work}/line.uspec", "".join(f'StageName {k} "S{k}".\n' for k in range(64))
                       + f'Axiom "line": forall microops "i", AddEdges [{line}].\n')
-        with self.case("a certificate of more than 4 KiB"):
-            self.assertGreater(len(run([program(), "check", model, "examples/two.test"]).out), 4096)
+        self.holds("a certificate of more than 4 KiB", len(run([program(), "check", model, "examples/two.test"]).out) > 4096)
         words = [*mount, pipecheck(), "explain", model, "examples/two.test"]
         self.gives(name, words, 125, "", unkept("the answer of check", small), env=PLAIN)
 
@@ -587,8 +586,7 @@ pipecheck: a text in quotes is expected
         self.judge("another checker", run(explains, env={**PLAIN, "PIPECHECK": checker}), 0, GRAPH)
         several: dict[str, str | None] = {**PLAIN, "PIPECHECK": f"env 'LANG=a b' '{checker}'"}
         self.judge("... of several words", run([*explains, SB_GRAPH], env=several), 0, GRAPH)
-        with self.case("... checks and judges"):
-            self.assertEqual(sorted(read(called).split()), ["check", "verify", "verify"])
+        self.same("... checks and judges", sorted(read(called).split()), ["check", "verify", "verify"])
         gone = f"{self.work}/gone"
         self.explains("a checker that is none", SB, 125, "", f"pipecheck: PIPECHECK is no command: {gone}\\ x\n",
                       env={"PIPECHECK": f"{gone} x"})

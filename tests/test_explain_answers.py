@@ -117,8 +117,7 @@ class Refutations(Cases):
         with self.case("its splits are all there"):
             self.assertEqual(sum(" split " in f" {line}" and ", since " in line for line in said.out.splitlines()), 31)
         self.shows("it is judged", 1, "verified unobservable\n", "verify", *LONG)
-        with self.case("100 columns where nothing says how many"):
-            self.assertEqual(said, explained(*LONG, width=USUAL))
+        self.same("100 columns where nothing says how many", said, explained(*LONG, width=USUAL))
 
     def test_sides(self) -> None:
         for name, model, certificate, wanted in (
@@ -150,8 +149,7 @@ class Refutations(Cases):
                     self.assertTrue(is_narrow(narrow, width))
                     # a word that is longer than a line is broken, too; a table is written anew where it is too wide
                     self.assertTrue("".join(narrow.split()) == "".join(wide.split()) or "core 0  0.0 " in narrow)
-        with self.case("a table that is too wide names the cores"):
-            self.assertIn("\nstep\n   1  core 0  0.0 ", explained(*graph, width=40).out)
+        self.holds("a table that is too wide names the cores", "\nstep\n   1  core 0  0.0 " in explained(*graph, width=40).out)
 
 
 BESIDE = "pipecheck: an answer of ask is explained beside its query: explain MODEL TEST ANSWER QUERY\n"
@@ -185,11 +183,9 @@ class Answers(Cases):
             self.assertEqual(headings, ["refutation", "without 0", "without 2", "without 3", "without 6"])
             self.assertEqual((done.status, done.out[:len(SAID_OF_CORE)], done.err), (0, SAID_OF_CORE, ""))
             self.assertIn('without 3: a run of the others without axiom "The store queue', done.out)
-        with self.case("core: within 100 columns"):
-            self.assertTrue(is_narrow(done.out, USUAL))
+        self.holds("core: within 100 columns", is_narrow(done.out, USUAL))
         none = self.script("core", *NEVER[:2])
-        with self.case("core none: no names"):
-            self.assertEqual((none.status, none.out.split("\n")[0], none.err), (0, "core none", ""))
+        self.same("core none: no names", (none.status, none.out.split("\n")[0], none.err), (0, "core none", ""))
         with self.case("core none: the graph"):
             done = self.script("explain", *NEVER[:2], write(f"{self.work}/none", none.out))
             self.assertEqual((done.status, done.out.partition(" axioms")[0]), (0, "core none: no"))

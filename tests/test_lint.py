@@ -679,8 +679,7 @@ class Command(Cases):
 
     def test_files(self) -> None:
         for name, words, status, out, err in FILES:
-            if self.is_wanted(name):
-                self.judge(name, answer(words, self.work), status, out, err)
+            self.judge(name, functools.partial(answer, words, self.work), status, out, err)
 
     def test_script(self) -> None:
         script, here = [pipecheck(), "lint"], {"cwd": self.work}

@@ -178,5 +178,4 @@ class Script(Cases):
             process.send_signal(signal.SIGTERM)
             out, err = (it.decode() for it in process.communicate())
         self.judge("TERM ends it", Done(status_of(process.returncode), out, err), 143)
-        with self.case("... and leaves nothing"):
-            self.assertEqual(os.listdir(room), [])
+        self.same("... and leaves nothing", os.listdir(room), [])

@@ -636,8 +636,7 @@ class Second(Cases):
     def test_two_searches_that_do_not_agree(self) -> None:
         words = ["second", "check", *(f"{TOP}/examples/{it}" for it in ("store-buffer.uspec", "sb.test"))]
         done = run([sys.executable, "-c", FAILS, *words])
-        with self.case("the second implementation: two searches that do not agree are no verdict"):
-            self.assertEqual((done.status, done.out), (125, ""))
+        self.same("the second implementation: two searches that do not agree are no verdict", (done.status, done.out), (125, ""))
 
 
 class SpoiltListings(Cases):
