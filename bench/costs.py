@@ -48,6 +48,8 @@ PROGRAM = "pipecheck_cli"
 PROVED, TRIED = ("src", "specs", "proofs"), "must-fail"
 SLOWEST = 10
 LANES = (2, 4, 8)
+# a crate, what is done with it, and which of several
+Task = tuple[str, str, int]
 USAGE = "bench/costs.py [--between OLD NEW [--gate]] [--into FOLDER] [--minutes N] [NAME ..]"
 # What the prover calls the parts of a function.
 PART = re.compile(r"\.(Statement|Met|Proof|Kinds|TheLink|TheLinks|Code|Mir|Key|Reads|Layout|Named|Tie|Goals|Given|Answers"
@@ -347,25 +349,20 @@ def measure_all(trees: list[Tree], names: list[str], lanes: int, until: float, i
 def simulate(tree: Tree, lanes: int) -> float:
     """The minutes that `rt ci` takes on so many processors, by these rows: each check on one of them, the longest chain first, and edits
     where no proof waits. What runs at the end, programs and tests, is left out."""
-    tasks: dict[tuple[str, str, int], tuple[float, list[tuple[str, str, int]]]] = {}
+    tasks: dict[Task, tuple[float, list[Task]]] = {}
     for name, cost in tree.costs.items():
         proofs = [(it, "proof", 0) for it in tree.closure(name) if it in tree.costs]
-        own = [(name, "proof", 0), (name, "tests", 0)]
-        tasks[name, "proof", 0] = cost.proof, proofs
-        tasks[name, "tests", 0] = cost.tests, proofs
-        if cost.again:
-            tasks[name, "again", 0] = cost.again, proofs
-            own.append((name, "again", 0))
-        for at in range(cost.number):
-            tasks[name, "edit", at] = cost.edits / cost.number, own
+        own = [(name, it, 0) for it in ("proof", "tests", *["again"] * bool(cost.again))]
+        tasks |= {it: (seconds, proofs) for it, seconds in zip(own, (cost.proof, cost.tests, cost.again))}
+        tasks |= {(name, "edit", at): (cost.edits / cost.number, own) for at in range(cost.number)}
     behind = {it: 0.0 for it in tasks}
     for key in reversed(list(tasks)):
         behind[key] += tasks[key][0]
         for it in tasks[key][1]:
             behind[it] = max(behind[it], behind[key])
     left = sorted(tasks, key=lambda it: (it[1] in ("again", "edit"), -behind[it]))
-    done: set[tuple[str, str, int]] = set()
-    ends: list[tuple[float, tuple[str, str, int]]] = []
+    done: set[Task] = set()
+    ends: list[tuple[float, Task]] = []
     now = 0.0
     while left or ends:
         for key in [it for it in left if all(below in done for below in tasks[it][1])][: lanes - len(ends)]:

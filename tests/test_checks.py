@@ -120,27 +120,26 @@ class Families(Cases):
         os.mkdir(f"{self.work}/room")
         self.env = {"TESTED_PROGRAM": "/bin/true", "PIPECHECK_PROVED": "no", "TMPDIR": f"{self.work}/room"}
 
-    def runs(self, name: str, status: int, lines: list[str], *words: str, before: str = "") -> None:
-        """These words give these lines, in any order, behind the one that names the program."""
+    def runs(self, name: str, status: int, counts: str, lines: list[str], *words: str, before: str = "") -> None:
+        """These words give these lines, in any order, behind the one that names the program, and the one that counts so."""
         done = run(["bash", "-c", f'{before} exec tests/program "$@"', "bash", *words], cwd=self.top, env=self.env)
-        self.same(name, (done.status, sorted(done.out.splitlines()[1:]), done.err), (status, sorted(lines), ""))
+        wanted = sorted([*lines, f"{counts}, 0 skipped{BY_THAT_PROGRAM}"])
+        self.same(name, (done.status, sorted(done.out.splitlines()[1:]), done.err), (status, wanted, ""))
 
     def test_families(self) -> None:
-        good = ["ok      one", "ok      two", f"2 passed, 0 failed, 0 skipped{BY_THAT_PROGRAM}"]
-        slow = ["ok      test it", f"1 passed, 0 failed, 0 skipped{BY_THAT_PROGRAM}"]
-        self.runs("a family of which all cases pass", 0, good, "good")
-        self.runs("... in place of a shell that began something else", 0, slow, "slow",
+        good = ["ok      one", "ok      two"]
+        self.runs("a family of which all cases pass", 0, "2 passed, 0 failed", good, "good")
+        self.runs("... in place of a shell that began something else", 0, "1 passed, 0 failed", ["ok      test it"], "slow",
                   before=f"until [ -e '{self.work}/begun' ]; do sleep 0.1; done &")
-        self.runs("one case by a part of its name", 0, [good[1], f"1 passed, 0 failed, 0 skipped{BY_THAT_PROGRAM}"], "good", "wo")
-        six = ["ok      six", f"1 passed, 0 failed, 0 skipped{BY_THAT_PROGRAM}"]
-        self.runs("... that stands under with", 0, six, "parts", "six")
-        self.runs("no case has that name", 1, [f"0 passed, 0 failed, 0 skipped{BY_THAT_PROGRAM}"], "good", "four")
-        both = ["ok      deep", "ok      flat", f"2 passed, 0 failed, 0 skipped{BY_THAT_PROGRAM}"]
-        self.runs("how deep Python goes one family says for itself", 0, both, "deep", "flat")
-        self.runs("one that cannot be read, and one whose process ends, fail, and the others run", 1, [
-            *good[:2], "FAILED  three: AssertionError: 3 != 4",
+        self.runs("one case by a part of its name", 0, "1 passed, 0 failed", ["ok      two"], "good", "wo")
+        self.runs("... that stands under with", 0, "1 passed, 0 failed", ["ok      six"], "parts", "six")
+        self.runs("no case has that name", 1, "0 passed, 0 failed", [], "good", "four")
+        both = ["ok      deep", "ok      flat"]
+        self.runs("how deep Python goes one family says for itself", 0, "2 passed, 0 failed", both, "deep", "flat")
+        self.runs("one that cannot be read, and one whose process ends, fail, and the others run", 1, "2 passed, 3 failed", [
+            *good, "FAILED  three: AssertionError: 3 != 4",
             "FAILED  tests/test_unread.py can be read: AssertionError: ModuleNotFoundError(\"No module named 'no_such_module'\")",
-            "FAILED  tests.test_ended.It came to no end: status 0", f"2 passed, 3 failed, 0 skipped{BY_THAT_PROGRAM}",
+            "FAILED  tests.test_ended.It came to no end: status 0",
         ], "good", "unread", "ended", "wrong")
 
     def test_signals(self) -> None:

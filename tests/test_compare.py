@@ -9,8 +9,6 @@ from __future__ import annotations
 import io
 import os
 import re
-import signal
-import subprocess
 from contextlib import redirect_stderr
 from dataclasses import dataclass
 from functools import cache
@@ -18,8 +16,8 @@ from glob import glob
 from typing import Any
 
 from tests.cases import (
-    PATIENCE, TOP, UNWRITTEN, USAGE, Cases, call, comes, command, meant, missing, pipecheck, program, read, run, tool,
-    tool_entry, without_output, write
+    TOP, UNWRITTEN, USAGE, Beside, Cases, call, command, meant, missing, pipecheck, program, read, run, tool, tool_entry,
+    without_output, write
 )
 
 from tools.agree.machines import tso
@@ -504,11 +502,7 @@ class Words(Compared):
     def test_signal(self) -> None:
         os.mkdir("temporary")
         sleeper = self.stub("sleeper", 'echo $$ >"$0.pid"; exec sleep 600')
-        env = {**os.environ, "PIPECHECK": sleeper, "TMPDIR": f"{self.work}/temporary"}
-        with subprocess.Popen([pipecheck(), "compare", BUFFERS, "SB.litmus", "log"], env=env) as called:
-            is_called = comes(lambda: os.path.exists(f"{sleeper}.pid") and os.path.getsize(f"{sleeper}.pid") > 0)
-            called.send_signal(signal.SIGTERM)
-            status = called.wait(PATIENCE)
-        with self.case("compare: a signal ends all of it"):
-            is_there = os.path.exists(f"/proc/{read(f'{sleeper}.pid').strip()}")
-            self.assertEqual((is_called, status, is_there, os.listdir("temporary")), (True, -signal.SIGTERM, False, []))
+        env = {"PIPECHECK": sleeper, "TMPDIR": f"{self.work}/temporary"}
+        done = Beside([pipecheck(), "compare", BUFFERS, "SB.litmus", "log"], f"{sleeper}.pid", env).ended_by("TERM")
+        is_there = os.path.exists(f"/proc/{read(f'{sleeper}.pid').strip()}")
+        self.same("compare: a signal ends all of it", (done.status, is_there, os.listdir("temporary")), (143, False, []))

@@ -2,13 +2,10 @@
 from __future__ import annotations
 
 import os
-import signal
-import subprocess
 import sys
 
 from tests.cases import (
-    NO_MODEL, TOP, USAGE, Cases, Done, call, comes, command, meant, missing, pipecheck, program, read, replaced, status_of,
-    told, write
+    NO_MODEL, TOP, USAGE, Beside, Cases, call, command, meant, missing, pipecheck, program, replaced, told, write
 )
 
 from tools.mend import main as mend
@@ -166,16 +163,10 @@ class Script(Cases):
         room, waits = f"{self.work}/room", f"{self.work}/waits"
         os.mkdir(room)
         # what is asked first of a model that shows the outcome gets no answer
-        checker = command(f"{self.work}/checker", f'[ "$1" != sweep ] || {{ : >{waits}; exec sleep 600; }}\n'
+        checker = command(f"{self.work}/checker", f'[ "$1" != sweep ] || {{ echo >{waits}; exec sleep 600; }}\n'
                           f'exec {program()} "$@"\n')
         words = [pipecheck(), "mend", "examples/buggy/weak-ooo-read-read.uspec", "examples/tests/RSW.test"]
-        env = {**os.environ, "TMPDIR": room, "PIPECHECK": checker}
-        with subprocess.Popen(words, cwd=TOP, env=env, stdin=subprocess.DEVNULL, stdout=subprocess.PIPE,
-                              stderr=subprocess.PIPE) as process:
-            with self.case("TERM comes while it asks"):
-                self.assertTrue(comes(lambda: os.path.exists(waits) or process.poll() is not None))
-                self.assertEqual((process.poll(), len(os.listdir(room))), (None, 1))
-            process.send_signal(signal.SIGTERM)
-            out, err = (it.decode() for it in process.communicate())
-        self.judge("TERM ends it", Done(status_of(process.returncode), out, err), 143)
+        job = Beside(words, waits, {"TMPDIR": room, "PIPECHECK": checker}, cwd=TOP)
+        self.same("TERM comes while it asks", (job.process.poll(), len(os.listdir(room))), (None, 1))
+        self.judge("TERM ends it", job.ended_by("TERM"), 143)
         self.same("... and leaves nothing", os.listdir(room), [])
