@@ -49,19 +49,9 @@ class Asked:
         return f"{self.family} {self.seed} on {self.model}"
 
     @property
-    def is_long_anyway(self) -> bool:
-        """Whether a refutation of it would be long in any order."""
-        return self.model == LONG_MODEL and self.family in LONG_FAMILIES
-
-    @property
     def verdict(self) -> str | None:
         """None where it took too long, or the call failed."""
         return ANSWERS.get(self.status)
-
-    @property
-    def has_failed(self) -> bool:
-        """Whether the call ended in time without an answer."""
-        return self.verdict is None and self.seconds < LIMIT
 
 
 def asked_of(family: str, seed: int, model: str, command: str, test: str) -> Asked:
@@ -100,7 +90,7 @@ def tell_all(found: list[Asked]) -> bool:
         of_command = [it for it in found if it.command == command]
         for family in FAMILIES:
             tell(f"{command:6} {family}", [it for it in of_command if it.family == family])
-        others = [it for it in of_command if not it.is_long_anyway]
+        others = [it for it in of_command if it.model != LONG_MODEL or it.family not in LONG_FAMILIES]
         tell(f"{command:6} all", of_command, is_barred=True)
         tell(f"{command:6} all but rings and chains on {LONG_MODEL}", others, is_barred=True)
     for it in sorted(found, key=lambda it: -it.seconds)[:SLOWEST]:
@@ -110,7 +100,9 @@ def tell_all(found: list[Asked]) -> bool:
         if it.verdict is not None:
             verdicts.setdefault(it.name, set()).add(it.verdict)
     faults = [f"VERDICTS DIFFER: {name}" for name, said in verdicts.items() if len(said) > 1]
-    faults += [f"{it.command} {it.name} ended with status {it.status}" for it in found if it.has_failed]
+    # in time, and without an answer
+    failed = [it for it in found if it.verdict is None and it.seconds < LIMIT]
+    faults += [f"{it.command} {it.name} ended with status {it.status}" for it in failed]
     for fault in faults:
         print(fault)
     return not faults

@@ -41,6 +41,12 @@ def explained(*files: str, width: int = 0, **how: Any) -> Done:
     return call(lambda: status_of_main(judged.main, sys.argv[1:]), ["judged", program(), *files], env=env, **how)
 
 
+def shown(*words: str) -> str:
+    """What docs/explain.md shows of these words of `explain`. A line `...` stands for others, and the first one is left out."""
+    behind = read("docs/explain.md").partition(f"$ ./pipecheck explain {' '.join(words)}\n")[2]
+    return behind.partition("```")[0].removeprefix("...\n")
+
+
 @dataclass(frozen=True)
 class Row:
     """What is said of a model, a test and a certificate, each a path of examples or a text; or what of it fits an expression, at so
@@ -372,6 +378,7 @@ class Words(Cases):
             self.assertNotEqual(lifted, [])
 
 
+# behind its key each is as the page shows it
 GRAPH = """observable: a run of this model shows the outcome
 test forbidden: BUG
 
@@ -384,24 +391,9 @@ The micro-ops of the test:
 
 Places are lines and columns of examples/store-buffer.uspec.
 
-One order of the run, a step a line, in the column of the micro-op's core:
-step  core 0    core 1
-   1  0.0 Exec
-   2            2.0 Exec
-   3  1.0 Exec
-   4            2.0 Mem
-   5            3.0 Exec
-   6  0.0 Mem
-
-The edges between micro-ops of two cores, which carry the values:
-  1.0@0:Exec before 2.0@1:Mem   "fr" by axiom "read" at 11:1, i = 1.0, v = 2.0
-  3.0@1:Exec before 0.0@0:Mem   "fr" by axiom "read" at 11:1, i = 3.0, v = 0.0
-
-Where the values of reads come from:
-  1.0 reads [y] = 0 from the start   "fr" by axiom "read" at 11:1, i = 1.0, v = 2.0
-  3.0 reads [x] = 0 from the start   "fr" by axiom "read" at 11:1, i = 3.0, v = 0.0
-"""
-LIFTED = """unobservable: no run of this model shows the outcome
+""" + shown(*SB)
+FACTS, LEAF = shown(*TWO, TWO_LIFTED).split("...\n")
+LIFTED = f"""unobservable: no run of this model shows the outcome
 test forbidden: ok
 
 The micro-ops of the test:
@@ -411,18 +403,7 @@ The micro-ops of the test:
 
 Places are lines and columns of examples/po-and-reverse.uspec.
 
-The axioms are the first facts:
-  0: axiom "PO" at 4:1
-  1: axiom "rev" at 6:1
-
-Each line adds a fact, or splits a branch, or closes one by what cannot be:
-inst 0 0.0: fact 2, forall microop j, ProgramOrder 0.0 j => 0.0@0:S before (j, S)
-    from axiom 0 with i = 0.0
-inst 2 1.0: fact 3, ProgramOrder 0.0 1.0 => 0.0@0:S before 1.0@0:S
-    from axiom 0 with i = 0.0 and j = 1.0
-split 3: fact 4, 0.0@0:S before 1.0@0:S, since ProgramOrder 0.0 1.0 holds in this test
-    from axiom 0 with i = 0.0 and j = 1.0
-member 4 0: fact 5, 0.0@0:S before 1.0@0:S   "po" from axiom 0 with i = 0.0 and j = 1.0
+{FACTS}member 4 0: fact 5, 0.0@0:S before 1.0@0:S   "po" from axiom 0 with i = 0.0 and j = 1.0
 inst 1 0.0: fact 6, forall microop j, ProgramOrder 0.0 j => (j, S) before 0.0@0:S
     from axiom 1 with i = 0.0
 inst 6 1.0: fact 7, ProgramOrder 0.0 1.0 => 1.0@0:S before 0.0@0:S
@@ -430,11 +411,7 @@ inst 6 1.0: fact 7, ProgramOrder 0.0 1.0 => 1.0@0:S before 0.0@0:S
 split 7: fact 8, 1.0@0:S before 0.0@0:S, since ProgramOrder 0.0 1.0 holds in this test
     from axiom 1 with i = 0.0 and j = 1.0
 member 8 0: fact 9, 1.0@0:S before 0.0@0:S   "rev" from axiom 1 with i = 0.0 and j = 1.0
-cycle 5 9: no order has one
-  0.0@0:S before 1.0@0:S   "po" from axiom 0 with i = 0.0 and j = 1.0
-  1.0@0:S before 0.0@0:S   "rev" from axiom 1 with i = 0.0 and j = 1.0
-Every branch is closed.
-"""
+{LEAF}"""
 REFUSED = "certificate refused at line 3\n"
 UNTAKEN = (
     ("a full device", "full", SB, UNWRITTEN),
@@ -469,8 +446,7 @@ class Script(Cases):
 
     def test_files(self) -> None:
         here = [f"{TOP}/pipecheck", "explain"]
-        on_page = read("docs/explain.md").partition(f"$ ./pipecheck explain {' '.join(MP)}\n")[2].partition("```")[0]
-        self.gives("a refutation without a choice", [*here, *MP], 1, on_page, env=PLAIN)
+        self.gives("a refutation without a choice", [*here, *MP], 1, shown(*MP), env=PLAIN)
         self.gives("a graph that check finds", [*here, *SB], 0, GRAPH, env=PLAIN)
         self.explains("a graph that is given", [*SB, SB_GRAPH], 0, GRAPH)
         self.explains("a lifted refutation", [*TWO, TWO_LIFTED], 1, LIFTED)

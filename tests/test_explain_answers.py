@@ -7,7 +7,7 @@ import re
 
 from tests.cases import Cases, Done, missing, pipecheck, program, run, told, without_proofs, write
 from tests.test_answers import ONE
-from tests.test_explain import PLAIN, explained, odds, refutation_of_odds
+from tests.test_explain import PLAIN, explained, odds, refutation_of_odds, shown
 
 SC, TSO, TUTORIAL = (f"examples/models/{name}.uspec" for name in ("sc-inorder", "tso-ooo", "tutorial"))
 LONG = (SC, "examples/tests/3.SB+fences.test", "examples/certificates/3.SB+fences.txt")
@@ -65,12 +65,7 @@ absent: 0.0@0:T is asked for and denied
   0.0@0:T is not there   axiom "deny" at 5:1, i = 0.0
 Every branch is closed.
 """
-SAID_OF_CORE = """core 4: these axioms alone forbid the outcome, and without any one of them the others allow it
-  axiom 0: "Path" at 26:1
-  axiom 2: "Commit is in program order" at 31:1
-  axiom 3: "The store queue drains in order" at 34:1
-  axiom 6: "Reads" at 72:1
-"""
+SAID_OF_CORE = shown(*CORE, "core.txt").partition("...\n")[0]
 NAMED_CORE = """examples/models/tutorial.uspec:26:1: axiom 0: "Path"
 examples/models/tutorial.uspec:31:1: axiom 2: "Commit is in program order"
 examples/models/tutorial.uspec:34:1: axiom 3: "The store queue drains in order"
