@@ -4,13 +4,12 @@ from __future__ import annotations
 
 import os
 import resource
-import shutil
 from itertools import product
 from typing import Sequence
 
 from tests.cases import (
-    NO_MODEL, NO_TEST, TOP, UNWRITTEN, USAGE, Cases, Done, command_forms, copy_checkout, meant, missing, pipecheck, program,
-    read, run, told, unread, within, write
+    NO_MODEL, NO_TEST, UNWRITTEN, USAGE, Cases, Done, command_forms, meant, missing, pipecheck, program, read, run, told,
+    unread, within, write
 )
 
 PO, REVERSE = "examples/po.uspec", "examples/po-and-reverse.uspec"
@@ -61,7 +60,6 @@ SIGNS = STAGES + """Axiom "s": forall microops "i",
 WALK = f"""{S}Axiom "walk": forall microops "i", forall microops "j",
   EntryOf i j /\\ MapsTagOf i j => AddEdge ((i, S), (j, S), "walk").
 """
-MANY = S + 'Axiom "a": forall microop "i", forall microop "j", ProgramOrder i j => AddEdge ((i, S), (j, S), "").\n' * 10_000
 
 
 def refused(line: int) -> str:
@@ -705,23 +703,6 @@ class Faults(Answers):
         ):
             self.shows(name, status, text, word, model, one)
             self.judged(f"{name}, verified", status, verified, model, one, text)
-
-    def test_a_checkout_with_new_times(self) -> None:
-        program()
-        copy, out = copy_checkout(f"{self.work}/copy", crates=("pipecheck_cli", "model_bench")), "crates/pipecheck_cli/out"
-        os.mkdir(f"{copy}/{out}")
-        for name in os.listdir(f"{TOP}/{out}"):
-            if name.endswith(("_cli", "_built")):
-                shutil.copy2(f"{TOP}/{out}/{name}", f"{copy}/{out}/{name}")
-        for name in ("pipecheck_cli", "model_bench"):
-            os.utime(f"{copy}/crates/{name}/src/main.rt")
-        check = [f"{copy}/pipecheck", "check", f"{TOP}/{PO}", f"{TOP}/{TWO}"]
-        self.gives("a source with a new time builds nothing", check, 0, ORDERED)
-
-    def test_memory(self) -> None:
-        """10,000 axioms take more memory than the 16 MiB that the shell and the program may have."""
-        self.gives("that memory was refused", ["./pipecheck", "check", self.file("many.uspec", MANY), TWO], 7, "",
-                   "pipecheck: memory was refused, so there is no answer\n", preexec_fn=within(resource.RLIMIT_AS, 16384 * 1024))
 
     def test_standard_output(self) -> None:
         """Where it fails, whatever the words, nothing is seen of what was written."""

@@ -9,14 +9,15 @@ from typing import Any
 
 from tests.cases import (
     NO_TOOLCHAIN, TOP, UNWRITTEN, Done, InACheckout, as_proved, command, command_forms, copy_checkout, files_below, forms_of,
-    hash_of, meant, missing, program, read, run, unread, within, write
+    hash_of, meant, missing, program, read, unread, within, write
 )
-from tests.test_answers import MANY
 
 MP = ("examples/in-order.uspec", "examples/mp.test")
 CHECK = ("check", *MP)
 VERDICT = "unobservable\ntest forbidden: ok\ncycle 0.0@0:Mem 1.0@0:Mem 2.0@1:Mem 3.0@1:Mem\nend\n"
 MEMORY = "pipecheck: memory was refused, so there is no answer\n"
+AXIOM = 'Axiom "a": forall microop "i", forall microop "j", ProgramOrder i j => AddEdge ((i, S), (j, S), "").\n'
+MANY = 'StageName 0 "S".\n' + AXIOM * 10_000
 OUT = "crates/pipecheck_cli/out"
 
 
@@ -62,17 +63,6 @@ class NotBuilt(InACopy):
         done = self.call_it("help", "agree")
         self.same("help agree", (done.status, "".join(done.out.splitlines(True)[:3]), done.err), (0, forms_of("agree"), ""))
         self.finds("... has the options too", "--between MODEL MODEL", done.out)
-
-    def test_the_commit(self) -> None:
-        done = run(["git", "rev-parse", "HEAD"])
-        if done.status != 0:
-            self.skips("--version names the commit", "this is no clone")
-            return
-        tools = f"{self.work}/tools"
-        command(f"{tools}/rt", "echo 'a kit logic 0123456789abcdef'\n")
-        said = self.call_it("--version", env={"PATH": f"{tools}:{self.plain}"}, cwd=TOP)
-        found = said.out.partition("\n")[0].removesuffix(", changed since")
-        self.same("--version names the commit", (found, said.err), (f"commit {done.out.rstrip()}", ""))
 
     def test_the_script_alone(self) -> None:
         alone = f"{self.work}/alone"

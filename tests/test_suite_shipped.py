@@ -116,12 +116,6 @@ tlb-lazy-mark.uspec dirty.test: shown yes, tlb allows no
 swept by the program
 498 agree, 0 differ
 """, *names_of("patterns/*.pattern"))
-        patterns = (f"examples/patterns/{it}.pattern" for it in ("MP", "SB", "LB"))
-        self.agree("a buggy pipeline shows rows that its machine does not", 1, """\
-tso-ooo-commit-early.uspec MP.pattern: shown though tso does not allow it: 1 0
-swept by the program
-2 agree, 1 differ
-""", "examples/buggy/tso-ooo-commit-early.uspec", *patterns)
 
     def test_table(self) -> None:
         self.gives("the table of the tests with page-table entries is the one that the machine gives",
