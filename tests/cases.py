@@ -272,6 +272,13 @@ def read(path: str) -> str:
         return text_of(file.read())
 
 
+def end(process: subprocess.Popen[bytes]) -> None:
+    """Ends a process, where it has not ended yet."""
+    if process.poll() is None:
+        process.kill()
+    process.communicate()
+
+
 class Cases(unittest.TestCase):
     """Cases that share a table or what they need. `work` is a folder for each test method, which goes at its end."""
 
@@ -287,6 +294,13 @@ class Cases(unittest.TestCase):
         """Has a module or a class this in place of its own in the cases of this class."""
         cls.addClassCleanup(setattr, owner, name, getattr(owner, name))
         setattr(owner, name, value)
+
+    def begin(self, words: Sequence[str], env: Mapping[str, str | None], **how: Any) -> subprocess.Popen[bytes]:
+        """Starts a command as a process of its own, which ends with the test. `how` are words of `subprocess.Popen`."""
+        options: dict[str, Any] = {**dict.fromkeys(("stdin", "stdout", "stderr"), subprocess.DEVNULL), **how}
+        process = subprocess.Popen(words, cwd=TOP, env=environment(env), **options)
+        self.addCleanup(end, process)
+        return process
 
     def is_wanted(self, name: str) -> bool:
         """Whether the case of this name is to run."""

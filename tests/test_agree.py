@@ -6,7 +6,6 @@ import contextlib
 import os
 import re
 import signal
-import subprocess
 import tempfile
 import time
 from functools import cache
@@ -14,8 +13,8 @@ from itertools import permutations, product
 from typing import Callable, Iterable, Iterator
 
 from tests.cases import (
-    PATIENCE, TOP, Cases, Done, apart, call, comes, command, done_by_unseen, environment, pipecheck, program, read, replaced,
-    run, tool, tool_entry, without_output, write
+    PATIENCE, TOP, Cases, Done, apart, call, comes, command, done_by_unseen, pipecheck, program, read, replaced, run, tool,
+    tool_entry, without_output, write
 )
 
 # what is imported here is there in each process that is forked from this one
@@ -146,15 +145,6 @@ tso-buffer.uspec: 2 programs
 class Ended(AgreeCases):
     """Comparisons that are ended, and standard output that fails."""
 
-    def begun(self, words: list[str], env: dict[str, str]) -> subprocess.Popen[bytes]:
-        """Starts a command as a process of its own, which ends with the cases."""
-        nothing = subprocess.DEVNULL
-        variables = environment(self.variables(env))
-        process = subprocess.Popen(words, cwd=TOP, env=variables, stdin=nothing, stdout=nothing, stderr=nothing)
-        self.addCleanup(process.wait)
-        self.addCleanup(process.kill)
-        return process
-
     def wait_until(self, is_so: Callable[[], bool]) -> None:
         """Waits until something comes true, or fails."""
         self.assertTrue(comes(is_so), "it did not come true in time")
@@ -170,7 +160,7 @@ exec "{program()}" "$@"
 """)
         calls, words = write(f"{self.work}/calls", ""), ("--all", "2+2", EARLY)
         whole = self.agree(*words, PIPECHECK=program())
-        process = self.begun([*AGREE, *words], {"PIPECHECK": waits})
+        process = self.begin([*AGREE, *words], self.variables({"PIPECHECK": waits}))
         self.wait_until(lambda: len(read(calls)) >= 40)
         time.sleep(0.5)
         process.terminate()
@@ -202,8 +192,8 @@ exec "{program()}" "$@"
         for name in ("TERM", "INT", "PIPE"):
             room, asked = tempfile.mkdtemp(dir=self.work), tempfile.mkdtemp(dir=self.work)
             waits = command(f"{self.work}/waits", f'[ -s "$3" ] || exec "{program()}" "$@"\n: >"{asked}/$$"\nexec sleep 600\n')
-            process = self.begun(["env", f"--default-signal={name}", *AGREE, "--random", "7", "100000", BUFFER],
-                                 {"PIPECHECK": waits, "TMPDIR": room})
+            process = self.begin(["env", f"--default-signal={name}", *AGREE, "--random", "7", "100000", BUFFER],
+                                 self.variables({"PIPECHECK": waits, "TMPDIR": room}))
             # each process that compares waits for the program
             self.wait_until(lambda: len(os.listdir(asked)) >= len(os.sched_getaffinity(0)))
             workers = children_of(process.pid)
