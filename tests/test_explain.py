@@ -199,12 +199,6 @@ Every branch is closed.
     Row("axioms that constants make false", """false: the constants of the axioms alone make them false for this test
 Every branch is closed.
 """, NEVER, "examples/two.test", part=BODY),
-    Row("splits that leave one side", """axiom "Stages are in order" at 46:1, i = 0.0, j = 1.0, in macro Follow:
-  split 94 at 41:4: 0.0@0:Decode before 1.0@0:Decode, since 0.0@0:Fetch before 1.0@0:Fetch
-      "program order" by axiom "Fetch is in program order" at 35:1, i = 0.0, j = 1.0
-  split 98 at 42:4: 0.0@0:Execute before 1.0@0:Execute, since 0.0@0:Decode before 1.0@0:Decode
-""", "examples/models/sc-inorder.uspec", "examples/tests/3.SB+fences.test", "examples/certificates/3.SB+fences.txt",
-        r" cannot be:\n((?:.*\n){4})"),
     Row("a refutation of version 2", """axiom "s" at 4:1, i = 0.0:
   split 1: 0.0@0:S is not there or 0.0@0:T is not there; 0.0@0:U is there, since 0.0@0:T is not
       there

@@ -51,13 +51,7 @@ Axiom "Reads": forall microops "r", IsAnyRead r =>
 # a case, a wrong model of examples or its text, a test whose outcome it shows, and lines of what is said: an order is named that
 # keeps all other outcomes
 ROWS = (
-    # reads of one address that are not replayed
-    ("two reads of one address", "weak-ooo-read-read", "tests/CoRR.test", (
-        "The model shows this outcome. weak forbids it.",
-        "Of this program 3 other outcomes are shown, 3 of them allowed by weak.",
-        "add 1.0@1:Execute before 2.0@1:Execute",
-        "      IsAnyRead i /\\ IsAnyRead j /\\ ProgramOrder i j /\\ SamePhysicalAddress i j =>",
-        '      AddEdge ((i, Execute), (j, Execute), "mend").')),
+    # reads of one address that are not replayed, beside what docs/mend.md shows of weak-ooo-read-read
     ("reads that are not replayed", REPLAY, "tests/CoRR.test",
      ("add 1.0@1:Access before 2.0@1:Access", '      AddEdge ((i, Access), (j, Access), "mend").')),
     ("... a listing", REPLAY, "x86/MP.litmus", ("add 2.0@1:Access before 3.0@1:Access",)),

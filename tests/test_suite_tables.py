@@ -53,14 +53,8 @@ MODELS, TESTS, LISTINGS = names_of("models/*.uspec"), names_of("tests/*.test"), 
 LOCKED, TRANSLATION = names_of("locked/*.test"), names_of("translation/*.test")
 
 
-def rows_of(paths: list[str], cells: str, others: dict[str, str] | None = None) -> str:
-    """Rows of a table: of these files, whose cells are these, but for those that have others."""
-    names = sorted(it.rpartition("/")[2].removesuffix(".test") for it in paths)
-    return ", ".join(f"{it} {(others or {}).get(it, cells)}" for it in names)
-
-
 class Shipped(SuiteCases):
-    """All shipped tests and listings on all shipped models."""
+    """All shipped tests and listings on all shipped models, and those with locked instructions."""
 
     def test_all(self) -> None:
         """The first suite is ended when it has some, and the next one goes on from there."""
@@ -102,29 +96,15 @@ class Shipped(SuiteCases):
                     others += [] if first == second else [f"{model} {listing}"]
         return same, others
 
+    def test_locked(self) -> None:
+        names = sorted(it.rpartition("/")[2].removesuffix(".test") for it in LOCKED)
+        text = tabled("tso-buffer", ", ".join(f"{it} ok" for it in names), "18 ok")
+        self.table("the shipped tests with locked instructions", 0, text, BUFFER, SUITE_TESTS=f"{TOP}/examples/locked")
+
 
 def numbered(text: str) -> str:
     """What is said of pairs, without how many there are."""
     return re.sub("^suite: [1-9][0-9]+ pairs", "suite: N pairs", text)
-
-
-class Kinds(SuiteCases):
-    """Shipped tests with locked instructions and with page-table entries."""
-
-    def test_locked(self) -> None:
-        text = tabled("tso-buffer", rows_of(LOCKED, "ok"), "18 ok")
-        self.table("the shipped tests with locked instructions", 0, text, BUFFER, SUITE_TESTS=f"{TOP}/examples/locked")
-
-    def test_translation(self) -> None:
-        self.lint_lines = no_lint
-        buggy = {
-            **dict.fromkeys(("remap+invalidate+walk", "shootdown", "wrong-frame"), "ok BUG ok"),
-            **dict.fromkeys(("accessed", "dirty"), "ok ok BUG"),
-        }
-        self.table("the shipped tests with page-table entries", 1,
-                   tabled("tlb tlb-late-hold tlb-lazy-mark", rows_of(TRANSLATION, "ok ok ok", buggy), "61 ok, 5 BUG"),
-                   "examples/translation/tlb.uspec", *names_of("translation/buggy/*.uspec"),
-                   SUITE_TESTS=f"{TOP}/examples/translation", SUITE_TABLE="examples/translation/memory-models.tsv")
 
 
 class Agreement(SuiteCases):
@@ -536,18 +516,6 @@ axiom      changes  first
 3 axioms on 1 tests: 2 change a verdict, 1 change none, 0 time, 0 faults, in N s
 """, "WORK/axioms.uspec", "examples/two.test")
         self.same("to take axioms out keeps nothing", os.path.exists(f"{self.work}/kept"), False)
-        self.changes("the axioms of a shipped model on message passing", """\
-axiom                                      changes  first
-0 "Path"                                   1        MP
-1 "Path of writes"                         0        untested or not needed
-2 "Commit is in program order"             1        MP
-3 "The store queue drains in order"        1        MP
-4 "A full fence commits behind the drain"  0        untested or not needed
-5 "Writes of one address have an order"    0        untested or not needed
-6 "Reads"                                  1        MP
-7 "Final values"                           0        untested or not needed
-8 axioms on 1 tests: 4 change a verdict, 4 change none, 0 time, 0 faults, in N s
-""", TUTORIAL, MP)
         one_model = "--axioms takes one model, which is named"
         self.put("axiom.uspec", "Axiom\n")
         self.copy("tests", MP)
