@@ -5,7 +5,6 @@ from __future__ import annotations
 import os
 import resource
 from itertools import product
-from typing import Sequence
 
 from tests.cases import (
     NO_MODEL, NO_TEST, UNWRITTEN, USAGE, Cases, Done, command_forms, meant, missing, pipecheck, program, read, run, told,
@@ -96,12 +95,6 @@ def stored(number: int, value: object) -> str:
     return op(number, "Write", 0, value)
 
 
-def swept(*rows: str, unseen: Sequence[str] = ()) -> str:
-    """The text of a sweep that shows each of these rows but those that are unseen."""
-    told = [f"row{it} {'un' * (it in unseen)}observable" for it in rows]
-    return lines(f"sweep {len(rows)}", *told, f"observable {len(rows) - len(unseen)}", f"unobservable {len(unseen)}", "end")
-
-
 def macros(count: int, body: str, before: str = "") -> str:
     """Macro m0 is True, each next one has this body with the name of the one before it in place of @, and an axiom expands the
     last."""
@@ -164,6 +157,8 @@ class Words(Answers):
         self.says("no words: the forms of the commands", 2, USAGE, forms + LACKING)
         self.says("--help: the forms of the commands on standard output", 0, forms, "", "--help")
         self.says("help: the forms of the commands on standard output", 0, forms, "", "help")
+        self.says("a command of the script with too few words", 2, USAGE, meant("explain"), "explain", PO)
+        self.holds("the forms have lines of at most 80 columns", max(map(len, forms.splitlines())) <= 80)
         self.says("help with a word that is no command: the forms of all", 2, USAGE,
                   f"{forms}pipecheck: there is no command chekc; those that there are stand above\n", "help", "chekc")
         self.says("words that are no command: the forms of the one that was meant", 2, USAGE, meant("check"), "check", PO)
@@ -318,16 +313,12 @@ class Lifted(Answers):
     """Lifted refutations, which speak of the axioms themselves, and what makes them of refutations of version 1."""
 
     def test_examples(self) -> None:
-        by_macros = ("examples/models/sc-inorder.uspec", "examples/corr.test", "examples/lifted/corr.txt")
-        for name, status, out, words in (
-            ("verify-lifted: a cycle of two edges", 1, UNOBSERVABLE, (REVERSE, FORBIDDEN, LIFTED_TWO)),
-            ("verify-lifted: message passing in order", 1, UNOBSERVABLE, (IN_ORDER, MP, LIFTED_MP)),
-            ("verify-lifted: coherence of reads in order, by macros", 1, UNOBSERVABLE, by_macros),
-            ("verify-lifted of a test that states something else", 6, refused(2), (REVERSE, TWO, LIFTED_TWO)),
-            ("verify-lifted of a graph", 6, refused(1), (BUFFER, SB, SB_CERTIFICATE)),
-            ("verify-lifted of a refutation of the ground tree", 6, refused(3), (IN_ORDER, MP, MP_CERTIFICATE)),
+        for name, line, words in (
+            ("a test that states something else", 2, (REVERSE, TWO, LIFTED_TWO)),
+            ("a graph", 1, (BUFFER, SB, SB_CERTIFICATE)),
+            ("a refutation of the ground tree", 3, (IN_ORDER, MP, MP_CERTIFICATE)),
         ):
-            self.shows(name, status, out, "verify-lifted", *words)
+            self.shows(f"verify-lifted of {name}", 6, refused(line), "verify-lifted", *words)
         self.says("nothing beside a verified one", 1, UNOBSERVABLE, "", "verify-lifted", REVERSE, FORBIDDEN, LIFTED_TWO)
         self.says("nothing beside a refused one", 6, refused(6), "", "verify-lifted", BUFFER, MP, LIFTED_MP)
         self.shows("verify of a lifted refutation", 6, refused(3), "verify", IN_ORDER, MP, LIFTED_MP)
@@ -499,19 +490,6 @@ class Listings(Answers):
             self.shows(name, 3, out, *words)
         said = "x86-open: the condition gives this register no value"
         self.tells("check86: where a listing has its fault", "test", open_one, "9:20", said, "check86", BUFFER, open_one)
-
-    def test_examples(self) -> None:
-        pairs = (" 0 0", " 0 1", " 1 0", " 1 1")
-        maps = (" Maps:6:1:0 Maps:5:1:0 0", " Maps:6:1:0 Maps:7:1:0 0", " Maps:8:1:0 Maps:5:1:0 0", " Maps:8:1:0 Maps:7:1:0 0")
-        tlb, walk = "examples/translation/tlb.uspec", "examples/patterns/MP+read+walk.pattern"
-        for name, out, model, pattern in (
-            ("a sweep of message passing", swept(*pairs, unseen=(" 1 0",)), IN_ORDER, MP_PATTERN),
-            ("a sweep of store buffering through store buffers", swept(*pairs), BUFFER, "examples/patterns/SB.pattern"),
-            ("a sweep of a test without an open read", swept(""), PO, TWO),
-            ("... that is not observable", swept("", unseen=("",)), REVERSE, FORBIDDEN),
-            ("a sweep with page-table entries", swept(*maps, unseen=maps[1::2]), tlb, walk),
-        ):
-            self.shows(name, 0, out, "sweep", model, pattern)
 
     def opens(self, *ops: str) -> tuple[str, str, str]:
         """The words of a sweep of a pattern of these lines on an empty model."""

@@ -18,7 +18,7 @@ import tempfile
 from functools import cache, partial
 from glob import glob
 from random import Random
-from typing import Any, Callable, Iterable
+from typing import Any, Callable, Iterable, Sequence
 
 from tests import random_texts
 from tests.cases import TOP, Cases, Done, program, read, run, write
@@ -438,15 +438,27 @@ NO_PATTERN = [
     ("too many rows, and a fault after them", "Litmus", f"{stores(90, 1)}; {of_reads(0, 14)}; Microop 20 64 0 0 (Fence).",
      "core-number at 17:12"),
 ]
-NOT_ALL = (
-    "sweep 4; row 0 0 observable; row 0 1 observable; row 1 0 unobservable; row 1 1 unobservable; "
-    "observable 2; unobservable 2; end"
-)
+PAIRS = [" 0 0", " 0 1", " 1 0", " 1 1"]
+MAPS = [" Maps:6:1:0 Maps:5:1:0 0", " Maps:6:1:0 Maps:7:1:0 0", " Maps:8:1:0 Maps:5:1:0 0", " Maps:8:1:0 Maps:7:1:0 0"]
+# a shipped model and pattern, what the open reads get in each row of a sweep, and the rows that are not observable
+SHIPPED_SWEPT: list[tuple[str, str, str, list[str], list[str]]] = [
+    ("a sweep of message passing", "in-order.uspec", "patterns/MP.pattern", PAIRS, [" 1 0"]),
+    ("a sweep of store buffering through store buffers", "store-buffer.uspec", "patterns/SB.pattern", PAIRS, []),
+    ("a sweep of a test without an open read", "po.uspec", "two.test", [""], []),
+    ("... that is not observable", "po-and-reverse.uspec", "two-forbidden.test", [""], [""]),
+    ("a sweep with page-table entries", "translation/tlb.uspec", "patterns/MP+read+walk.pattern", MAPS, MAPS[1::2]),
+]
 
 
 def text_of(lines: str) -> str:
     """The text of these lines."""
     return "".join(f"{line}\n" for line in lines.split("; ") if lines)
+
+
+def swept(rows: Sequence[str], unseen: Sequence[str] = ()) -> str:
+    """What a sweep writes of these rows, of which these are unseen."""
+    told = [f"row{it} {'un' * (it in unseen)}observable" for it in rows]
+    return "; ".join([f"sweep {len(rows)}", *told, f"observable {len(rows) - len(unseen)}", f"unobservable {len(unseen)}", "end"])
 
 
 def by_both(*words: str) -> str:
@@ -590,15 +602,15 @@ class Second(Cases):
         ], "a listing: ")
 
     def test_patterns(self) -> None:
-        rows = [
-            (name, first, lines, "; ".join([
-                f"sweep {len(rows)}", *(f"row{row} observable" for row in rows), f"observable {len(rows)}", "unobservable 0", "end",
-            ])) for name, first, lines, rows in SWEPT
-        ]
+        rows = [(*given, swept(rows)) for *given, rows in SWEPT]
         self.tells(partial(of_titled, "sweep", STAGES), rows, "a pattern: ")
         in_order = f"{opens(0)}; {stores(1, 1)}; {opens(2)}"
-        unseen = [("rows that are not observable", "Litmus", in_order, NOT_ALL)]
+        unseen = [("rows that are not observable", "Litmus", in_order, swept(PAIRS, PAIRS[2:]))]
         self.tells(partial(of_titled, "sweep", IN_ORDER), unseen, "a pattern: ")
+        for name, model, pattern, its_rows, its_unseen in SHIPPED_SWEPT:
+            with self.case(name):
+                found = said("sweep", *(read(f"examples/{it}") for it in (model, pattern)))
+                self.assertEqual(found, swept(its_rows, its_unseen))
         refused = [(*row, f"refused test {fault}") for *row, fault in NO_PATTERN]
         self.tells(partial(of_titled, "sweep", STAGES), refused, "a pattern: ")
 

@@ -115,6 +115,10 @@ class Built(InACopy):
         self.answers("a limit is never raised", many, 7, "", MEMORY, env={"PIPECHECK_MEMORY": "4000"},
                      preexec_fn=within(resource.RLIMIT_AS, 16384 * 1024))
         self.answers("no limit of memory", CHECK, 1, VERDICT, env={"PIPECHECK_MEMORY": "none"})
+        self.answers("PIPECHECK_MEMORY=64", CHECK, 1, VERDICT, env={"PIPECHECK_MEMORY": "64"})
+        for size in ("0", "1", "2"):
+            said = f"pipecheck: PIPECHECK_MEMORY is {size} MiB, and the program takes more to start\n"
+            self.answers(f"PIPECHECK_MEMORY={size}", CHECK, 125, "", said, env={"PIPECHECK_MEMORY": size})
         self.answers("a limit that is no number", CHECK, 125, "",
                      "pipecheck: PIPECHECK_MEMORY is a number of MiB, or none, and not lots\n", env={"PIPECHECK_MEMORY": "lots"})
 
