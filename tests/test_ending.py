@@ -10,6 +10,7 @@ from typing import Any, Callable, ContextManager
 from tests.cases import (
     PATIENCE, TOP, Cases, Done, call, done_by, done_by_unseen, program, replaced, script_entry, tool_entry, write
 )
+from tests.test_compare import machine
 
 from tools import ending
 from tools.build import builder
@@ -17,16 +18,7 @@ from tools.build.processes import SIGNALS
 from tools.suite.calling import Calls, side_by_side
 
 MODEL, TEST = "examples/in-order.uspec", "examples/mp.test"
-LOG = """Test SB Allowed
-Histogram (1 states)
-5     *>0:EAX=0; 1:EAX=0;
-Ok
-Witnesses
-Positive: 5, Negative: 0
-Condition exists (0:EAX=0 /\\ 1:EAX=0) is validated
-Observation SB Always 5 0
-
-"""
+LOG = machine("SB Allowed", "5 *>0:EAX=0; 1:EAX=0;\n", "Ok", "SB Always 5 0")
 # each tool that calls the program beside a folder of temporary files: its entry, and the words after its name
 TOOLS: dict[str, tuple[Callable[[], object], list[str]]] = {
     "mend": (tool_entry("mend.main"), [MODEL, TEST]),
