@@ -34,19 +34,15 @@ TOP = os.path.dirname(os.path.dirname(os.path.realpath(__file__)))
 
 # What the script says where the program without its proofs answers. Where that one is tested, cases say what stands on standard
 # error beside this line, and on standard output beside the last words of scripts that call it.
-WITHOUT_PROOFS = (
-    "pipecheck: this answer is of the program without its proofs; ./pipecheck --prove proves it here, in 12 to 35 minutes on four "
-    "processors\n"
-)
+WITHOUT_PROOFS = ("pipecheck: this answer is of the program without its proofs; ./pipecheck --prove proves it here, in 12 to 35 "
+                  "minutes on four processors\n")
 BY_THAT_PROGRAM = ", by the program without its proofs"
 USAGE = "pipecheck: bad command line\n"
 UNWRITTEN = "pipecheck: standard output could not be written: what it got is not the whole answer\n"
 NO_TEST, NO_MODEL = (f"syntax: no {it} can continue with this token" for it in ("test", "model"))
 # what it says where no program stands and none can be made
-NO_TOOLCHAIN = (
-    "pipecheck: the program is not built, and the toolchain that builds it, rt, is missing: README.md, 'Getting started', says "
-    "which one\n"
-)
+NO_TOOLCHAIN = ("pipecheck: the program is not built, and the toolchain that builds it, rt, is missing: README.md, "
+                "'Getting started', says which one\n")
 
 # How many seconds a process may take to come to where it is looked at, and how many to its end, on a machine with much else to do.
 # What is waited for longer than that comes no more.
@@ -535,10 +531,8 @@ def command(path: str, text: str) -> str:
 
 def as_proved(checkout: str, path: str) -> None:
     """Has a copy of this program stand as the proved one in a checkout."""
-    script = (
-        'top=$PWD; . script/calls; mkdir -p "$out" && cp "$1" "$out/pipecheck_cli" && '
-        'take_program "$(hash_sources)" "a kit logic 0123456789abcdef"'
-    )
+    script = ('top=$PWD; . script/calls; mkdir -p "$out" && cp "$1" "$out/pipecheck_cli" && '
+              'take_program "$(hash_sources)" "a kit logic 0123456789abcdef"')
     subprocess.run(["bash", "-c", script, "as_proved", path], cwd=checkout, check=True)
 
 

@@ -29,9 +29,7 @@ PREDICATES = {
     **dict.fromkeys(("DataFromInitialStateAtPA", "DataFromFinalStateAtPA"), [OP]), "HasDependency": [KIND, OP, OP],
     **dict.fromkeys(("MarkedAccessed", "MarkedDirty"), [OP]), **dict.fromkeys(OF_TWO.split(), [OP, OP]),
 }
-NUMBERS = (
-    "0", "1", "2", "00", "63", "64", "65", "0" * 5_000 + "7", "18446744073709551615", "18446744073709551616", "9" * 5_000
-)
+NUMBERS = ("0", "1", "2", "00", "63", "64", "65", "0" * 5_000 + "7", "18446744073709551615", "18446744073709551616", "9" * 5_000)
 PIECE = re.compile(rb'\s+|"[^"\n]*"|[A-Za-z0-9_\']+|/\\|\\/|=>|->|.', re.DOTALL)
 
 # the variables in scope, each with what it stands for

@@ -693,10 +693,8 @@ class Faults(Answers):
                 ("a full device, with no words", itself, ""),
                 ("a sweep on a full device", [*itself, "sweep", IN_ORDER, MP_PATTERN], ""),
                 ("that a full device could not be written", ["./pipecheck", *check], UNWRITTEN),
-                (
-                    "the forms of the commands, and that a full device could not be written", script,
-                    command_forms() + LACKING + UNWRITTEN,
-                ),
+                ("the forms of the commands, and that a full device could not be written", script,
+                 command_forms() + LACKING + UNWRITTEN),
                 ("a full device where the forms are asked for", [*script, "help"], UNWRITTEN),
                 ("a full device where the version is asked for", ["./pipecheck", "--version"], UNWRITTEN),
             ):

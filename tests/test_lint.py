@@ -227,10 +227,8 @@ ARROWS = [
         'Axiom "b": forall microops "r", exists microop "w", IsAnyRead r => NodesExist [(w, T); (r, T)].'),
 ]
 NO_ORDER = "no-order: the absence of this edge is asked for, which no order between its two nodes also meets"
-BETWEEN = (
-    f"{NO_ORDER}, so that a write without an order to the two may stand between them: "
-    "examples/tests/SB+fences+old.test shows the difference"
-)
+BETWEEN = (f"{NO_ORDER}, so that a write without an order to the two may stand between them: "
+           "examples/tests/SB+fences+old.test shows the difference")
 LAST = 'Axiom "last": forall microops "r", forall microops "w", IsAnyWrite w /\\ IsAnyRead r => ExpandMacro Last w r.\n'
 
 

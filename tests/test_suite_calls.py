@@ -42,10 +42,8 @@ BAD_ROW = f"{PATTERN}: tutorial-early: shown though tso does not allow it: 1 0"
 BAD_PATTERN = tabled("tutorial-early", "MP.pattern BUG", "1 BUG", BAD_ROW)
 BAD_PAIR = tabled("tutorial-early", "MP BUG, SB ok", "1 ok, 1 BUG")
 # those that end a process without a fault of its own
-SIGNALS = (
-    signal.SIGTERM, signal.SIGHUP, signal.SIGINT, signal.SIGQUIT, signal.SIGUSR1, signal.SIGUSR2, signal.SIGALRM,
-    signal.SIGVTALRM, signal.SIGPROF, signal.SIGXCPU,
-)
+SIGNALS = (signal.SIGTERM, signal.SIGHUP, signal.SIGINT, signal.SIGQUIT, signal.SIGUSR1, signal.SIGUSR2, signal.SIGALRM,
+           signal.SIGVTALRM, signal.SIGPROF, signal.SIGXCPU)
 
 
 def contents_in(folder: str) -> dict[str, dict[str, str]]:
