@@ -38,6 +38,11 @@ WITHOUT_PROOFS = ("pipecheck: this answer is of the program without its proofs; 
                   "minutes on four processors\n")
 BY_THAT_PROGRAM = ", by the program without its proofs"
 USAGE = "pipecheck: bad command line\n"
+# message passing on a pipeline in order, and its verdict
+MP = ("examples/in-order.uspec", "examples/mp.test")
+VERDICT = "unobservable\ntest forbidden: ok\ncycle 0.0@0:Mem 1.0@0:Mem 2.0@1:Mem 3.0@1:Mem\nend\n"
+# where the program stands in a checkout
+OUT = "crates/pipecheck_cli/out"
 UNWRITTEN = "pipecheck: standard output could not be written: what it got is not the whole answer\n"
 NO_TEST, NO_MODEL = (f"syntax: no {it} can continue with this token" for it in ("test", "model"))
 # what it says where no program stands and none can be made

@@ -196,7 +196,7 @@ exec "{program()}" "$@"
                                  self.variables({"PIPECHECK": waits, "TMPDIR": room}))
             # each process that compares waits for the program
             self.wait_until(lambda: len(os.listdir(asked)) >= len(os.sched_getaffinity(0)))
-            workers = children_of(process.pid)
+            workers = [*map(int, run(["pgrep", "-P", str(process.pid)]).out.split())]
             number = signal.Signals[f"SIG{name}"]
             process.send_signal(number)
             self.same(f"{name} ends agree", process.wait(PATIENCE), -number)
@@ -217,10 +217,6 @@ exec "{program()}" "$@"
     def test_full_device(self) -> None:
         with without_output("full") as how:
             self.gives("a full device is no answer", [*AGREE, BUFFER, MP], 5, env=self.variables({}), **how)
-
-
-def children_of(process: int) -> list[int]:
-    return [*map(int, run(["pgrep", "-P", str(process)]).out.split())]
 
 
 def is_group(number: int) -> bool:

@@ -15,8 +15,8 @@ from threading import Thread
 from typing import Any, Sequence
 
 from tests.cases import (
-    NO_TEST, TOP, UNWRITTEN, Cases, Done, call, command, commands_without, heed_signals, missing, pipecheck, program, read,
-    replaced, run, status_of, told, within, without_output, without_proofs, write
+    MP, NO_TEST, TOP, UNWRITTEN, VERDICT, Cases, Done, as_a_job, call, command, commands_without, missing, pipecheck, program,
+    read, replaced, run, status_of, told, within, without_output, without_proofs, write
 )
 from tests.test_answers import ABSENT, EITHER, NEVER, ONE, SIGNS, SPOILT, WALK
 
@@ -26,7 +26,6 @@ from tools.second.standard_output import status_of as status_of_main
 
 SB = ("examples/store-buffer.uspec", "examples/sb.test")
 SB_GRAPH = "examples/certificates/sb.txt"
-MP = ("examples/in-order.uspec", "examples/mp.test")
 TWO = ("examples/po-and-reverse.uspec", "examples/two-forbidden.test")
 TWO_LIFTED = "examples/lifted/two.txt"
 REFUTED = "unobservable: no run of this model shows the outcome\n"
@@ -466,7 +465,7 @@ class Script(Cases):
         missing = "pipecheck: explain is written in Python, and there is no python3 here\n"
         self.explains("without Python", MP, 125, "", missing, env=path)
         self.gives("a verdict without Python", [f"{TOP}/pipecheck", "check", *MP], 1,
-                   "unobservable\ntest forbidden: ok\ncycle 0.0@0:Mem 1.0@0:Mem 2.0@1:Mem 3.0@1:Mem\nend\n", env=path)
+                   VERDICT, env=path)
 
     def test_output(self) -> None:
         for name, kind, words, said in UNTAKEN:
@@ -565,12 +564,6 @@ pipecheck: a text in quotes is expected
         self.explains("a checker that refuses", [*MP, SPOILT], 6, REFUSED, env={"PIPECHECK": f"'{checker}'"})
 
 
-def attend_signals() -> None:
-    """Has this process in a group of its own, which ignores no signal, as one does that runs beside a shell."""
-    os.setsid()
-    heed_signals()
-
-
 QUIT = "pipecheck: the signal QUIT ended the program, so there is no answer: docs/faults.md, 'A signal'\n"
 
 
@@ -585,7 +578,7 @@ class Endings(Cases):
     def quits(self, name: str, words: Sequence[str], **env: str) -> None:
         """Of what is said those lines are the script's that begin with its name."""
         if self.is_wanted(name):
-            done = without_proofs(run([f"{TOP}/pipecheck", *words], env={**PLAIN, **env}, preexec_fn=attend_signals))
+            done = without_proofs(run([f"{TOP}/pipecheck", *words], env={**PLAIN, **env}, preexec_fn=as_a_job))
             said = "".join(re.findall("(?m)^pipecheck: .*\n", done.err))
             self.judge(name, Done(done.status, done.out, said), 131, "", QUIT)
 
@@ -616,14 +609,14 @@ class Endings(Cases):
         for name in ("HUP", "INT", "TERM"):
             with self.case(f"{name} while the folder is made leaves none"):
                 env: dict[str, str | None] = {**PLAIN, "ENDED_BY": name, "TMPDIR": folders, "PATH": path}
-                done = run([f"{TOP}/pipecheck", "core", *SB], env=env, preexec_fn=attend_signals)
+                done = run([f"{TOP}/pipecheck", "core", *SB], env=env, preexec_fn=as_a_job)
                 self.assertEqual((done.status, os.listdir(folders)), (128 + signal.Signals[f"SIG{name}"], []))
 
     def test_interrupt(self) -> None:
         """Ctrl-C at eight moments of the beginning: nothing is said"""
         for delay in (0.03, 0.04, 0.05, 0.06, 0.07, 0.08, 0.1, 0.12):
             with subprocess.Popen([f"{TOP}/pipecheck", "explain", *SB], cwd=TOP, stdin=subprocess.DEVNULL,
-                                  stdout=subprocess.DEVNULL, stderr=subprocess.PIPE, preexec_fn=attend_signals) as process:
+                                  stdout=subprocess.DEVNULL, stderr=subprocess.PIPE, preexec_fn=as_a_job) as process:
                 time.sleep(delay)
                 os.killpg(process.pid, signal.SIGINT)
                 said = process.communicate()[1].decode()

@@ -12,8 +12,8 @@ import subprocess
 from typing import Any, Callable, Iterator, Mapping, Sequence
 
 from tests.cases import (
-    NO_TEST, NO_TOOLCHAIN, TOP, Beside, Done, InACheckout, as_proved, at_once, call, command, command_forms, copy_checkout,
-    hash_of, heed_signals, holding, program, read, run, told, tool, within, write
+    MP, NO_TEST, NO_TOOLCHAIN, OUT, TOP, VERDICT, Beside, Done, InACheckout, as_proved, at_once, call, command, command_forms,
+    copy_checkout, hash_of, heed_signals, holding, program, read, run, told, tool, within, write
 )
 
 # where these stand tests.cases says
@@ -21,12 +21,9 @@ from tools.install import installer
 from tools.second.models import RESERVED
 from tools.second.predicates import PREDICATES
 
-MP = ("examples/in-order.uspec", "examples/mp.test")
-VERDICT = "unobservable\ntest forbidden: ok\ncycle 0.0@0:Mem 1.0@0:Mem 2.0@1:Mem 3.0@1:Mem\nend\n"
 NAMES = "pipecheck, pipecheck-suite, their man pages, completion for bash, zsh and fish"
 USAGE = "call it as ./install [PREFIX], or ./install --uninstall [PREFIX]; --help says more"
 NO_HOME = "install: HOME says no folder, so name one: ./install PREFIX\n"
-OUT = "crates/pipecheck_cli/out"
 SHELLS = ("bash", "zsh", "fish")
 BY_BASH = """. "$1"
 for line in "${@:2}"; do

@@ -8,17 +8,14 @@ import shutil
 from typing import Any
 
 from tests.cases import (
-    NO_TOOLCHAIN, TOP, UNWRITTEN, Done, InACheckout, as_proved, command, command_forms, copy_checkout, files_below, forms_of,
-    hash_of, meant, missing, program, read, unread, within, write
+    MP, NO_TOOLCHAIN, OUT, TOP, UNWRITTEN, VERDICT, Done, InACheckout, as_proved, command, command_forms, copy_checkout,
+    files_below, forms_of, hash_of, meant, missing, program, read, unread, within, write
 )
 
-MP = ("examples/in-order.uspec", "examples/mp.test")
 CHECK = ("check", *MP)
-VERDICT = "unobservable\ntest forbidden: ok\ncycle 0.0@0:Mem 1.0@0:Mem 2.0@1:Mem 3.0@1:Mem\nend\n"
 MEMORY = "pipecheck: memory was refused, so there is no answer\n"
 AXIOM = 'Axiom "a": forall microop "i", forall microop "j", ProgramOrder i j => AddEdge ((i, S), (j, S), "").\n'
 MANY = 'StageName 0 "S".\n' + AXIOM * 10_000
-OUT = "crates/pipecheck_cli/out"
 
 
 class InACopy(InACheckout):
