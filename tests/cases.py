@@ -369,9 +369,8 @@ def forms_of(word: str | None = None) -> str:
 
 def command_forms() -> str:
     """The forms of all commands, as `help` lists them."""
-    return (
-        f"{forms_of()}Exit status: 0 observable, 1 unobservable, 6 a refused certificate, any other no\nverdict (docs/faults.md).\n"
-    )
+    statuses = "Exit status: 0 observable, 1 unobservable, 6 a refused certificate, any other no\nverdict (docs/faults.md).\n"
+    return forms_of() + statuses
 
 
 def meant(word: str) -> str:

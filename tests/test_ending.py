@@ -41,12 +41,9 @@ class Ended(Cases):
             with self.signalled(room, moment):
                 return entry()
 
-        env = {
-            "TMPDIR": room, "PIPECHECK": program(), "SUITE_FOLDER": f"{self.work}/kept", "SUITE_KEPT": None,
-            "SUITE_SECONDS": str(PATIENCE),
-        }
+        suite = {"SUITE_FOLDER": f"{self.work}/kept", "SUITE_KEPT": None, "SUITE_SECONDS": str(PATIENCE)}
         said = [it.replace("WORK", self.work).replace("PROGRAM", program()) for it in words]
-        return call(begin, ["tool", *said], env=env)
+        return call(begin, ["tool", *said], env={"TMPDIR": room, "PIPECHECK": program(), **suite})
 
     def signalled(self, room: str, moment: str) -> ContextManager[None]:
         """Has the signal come when a function of `os` is first called of what stands in the folder for temporary files: before it

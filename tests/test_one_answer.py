@@ -569,10 +569,8 @@ class Second(Cases):
         self.tells(lambda it: str(is_forced(it)), [(name, it, str(wanted)) for name, it, wanted in FORCED], "a forced Or: ")
 
     def test_lifted(self) -> None:
-        rows = [
-            (f"{name}.txt with {'nothing' if it is None else it!r} as line {number}", name, number, it, wanted)
-            for name, number, wanted, texts in SHIPPED_LIFTED for it in texts
-        ]
+        rows = [(f"{name}.txt with {'nothing' if it is None else it!r} as line {number}", name, number, it, wanted)
+                for name, number, wanted, texts in SHIPPED_LIFTED for it in texts]
         self.tells(shipped_lifted, rows, "lifted: ")
         self.tells(lambda model, lines: of_one("verify-lifted", model, f"{HEADER}; lifted; {lines}"), LIFTED, "lifted: ")
 
@@ -627,10 +625,8 @@ class Second(Cases):
         ops = ['Litmus "lock".']
         for core, (got, put) in enumerate(((0, 1), (1, 2), (1, 100))):
             first = 4 * core
-            ops += [
-                op(first, "Read Locked", 0, 0, core), op(first, "Write Locked", 0, 1, core, 1), op(first + 1, "Read", 1, got, core),
-                op(first + 2, "Write", 1, put, core), op(first + 3, "Write", 0, 0, core),
-            ]
+            ops += [op(first, "Read Locked", 0, 0, core), op(first, "Write Locked", 0, 1, core, 1),
+                    op(first + 1, "Read", 1, got, core), op(first + 2, "Write", 1, put, core), op(first + 3, "Write", 0, 0, core)]
         files = ("examples/models/tso-buffer.uspec", write(f"{self.work}/lock.test", lines(*ops)))
         for word in ("check", "check2"):
             if self.is_wanted(name := f"{word}: a lock of three cores"):
@@ -702,10 +698,8 @@ class Lifts(Cases):
     def pairs(self) -> list[tuple[str, str]]:
         """The models with their tests."""
         folders = EACH if "EACH" in os.environ else (("models", "tests"),)
-        found = [
-            (model, test) for models, tests in folders for model in sorted(glob(f"{TOP}/examples/{models}/*.uspec"))
-            for test in sorted(glob(f"{TOP}/examples/{tests}/*.test"))
-        ]
+        found = [(model, test) for models, tests in folders for model in sorted(glob(f"{TOP}/examples/{models}/*.uspec"))
+                 for test in sorted(glob(f"{TOP}/examples/{tests}/*.test"))]
         return found if "EACH" in os.environ else [it for it in found if os.path.basename(it[1])[:-5] in FEW]
 
     def is_lifted(self, model: str, test: str) -> bool:

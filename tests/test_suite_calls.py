@@ -26,6 +26,7 @@ from tests.cases import (
     without_output, write
 )
 from tests.suite_cases import CORR, EARLY, GOOD, MP, SB, SC, TUTORIAL, SuiteCases, no_lint, of_suite, tabled
+from tests.test_answers import lines, op
 
 from tools.ending import SIGNALS as RECEIVED
 from tools.texts.memory_models import memory_model_of
@@ -163,9 +164,7 @@ class Checkers(SuiteCases):
         self.refuses("a limit of memory that the program cannot start in", said, SC, PIPECHECK_MEMORY="1")
         said = "pipecheck: PIPECHECK_MEMORY is a number of MiB, or none, and not much\n"
         self.judge("a limit of memory that is no number", self.called(SC, PIPECHECK_MEMORY="much"), 2, "", said)
-        self.put("four.test", 'Litmus "four".\n' + "".join(
-            f"Microop {k} 0 0 0 (Write (VA {k} 0) (PA {k} 0) (Data 1)).\n" for k in range(4)
-        ))
+        self.put("four.test", lines('Litmus "four".', *(op(k, "Write", k, 1) for k in range(4))))
         stages = "".join(f'StageName {k} "S{k}".\n' for k in range(32))
         nodes = "".join(f"(i, S{k});" for k in range(32))
         self.put("nodes.uspec", f'% Memory model: tso\n{stages}Axiom "n": forall microops "i", NodesExist [{nodes}].\n')
@@ -244,9 +243,7 @@ class Machines(SuiteCases):
 
     def test_late(self) -> None:
         """Eight cores with eight writes each have some 40 million states."""
-        self.put("large.test", 'Litmus "large".\n' + "".join(
-            f"Microop {k} {k // 8} 0 0 (Write (VA {k} 0) (PA {k} 0) (Data 1)).\n" for k in range(64)
-        ))
+        self.put("large.test", lines('Litmus "large".', *(op(k, "Write", k, 1, k // 8) for k in range(64))))
         liar = self.script("liar", """\
 case $1 in "") exit 2 ;; check) echo observable; echo test unstated ;; verify) echo verified observable ;; esac""")
         self.rows("a machine that is late", 0, [SC, "WORK/large.test"], "large observable",

@@ -65,9 +65,8 @@ class Shipped(SuiteCases):
             time.sleep(0.1)
         process.send_signal(signal.SIGTERM)
         _, said = process.communicate(timeout=PATIENCE)
-        self.same("a suite that is ended", (process.returncode, numbered(text_of(said))), (
-            -signal.SIGTERM, "suite: N pairs are kept, and the next suite goes on from there\n"
-        ))
+        kept = "suite: N pairs are kept, and the next suite goes on from there\n"
+        self.same("a suite that is ended", (process.returncode, numbered(text_of(said))), (-signal.SIGTERM, kept))
         self.same("a suite that is ended leaves no part", glob.glob(f"{self.work}/ended/*/*.part"), [])
         self.counts("a suite goes on from what it has: all shipped tests on all shipped models", TESTS,
                     "suite: N pairs stand from a suite that was interrupted\n", **env)
@@ -78,9 +77,8 @@ class Shipped(SuiteCases):
         """All models are right on all of these, by the last line."""
         done = of_suite(self.called(**env), self.work)
         pairs = len(tests) * len(MODELS)
-        self.same(name, (done.status, done.out.splitlines(keepends=True)[-1], numbered(done.err)), (
-            0, f"{pairs} pairs: {pairs} ok, 0 BUG, 0 stricter, 0 time, 0 faults, in N s\n", said
-        ))
+        last = f"{pairs} pairs: {pairs} ok, 0 BUG, 0 stricter, 0 time, 0 faults, in N s\n"
+        self.same(name, (done.status, done.out.splitlines(keepends=True)[-1], numbered(done.err)), (0, last, said))
 
     def verdicts_of_both_forms(self) -> tuple[int, list[str]]:
         """How many pairs of a model and a listing have the verdict of the test that says the same, and those that have another."""
@@ -89,9 +87,8 @@ class Shipped(SuiteCases):
             test = listing.replace("mfence", "fence").removesuffix(".litmus") + ".test"
             if f"examples/tests/{test}" in TESTS:
                 for model in (it.rpartition("/")[2].removesuffix(".uspec") for it in MODELS):
-                    first, second = (
-                        read(f"{self.work}/ended/{model}/{it}.certificate").partition("\n")[0] for it in (test, listing)
-                    )
+                    paths = (f"{self.work}/ended/{model}/{it}.certificate" for it in (test, listing))
+                    first, second = (read(it).partition("\n")[0] for it in paths)
                     same += first == second
                     others += [] if first == second else [f"{model} {listing}"]
         return same, others
