@@ -164,7 +164,7 @@ class Words(Answers):
         self.says("words that are no command: the forms of the one that was meant", 2, USAGE, meant("check"), "check", PO)
 
     def test_files_that_cannot_be_read(self) -> None:
-        none, folder, both = f"{self.work}/none", self.work, (REVERSE, FORBIDDEN)
+        none, folder, both, blank = f"{self.work}/none", self.work, (REVERSE, FORBIDDEN), "pipecheck: two\\ words is not there\n"
         for name, words in (
             ("a missing model", ("check", none, TWO)),
             ("a missing test", ("check", PO, none)),
@@ -187,7 +187,7 @@ class Words(Answers):
         os.symlink(none, link)
         for name, said, words in (
             ("which file is missing", missing(none), ("check", PO, none)),
-            ("that both files are missing", missing(none) + "pipecheck: two\\ words is not there\n", ("check", none, "two words")),
+            ("that both files are missing", missing(none) + blank, ("check", none, "two words")),
             ("that the certificate is missing", missing(none), ("verify", PO, TWO, none)),
             ("which file is a directory", f"{UNREAD}pipecheck: {folder} is a directory\n", ("check", folder, TWO)),
             ("which file is a link to none", f"{UNREAD}pipecheck: {link} is a link to what is not there\n", ("check", link, TWO)),

@@ -198,12 +198,12 @@ LIFTED = [
 DENIED_NODES = STAGES + """Axiom "c": forall cores "c", exists microop "i", NodeExists (i, (c, S)).
 Axiom "d": ~(exists microop "i", NodesExist [(i, S)]) /\\ True.
 """
-# of other tests: what is judged, the model, the test, the lines below the first one, the answer
+# of other tests: what is judged, the model, the test, the lines, the answer
 LIFTED_OF_OTHERS = [
     ("nodes that are asked for and denied", DENIED_NODES, read("examples/two.test"),
-     "test permitted: stricter; lifted; inst 0 0; left 1; not 3; split 2; member 5 0; inst 4 0.0; split 7; absent 8 6; false 8; "
-     "split 5; member 6 0; inst 4 1.0; split 8; absent 9 7; false 9; false 6; end", VERIFIED),
-    ("an exists over nothing", EXISTS, 'Litmus "e".\n', "test unstated; lifted; false 0; end", VERIFIED),
+     "unobservable; test permitted: stricter; lifted; inst 0 0; left 1; not 3; split 2; member 5 0; inst 4 0.0; split 7; "
+     "absent 8 6; false 8; split 5; member 6 0; inst 4 1.0; split 8; absent 9 7; false 9; false 6; end", VERIFIED),
+    ("an exists over nothing", EXISTS, 'Litmus "e".\n', f"{HEADER}; lifted; false 0; end", VERIFIED),
 ]
 
 ITSELF = 'Axiom "self": forall microops "i", AddEdge ((i, S), (i, S)).\n'
@@ -584,8 +584,8 @@ class Second(Cases):
                 for name, number, wanted, texts in SHIPPED_LIFTED for it in texts]
         self.tells(shipped_lifted, rows, "lifted: ")
         self.tells(lambda model, lines: of_one("verify-lifted", model, f"{HEADER}; lifted; {lines}"), LIFTED, "lifted: ")
-        self.tells(lambda model, test, lines: said("verify-lifted", model, test, text_of(f"unobservable; {lines}")), LIFTED_OF_OTHERS,
-                   "lifted: ")
+        others = [(name, *given, text_of(lines), wanted) for name, *given, lines, wanted in LIFTED_OF_OTHERS]
+        self.tells(partial(said, "verify-lifted"), others, "lifted: ")
 
     def test_questions(self) -> None:
         self.tells(lambda model, query: said("ask", model, ONE, query).partition("; ")[0], QUERIES, "ask: ")

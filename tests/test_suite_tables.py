@@ -1,5 +1,5 @@
-"""The tables of examples/suite: what it, and the machines beside it, say of all that is shipped; and what it says of tests of one's
-own, of listings, patterns and queries, and beside other tables."""
+"""The tables of examples/suite: what it, and the machines beside it, say of all that is shipped; and what it says of tests of
+one's own, of listings, patterns and queries, and beside other tables."""
 from __future__ import annotations
 
 import glob
