@@ -29,7 +29,8 @@ from itertools import product
 from pathlib import Path
 
 from counting import (
-    MIB, TOP, Misused, at_once, call, counted, heap_peak, instructions, names_of, peak_bytes, saved, shipped, show, show_all
+    MIB, TOP, Misused, at_once, call, chosen, counted, heap_peak, instructions, names_of, peak_bytes, saved, shipped, show,
+    show_all
 )
 from questions import ONE_WRITE, RING, access, choices, fences_apart, ring, test_of
 
@@ -40,17 +41,9 @@ def of_examples(*names: str) -> list[str]:
     return [f"{TOP}/examples/{name}" for name in names]
 
 
-def chosen(names: Words, there: list[str]) -> list[str]:
-    """These names, each of which has to be there, or all."""
-    for name in names:
-        if name not in there:
-            raise Misused(f"commands: there is no model {name}; there are {', '.join(there)}")
-    return list(names) or there
-
-
 def ask(*models: str) -> bool:
     rows = [line.split("\t") for line in Path(*of_examples("queries/answers.tsv")).read_text("ascii").splitlines()[1:]]
-    ratios, known = [], chosen(models, sorted({row[1] for row in rows}))
+    ratios, known = [], chosen("model", models, sorted({row[1] for row in rows}))
     for query, model, test, word in rows:
         if model in known:
             paths = shipped("models", model) + shipped("tests", test)
@@ -64,7 +57,7 @@ def ask(*models: str) -> bool:
 
 def core(*models: str) -> bool:
     ratios = []
-    for model, test in product(chosen(models, names_of("models")), ("MP", "SB", "IRIW")):
+    for model, test in product(chosen("model", models, names_of("models")), ("MP", "SB", "IRIW")):
         paths = shipped("models", model) + shipped("tests", test)
         found, single = counted("core", *paths), instructions("check", *paths)
         axioms = len(re.findall(r"^Axiom ", Path(paths[0]).read_text("ascii"), re.M))

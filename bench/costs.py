@@ -41,19 +41,19 @@ from dataclasses import dataclass, field
 from pathlib import Path
 from typing import NamedTuple
 
-from counting import TOP, Misused
+from counting import TOP, Misused, chosen
 
 PROGRAM = "pipecheck_cli"
 # what a crate is proved of, and what is tried on it
 PROVED, TRIED = ("src", "specs", "proofs"), "must-fail"
 SLOWEST = 10
 LANES = (2, 4, 8)
+# a crate, what is done with it, and which of several
+Task = tuple[str, str, int]
 USAGE = "bench/costs.py [--between OLD NEW [--gate]] [--into FOLDER] [--minutes N] [NAME ..]"
 # What the prover calls the parts of a function.
-PART = re.compile(
-    r"\.(Statement|Met|Proof|Kinds|TheLink|TheLinks|Code|Mir|Key|Reads|Layout|Named|Tie|Goals|Given|Answers"
-    r"|Invariants|Paired|Carried|Laws|Lts|View|Symbol|The[A-Z]\w*)(-[\w-]+)?$"
-)
+PART = re.compile(r"\.(Statement|Met|Proof|Kinds|TheLink|TheLinks|Code|Mir|Key|Reads|Layout|Named|Tie|Goals|Given|Answers"
+                  r"|Invariants|Paired|Carried|Laws|Lts|View|Symbol|The[A-Z]\w*)(-[\w-]+)?$")
 
 
 class NotMeasured(Exception):
@@ -92,10 +92,8 @@ class Processes:
         with self.alone:
             if self.are_ended:
                 raise Ended
-            child = subprocess.Popen(
-                words, cwd=folder, stdin=subprocess.DEVNULL, stdout=subprocess.DEVNULL, stderr=subprocess.DEVNULL,
-                start_new_session=True,
-            )
+            child = subprocess.Popen(words, cwd=folder, stdin=subprocess.DEVNULL, stdout=subprocess.DEVNULL,
+                                     stderr=subprocess.DEVNULL, start_new_session=True)
             self.running.add(child.pid)
         _, status, usage = os.wait4(child.pid, 0)
         with self.alone:
@@ -351,25 +349,20 @@ def measure_all(trees: list[Tree], names: list[str], lanes: int, until: float, i
 def simulate(tree: Tree, lanes: int) -> float:
     """The minutes that `rt ci` takes on so many processors, by these rows: each check on one of them, the longest chain first, and edits
     where no proof waits. What runs at the end, programs and tests, is left out."""
-    tasks: dict[tuple[str, str, int], tuple[float, list[tuple[str, str, int]]]] = {}
+    tasks: dict[Task, tuple[float, list[Task]]] = {}
     for name, cost in tree.costs.items():
         proofs = [(it, "proof", 0) for it in tree.closure(name) if it in tree.costs]
-        own = [(name, "proof", 0), (name, "tests", 0)]
-        tasks[name, "proof", 0] = cost.proof, proofs
-        tasks[name, "tests", 0] = cost.tests, proofs
-        if cost.again:
-            tasks[name, "again", 0] = cost.again, proofs
-            own.append((name, "again", 0))
-        for at in range(cost.number):
-            tasks[name, "edit", at] = cost.edits / cost.number, own
+        own = [(name, it, 0) for it in ("proof", "tests", *["again"] * bool(cost.again))]
+        tasks |= {it: (seconds, proofs) for it, seconds in zip(own, (cost.proof, cost.tests, cost.again))}
+        tasks |= {(name, "edit", at): (cost.edits / cost.number, own) for at in range(cost.number)}
     behind = {it: 0.0 for it in tasks}
     for key in reversed(list(tasks)):
         behind[key] += tasks[key][0]
         for it in tasks[key][1]:
             behind[it] = max(behind[it], behind[key])
     left = sorted(tasks, key=lambda it: (it[1] in ("again", "edit"), -behind[it]))
-    done: set[tuple[str, str, int]] = set()
-    ends: list[tuple[float, tuple[str, str, int]]] = []
+    done: set[Task] = set()
+    ends: list[tuple[float, Task]] = []
     now = 0.0
     while left or ends:
         for key in [it for it in left if all(below in done for below in tasks[it][1])][: lanes - len(ends)]:
@@ -386,10 +379,8 @@ def total(costs: list[Cost]) -> Cost:
 
 
 def commit_of(name: str) -> str:
-    found = subprocess.run(
-        ["git", "-C", TOP, "rev-parse", "--verify", "--quiet", f"{name}^{{commit}}"],
-        capture_output=True, text=True, check=False,
-    )
+    found = subprocess.run(["git", "-C", TOP, "rev-parse", "--verify", "--quiet", f"{name}^{{commit}}"], capture_output=True,
+                           text=True, check=False)
     if found.returncode:
         raise Misused(f"no such commit: {name}")
     return found.stdout.strip()
@@ -451,10 +442,7 @@ def answer(asked: argparse.Namespace, kept: str) -> int:
     else:
         trees = shown = [Tree(TOP, kept, kit())]
         titles = ["the gate"]
-    there = list(dict.fromkeys(it for tree in trees for it in tree.below))
-    unknown = [it for it in asked.names if it not in there]
-    if unknown:
-        raise Misused(f"no such crate: {unknown[0]}")
+    chosen("crate", asked.names, [it for tree in trees for it in tree.below])
     names = asked.names or list(dict.fromkeys(it for tree in trees for it in (tree.below if is_gate else of_program(tree))))
     faults = measure_all(trees, names, 2 if asked.between else 1, time.monotonic() + 60 * asked.minutes, is_gate)
     show(shown, titles, names, is_gate)

@@ -103,6 +103,15 @@ class Misused(Exception):
     """Words that mean nothing to a script: what is wrong."""
 
 
+def chosen(what: str, names: Iterable[str], there: Iterable[str]) -> list[str]:
+    """These names, each of which has to be there, or all."""
+    found, known = list(names), list(there)
+    for name in found:
+        if name not in known:
+            raise Misused(f"there is no {what} {name}; there are {', '.join(known)}")
+    return found or known
+
+
 def call(main: Callable[[list[str]], int]) -> None:
     """Ends a script with the status that its words have, or with 2 where they mean nothing. All files that it makes meanwhile go."""
     with tempfile.TemporaryDirectory() as tempfile.tempdir:
@@ -153,9 +162,8 @@ def turns_in(profile: str) -> int:
 
 def under_callgrind(profile: str, *command: str) -> tuple[int, str]:
     """How many instructions a command takes, and what it writes."""
-    done = subprocess.run(
-        ["valgrind", "--tool=callgrind", f"--callgrind-out-file={profile}", *command], capture_output=True, check=False
-    )
+    done = subprocess.run(["valgrind", "--tool=callgrind", f"--callgrind-out-file={profile}", *command], capture_output=True,
+                          check=False)
     found = re.search(rb"Collected : (\d+)", done.stderr)
     if not found:
         raise SystemExit(f"not counted: valgrind ended with status {done.returncode}")

@@ -11,13 +11,13 @@ left out on `tso-lines`: their refutations have 2^n steps for n cores in any ord
 there, so a last line leaves out all of these. The bars are 1.5 % and 0.3 % of the questions of each version. The exit status is 1
 where verdicts differ or a call fails, 2 where the words are others, and else 0. All takes ten minutes on four processors.
 """
+import math
 import os
 import signal
-import subprocess
 from dataclasses import dataclass
 from itertools import product
 
-from counting import Misused, at_once, call, names_of, program, saved, shipped
+from counting import Misused, at_once, call, chosen, names_of, program, saved, shipped, timed
 from makers import FAMILIES, drawn, is_fenced_ring
 
 COMMANDS = ("check", "check2")
@@ -49,30 +49,18 @@ class Asked:
         return f"{self.family} {self.seed} on {self.model}"
 
     @property
-    def is_long_anyway(self) -> bool:
-        """Whether a refutation of it would be long in any order."""
-        return self.model == LONG_MODEL and self.family in LONG_FAMILIES
-
-    @property
     def verdict(self) -> str | None:
         """None where it took too long, or the call failed."""
         return ANSWERS.get(self.status)
 
-    @property
-    def has_failed(self) -> bool:
-        """Whether the call ended in time without an answer."""
-        return self.verdict is None and self.seconds < LIMIT
-
 
 def asked_of(family: str, seed: int, model: str, command: str, test: str) -> Asked:
     """What a call takes, which ends soon after the limit."""
-    words = ["prlimit", f"--cpu={LIMIT + 1}", program(), command, *shipped("models", model), test]
-    with subprocess.Popen(words, stdin=subprocess.DEVNULL, stdout=subprocess.DEVNULL, stderr=subprocess.DEVNULL) as child:
-        _, status, used = os.wait4(child.pid, 0)
-        child.returncode = os.waitstatus_to_exitcode(status)
+    limited = ["prlimit", f"--cpu={LIMIT + 1}", program(), command]
+    took = timed(math.inf, os.devnull, *limited, *shipped("models", model), test)
     # what ends a call past its limit counts in another way than what says how long it took
-    least = LIMIT + 1 if child.returncode == -signal.SIGKILL else 0
-    return Asked(family, seed, model, command, max(least, used.ru_utime + used.ru_stime), child.returncode)
+    least = LIMIT + 1 if took.status == -signal.SIGKILL else 0
+    return Asked(family, seed, model, command, max(least, took.seconds), took.status)
 
 
 def ask_all(seeds: range, models: list[str]) -> list[Asked]:
@@ -102,7 +90,7 @@ def tell_all(found: list[Asked]) -> bool:
         of_command = [it for it in found if it.command == command]
         for family in FAMILIES:
             tell(f"{command:6} {family}", [it for it in of_command if it.family == family])
-        others = [it for it in of_command if not it.is_long_anyway]
+        others = [it for it in of_command if it.model != LONG_MODEL or it.family not in LONG_FAMILIES]
         tell(f"{command:6} all", of_command, is_barred=True)
         tell(f"{command:6} all but rings and chains on {LONG_MODEL}", others, is_barred=True)
     for it in sorted(found, key=lambda it: -it.seconds)[:SLOWEST]:
@@ -112,7 +100,9 @@ def tell_all(found: list[Asked]) -> bool:
         if it.verdict is not None:
             verdicts.setdefault(it.name, set()).add(it.verdict)
     faults = [f"VERDICTS DIFFER: {name}" for name, said in verdicts.items() if len(said) > 1]
-    faults += [f"{it.command} {it.name} ended with status {it.status}" for it in found if it.has_failed]
+    # in time, and without an answer
+    failed = [it for it in found if it.verdict is None and it.seconds < LIMIT]
+    faults += [f"{it.command} {it.name} ended with status {it.status}" for it in failed]
     for fault in faults:
         print(fault)
     return not faults
@@ -122,12 +112,11 @@ def main(words: list[str]) -> int:
     if len(words) == 2 and words[0] in FAMILIES and words[1].isdecimal():
         print(drawn(words[0], int(words[1])), end="")
         return 0
-    shipped_models = names_of("models")
-    models = words[2:] or shipped_models
+    models = chosen("model", words[2:], names_of("models"))
     are_seeds = len(words) != 1 and all(word.isdecimal() for word in words[:2])
     seeds = range(int(words[0]), int(words[1]) + 1) if words and are_seeds else SEEDS
-    if not are_seeds or not seeds or not set(models) <= set(shipped_models):
-        raise Misused(f"{__doc__}\nThe families are {', '.join(FAMILIES)}; the models {', '.join(shipped_models)}.")
+    if not are_seeds or not seeds:
+        raise Misused(f"{__doc__}\nThe families are {', '.join(FAMILIES)}.")
     return 0 if tell_all(ask_all(seeds, models)) else 1
 
 

@@ -12,7 +12,7 @@ import math
 import os
 import subprocess
 
-from counting import Misused, call, counted, instructions, peak_bytes, program, saved, show, timed
+from counting import call, chosen, counted, instructions, peak_bytes, program, saved, show, timed
 from questions import ONE_WRITE, SEARCHED, STAGES, fences, ring, writes
 
 EDGE = "AddEdge ((a, S), (b, S))"
@@ -90,12 +90,10 @@ def show_clock() -> None:
 
 
 def main(names: list[str]) -> int:
-    unknown = [name for name in names if name not in QUESTIONS]
-    if unknown:
-        raise Misused(f"growth: there is no question {unknown[0]}; there are {', '.join(QUESTIONS)}")
+    questions = chosen("question", names, QUESTIONS)
     if not names:
         show_growth()
-    for name in names or QUESTIONS:
+    for name in questions:
         show_finding(name)
     if not names:
         show_clock()

@@ -93,9 +93,7 @@ def drawn_readers(chance: random.Random) -> str:
     count = len(fences)
     seen = chance.choice((count, chance.randrange(count)))
     writers = [[access("Write", k, 1)] for k in range(count)]
-    readers = [
-        [access("Read", k, 1), *fence, access("Read", (k + 1) % count, int(k == seen))] for k, fence in enumerate(fences)
-    ]
+    readers = [[access("Read", k, 1), *fence, access("Read", (k + 1) % count, int(k == seen))] for k, fence in enumerate(fences)]
     return of_cores(writers + readers)
 
 

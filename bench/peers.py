@@ -17,7 +17,7 @@ from itertools import product
 from pathlib import Path
 
 import solvers
-from counting import Misused, call, names_of, program, saved, shipped, timed
+from counting import Misused, call, chosen, names_of, program, saved, shipped, timed
 from questions import RING, ring
 
 CALLS, SLOWEST = 5, 10
@@ -56,16 +56,13 @@ def some(rings: list[int]) -> int:
 
 def all_shipped(words: list[str]) -> int:
     """The shipped pairs that the words name. The exit status."""
-    models, tests = names_of("models"), names_of("tests")
     of_test = words[1:2] if words[:1] == ["--test"] else []
-    of_model = words[2:] if of_test else words
-    unknown = [name for name in of_model if name not in models] + [name for name in of_test if name not in tests]
-    if unknown:
-        raise Misused(f"peers: there is no {unknown[0]} in examples/models or examples/tests")
+    models = chosen("model", words[2:] if of_test else words, names_of("models"))
+    tests = chosen("test", of_test, names_of("tests"))
     if not shutil.which("z3"):
         raise Misused("peers: there is no z3 here, which the program is timed beside")
     pairs, differ = [], 0
-    for model, test in product(of_model or models, of_test or tests):
+    for model, test in product(models, tests):
         ours, _, theirs, same = beside(shipped("models", model) + shipped("tests", test), 1, "z3")
         pairs.append((ours, theirs["z3"], f"{model} {test}"))
         if not same:

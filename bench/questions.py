@@ -113,7 +113,5 @@ def choices(axioms: int, seed: int, stages: int = CHOICES_STAGES) -> str:
     seed, and is asked of ONE_WRITE."""
     chance = random.Random(seed)
     lines = [f'StageName {k} "N{k}".\n' for k in range(stages)]
-    lines += [
-        f'Axiom "c{k}": forall microops "i", {choice(chance, stages)} \\/ {choice(chance, stages)}.\n' for k in range(axioms)
-    ]
-    return "".join(lines)
+    pairs = (f"{choice(chance, stages)} \\/ {choice(chance, stages)}" for _ in range(axioms))
+    return "".join([*lines, *(f'Axiom "c{k}": forall microops "i", {pair}.\n' for k, pair in enumerate(pairs))])

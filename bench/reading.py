@@ -30,7 +30,7 @@ from collections.abc import Callable, Iterable
 from functools import cache
 from pathlib import Path
 
-from counting import MIB, TOP, Misused, Timed, call, instructions, program, saved, shipped, show, timed
+from counting import MIB, TOP, Misused, Timed, call, chosen, instructions, program, saved, shipped, show, timed
 from questions import ONE_WRITE, access, test_of
 
 CALLS = 7
@@ -376,10 +376,10 @@ PARTS: dict[str, Callable[..., None]] = {
 
 
 def main(words: list[str]) -> int:
-    if words and (words[0] not in PARTS or words[1:] and words[0] not in ("names", "memory")):
-        raise Misused(f"reading: there is no part {' '.join(words)}; there are {', '.join(PARTS)}")
+    if words[1:] and words[0] not in ("names", "memory"):
+        raise Misused(f"reading: there is no part {' '.join(words)}")
     status = 0
-    for name in words[:1] or PARTS:
+    for name in chosen("part", words[:1], PARTS):
         try:
             PARTS[name](*words[1:])
         except SystemExit as reason:

@@ -21,7 +21,7 @@ import os
 from pathlib import Path
 
 import solvers
-from counting import MIB, at_once, call, counted, program, saved, shipped, timed
+from counting import MIB, at_once, call, chosen, counted, program, saved, shipped, timed
 from makers import lock, run
 from questions import FIRST_MODELS, RING, ring
 
@@ -141,11 +141,7 @@ def main(words: list[str]) -> int:
     limit = COUNTING_LIMIT
     if words[:1] == ["--counting"] and words[1:2] and words[1].isdecimal():
         limit, words = float(words[1]), words[2:]
-    unknown = [word for word in words if word not in QUESTIONS]
-    if unknown:
-        print(f"there is no question {unknown[0]}; there are {', '.join(QUESTIONS)}")
-        return 2
-    return 0 if all([ask(name, limit) for name in words or QUESTIONS]) else 1
+    return 0 if all([ask(name, limit) for name in chosen("question", words, QUESTIONS)]) else 1
 
 
 if __name__ == "__main__":

@@ -29,21 +29,26 @@ from hashlib import sha256
 from typing import Any, Callable, Iterator, Mapping, Sequence
 
 from tools.__main__ import TOOLS, called
+from tools.ending import Signals
 
 TOP = os.path.dirname(os.path.dirname(os.path.realpath(__file__)))
 
 # What the script says where the program without its proofs answers. Where that one is tested, cases say what stands on standard
 # error beside this line, and on standard output beside the last words of scripts that call it.
-WITHOUT_PROOFS = (
-    "pipecheck: this answer is of the program without its proofs; ./pipecheck --prove proves it here, in 12 to 35 minutes on four "
-    "processors\n"
-)
+WITHOUT_PROOFS = ("pipecheck: this answer is of the program without its proofs; ./pipecheck --prove proves it here, in 12 to 35 "
+                  "minutes on four processors\n")
 BY_THAT_PROGRAM = ", by the program without its proofs"
+USAGE = "pipecheck: bad command line\n"
+# message passing on a pipeline in order, and its verdict
+MP = ("examples/in-order.uspec", "examples/mp.test")
+VERDICT = "unobservable\ntest forbidden: ok\ncycle 0.0@0:Mem 1.0@0:Mem 2.0@1:Mem 3.0@1:Mem\nend\n"
+# where the program stands in a checkout
+OUT = "crates/pipecheck_cli/out"
+UNWRITTEN = "pipecheck: standard output could not be written: what it got is not the whole answer\n"
+NO_TEST, NO_MODEL = (f"syntax: no {it} can continue with this token" for it in ("test", "model"))
 # what it says where no program stands and none can be made
-NO_TOOLCHAIN = (
-    "pipecheck: the program is not built, and the toolchain that builds it, rt, is missing: README.md, 'Getting started', says "
-    "which one\n"
-)
+NO_TOOLCHAIN = ("pipecheck: the program is not built, and the toolchain that builds it, rt, is missing: README.md, "
+                "'Getting started', says which one\n")
 
 # How many seconds a process may take to come to where it is looked at, and how many to its end, on a machine with much else to do.
 # What is waited for longer than that comes no more.
@@ -228,13 +233,26 @@ def comes(is_so: Callable[[], bool]) -> bool:
     return True
 
 
-def signal_unseen() -> None:
-    """Has a thread get TERM in a second, when the main thread waits: so Python does not see it at once."""
+def done_by(signals: Signals, work: Callable[[], int]) -> Done:
+    """What a tool wrote that does this work, and how it ended."""
+    return call(lambda: signals.status_or_end(work), [])
+
+
+def done_by_unseen(signals: Signals, work: Callable[[], object]) -> Done:
+    """The same, where a thread gets TERM in a second, when the main thread waits: so Python does not see it at once."""
     def get() -> None:
         time.sleep(1)
         signal.pthread_kill(threading.get_ident(), signal.SIGTERM)
 
-    threading.Thread(target=get, daemon=True).start()
+    def entry() -> int:
+        # where it is not seen, the clock ends this process
+        signal.alarm(PATIENCE)
+        signals.receive()
+        threading.Thread(target=get, daemon=True).start()
+        work()
+        return 0
+
+    return done_by(signals, entry)
 
 
 def write(path: str, text: str | bytes) -> str:
@@ -257,6 +275,13 @@ def read(path: str) -> str:
         return text_of(file.read())
 
 
+def end(process: subprocess.Popen[bytes]) -> None:
+    """Ends a process, where it has not ended yet."""
+    if process.poll() is None:
+        process.kill()
+    process.communicate()
+
+
 class Cases(unittest.TestCase):
     """Cases that share a table or what they need. `work` is a folder for each test method, which goes at its end."""
 
@@ -273,6 +298,13 @@ class Cases(unittest.TestCase):
         cls.addClassCleanup(setattr, owner, name, getattr(owner, name))
         setattr(owner, name, value)
 
+    def begin(self, words: Sequence[str], env: Mapping[str, str | None], **how: Any) -> subprocess.Popen[bytes]:
+        """Starts a command as a process of its own, which ends with the test. `how` are words of `subprocess.Popen`."""
+        options: dict[str, Any] = {**dict.fromkeys(("stdin", "stdout", "stderr"), subprocess.DEVNULL), **how}
+        process = subprocess.Popen(words, cwd=TOP, env=environment(env), **options)
+        self.addCleanup(end, process)
+        return process
+
     def is_wanted(self, name: str) -> bool:
         """Whether the case of this name is to run."""
         return wanted is None or wanted in name
@@ -283,16 +315,16 @@ class Cases(unittest.TestCase):
         with self.subTest(case=name):
             yield
 
-    def judge(self, name: str, done: Done, status: int = 0, out: str = "", err: str = "") -> None:
-        """Judges what a call wrote, beside what is said of the program without its proofs."""
-        done = without_proofs(done)
-        with self.case(name):
-            self.assertEqual((done.status, done.out, done.err), (status, out, err))
+    def judge(self, name: str, done: Done | Callable[[], Done], status: int = 0, out: str = "", err: str = "") -> None:
+        """Judges what a call wrote, or a call that is made where this case is to run, beside what is said of the program without
+        its proofs."""
+        if self.is_wanted(name):
+            with self.case(name):
+                self.assertEqual(without_proofs(done if isinstance(done, Done) else done()), Done(status, out, err))
 
     def gives(self, name: str, words: Sequence[str | bytes], status: int = 0, out: str = "", err: str = "", **how: Any) -> None:
         """A command ends with this status and writes these two texts; `how` are words of `run`."""
-        if self.is_wanted(name):
-            self.judge(name, run(words, **how), status, out, err)
+        self.judge(name, lambda: run(words, **how), status, out, err)
 
     def shows(self, name: str, status: int, out: str, *words: str) -> None:
         """The program itself writes this to standard output, and nothing to standard error."""
@@ -339,9 +371,27 @@ def forms_of(word: str | None = None) -> str:
 
 def command_forms() -> str:
     """The forms of all commands, as `help` lists them."""
-    return (
-        f"{forms_of()}Exit status: 0 observable, 1 unobservable, 6 a refused certificate, any other no\nverdict (docs/faults.md).\n"
-    )
+    statuses = "Exit status: 0 observable, 1 unobservable, 6 a refused certificate, any other no\nverdict (docs/faults.md).\n"
+    return forms_of() + statuses
+
+
+def meant(word: str) -> str:
+    """What is said of words that are no command, of which the first one is a command's."""
+    return f"{forms_of(word)}pipecheck: these words are no command; how {word} is called stands above\n"
+
+
+def missing(path: str) -> str:
+    """What is said of a file that is missing."""
+    return f"pipecheck: a file could not be read\npipecheck: {path} is not there\n"
+
+
+def told(path: str, place: str, said: str, due: str = "", folder: str = TOP) -> str:
+    """How a refusal of a file is told: the place, the fault's word with its sentence, the line there with blanks for tabs, a mark
+    below its column, and what is expected there."""
+    line, column = map(int, place.split(":"))
+    row = read(os.path.join(folder, path)).splitlines()[line - 1].replace("\t", " ")
+    expected = f"pipecheck: {due} is expected\n" if due else ""
+    return f"{path}:{place}: {said}\n    {row}\n{' ' * (3 + column)}^\n{expected}"
 
 
 def copy_checkout(folder: str, copied: Sequence[str] = (), crates: Sequence[str] = ()) -> str:
@@ -487,10 +537,8 @@ def command(path: str, text: str) -> str:
 
 def as_proved(checkout: str, path: str) -> None:
     """Has a copy of this program stand as the proved one in a checkout."""
-    script = (
-        'top=$PWD; . script/calls; mkdir -p "$out" && cp "$1" "$out/pipecheck_cli" && '
-        'take_program "$(hash_sources)" "a kit logic 0123456789abcdef"'
-    )
+    script = ('top=$PWD; . script/calls; mkdir -p "$out" && cp "$1" "$out/pipecheck_cli" && '
+              'take_program "$(hash_sources)" "a kit logic 0123456789abcdef"')
     subprocess.run(["bash", "-c", script, "as_proved", path], cwd=checkout, check=True)
 
 

@@ -29,9 +29,7 @@ PREDICATES = {
     **dict.fromkeys(("DataFromInitialStateAtPA", "DataFromFinalStateAtPA"), [OP]), "HasDependency": [KIND, OP, OP],
     **dict.fromkeys(("MarkedAccessed", "MarkedDirty"), [OP]), **dict.fromkeys(OF_TWO.split(), [OP, OP]),
 }
-NUMBERS = (
-    "0", "1", "2", "00", "63", "64", "65", "0" * 5_000 + "7", "18446744073709551615", "18446744073709551616", "9" * 5_000
-)
+NUMBERS = ("0", "1", "2", "00", "63", "64", "65", "0" * 5_000 + "7", "18446744073709551615", "18446744073709551616", "9" * 5_000)
 PIECE = re.compile(rb'\s+|"[^"\n]*"|[A-Za-z0-9_\']+|/\\|\\/|=>|->|.', re.DOTALL)
 
 # the variables in scope, each with what it stands for
@@ -250,46 +248,55 @@ def changed_pieces(random: Random, pieces: list[bytes]) -> list[bytes]:
     return pieces
 
 
-def move(lines: list[bytes], at: int, other: int, kind: str) -> None:
-    """A line goes, comes twice or takes another one's place, where that is the kind of a change."""
+def changed_certificate(random: Random, text: bytes) -> bytes:
+    """The certificate with one change of its lines, which may spoil it or not."""
+    firsts, ends = b"split cycle path absent false node edge end".split(), (b" ", b"\r", b"\t", b" 0.0@0:S")
+    return changed_lines(random, text, firsts, ends, ("node", "sign", "version", "number"))
+
+
+def changed_lifted(random: Random, text: bytes) -> bytes:
+    """The lifted refutation with one change of its lines, which may spoil it or not."""
+    firsts = b"left right not bind inst member split false cycle path absent end".split()
+    ends = (b" ", b"\r", b" 0", b".0", b"0", b" 18446744073709551616")
+    return changed_lines(random, text, firsts, ends, ("words", *4 * ["number"]))
+
+
+def changed_lines(random: Random, text: bytes, firsts: list[bytes], ends: tuple[bytes, ...], kinds: tuple[str, ...]) -> bytes:
+    """A text with one change of a line: of its first word to another, of its end, or of one of these kinds beside all others."""
+    lines = text.split(b"\n")
+    at = random.randrange(len(lines))
+    other = random.choice((max(0, at - 1), min(len(lines) - 1, at + 1), random.randrange(len(lines))))
+    words = lines[at].split(b" ")
+    place = random.randrange(len(words))
+    kind = random.choice(("drop", "twice", "swap", "word", "break", "end", "byte", *kinds))
     if kind == "drop":
         del lines[at]
     elif kind == "twice":
         lines.insert(other, lines[at])
     elif kind == "swap":
         lines[at], lines[other] = lines[other], lines[at]
-
-
-def changed_certificate(random: Random, text: bytes) -> bytes:
-    """The certificate with one change of its lines, which may spoil it or not."""
-    lines = text.split(b"\n")
-    at, other = (random.randrange(len(lines)) for _ in range(2))
-    words = lines[at].split(b" ")
-    nodes = [word for line in lines for word in line.split(b" ") if b"@" in word] or [b"0.0@0:S"]
-    kind = random.choice(("drop", "twice", "swap", "node", "number", "word", "sign", "version", "break", "space", "byte"))
-    move(lines, at, other, kind)
-    if kind == "node":
-        words[random.randrange(len(words))] = random.choice(nodes)
-        lines[at] = b" ".join(words)
-    elif kind == "number":
-        step = random.choice((-1, 1, 2))
-        lines[at] = re.sub(rb"\d+", lambda found: str(max(0, int(found[0]) + step)).encode(), lines[at], count=1)
     elif kind == "word":
-        lines[at] = b" ".join([random.choice(b"split cycle path absent false node edge end".split())] + words[1:])
+        lines[at] = b" ".join([random.choice(firsts), *words[1:]])
+    elif kind == "break":
+        return text[: random.randrange(len(text) + 1)]
+    elif kind == "end":
+        lines[at] += random.choice(ends)
+    elif kind == "byte":
+        start = random.randrange(len(lines[at]) + 1)
+        lines[at] = lines[at][:start] + bytes([random.randrange(256)]) + lines[at][start + 1 :]
+    elif kind == "version":
+        lines[2:3] = [] if lines[2:3] == [b"version 2"] else [b"version 2", *lines[2:3]]
     elif kind == "sign":
         old, new = (b"split ~", b"split ") if b"~" in lines[at] else (b"split ", b"split ~")
         lines[at] = lines[at].replace(old, new)
-    elif kind == "version":
-        if b"version 2" in lines:
-            lines.remove(b"version 2")
-        else:
-            lines.insert(random.randint(2, 3), b"version 2")
-    elif kind == "break":
-        return text[:random.randrange(len(text) + 1)]
-    elif kind == "space":
-        lines[at] += random.choice((b" ", b"\r", b"\t", b" 0.0@0:S"))
-    elif kind == "byte":
-        lines[at] = lines[at][:1] + bytes([random.randrange(256)]) + lines[at][1:]
+    else:
+        step, taken = random.choice((-2, -1, -1, 1, 1, 2, 100)), words[random.randrange(len(words))]
+        words[place:place + 1] = {
+            "node": [random.choice([word for line in lines for word in line.split(b" ") if b"@" in word] or [b"0.0@0:S"])],
+            "words": [taken, words[place]],
+            "number": [re.sub(rb"\d+", lambda found: str(max(0, int(found[0]) + step)).encode(), words[place], count=1)],
+        }[kind]
+        lines[at] = b" ".join(words)
     return b"\n".join(lines)
 
 
@@ -308,35 +315,6 @@ def lifted_text(random: Random, judge: LiftedJudge) -> bytes:
     elif random.random() < 0.5:
         lines.append(next(lifted_lines(random, len(judge.open[-1]) + 2, judge.case)))
     return "\n".join(lines + [""]).encode()
-
-
-def changed_lifted(random: Random, text: bytes) -> bytes:
-    """The lifted refutation with one change of its lines, which may spoil it or not."""
-    lines = text.split(b"\n")
-    at = random.randrange(len(lines))
-    other = random.choice((max(0, at - 1), min(len(lines) - 1, at + 1), random.randrange(len(lines))))
-    words = lines[at].split(b" ")
-    place = random.randrange(len(words))
-    kind = random.choice(("drop", "twice", "swap", "word", "words", "line", "break", "byte") + 4 * ("number",))
-    move(lines, at, other, kind)
-    if kind == "word":
-        words[0] = random.choice(b"left right not bind inst member split false cycle path absent end".split())
-        lines[at] = b" ".join(words)
-    elif kind == "words":
-        words.insert(place, words[random.randrange(len(words))])
-        lines[at] = b" ".join(words)
-    elif kind == "line":
-        lines[at] = lines[at] + random.choice((b" ", b"\r", b" 0", b".0", b"0", b" 18446744073709551616"))
-    elif kind == "break":
-        return text[: random.randrange(len(text) + 1)]
-    elif kind == "byte":
-        start = random.randrange(len(lines[at]) + 1)
-        lines[at] = lines[at][:start] + bytes([random.randrange(256)]) + lines[at][start + 1 :]
-    elif kind == "number":
-        step = random.choice((-2, -1, -1, 1, 1, 2, 100))
-        words[place] = re.sub(rb"\d+", lambda found: str(max(0, int(found[0]) + step)).encode(), words[place], count=1)
-        lines[at] = b" ".join(words)
-    return b"\n".join(lines)
 
 
 def lifted_lines(random: Random, facts: int, case: Case) -> Iterator[str]:

@@ -27,10 +27,8 @@ from tests import cases
 from tools.ending import Signals
 
 # those that take longest begin first
-LONGEST = (
-    "lint", "pages", "script", "install_ended", "suite_shipped", "checks", "build", "install", "benches", "mend", "suite_calls",
-    "explain", "agree", "suite_tables", "test86",
-)
+LONGEST = ("lint", "pages", "script", "install_ended", "suite_tables", "checks", "build", "install", "benches", "mend",
+           "suite_calls", "explain", "agree", "test86")
 HEADS = {"ok": "ok      ", "failed": "FAILED  ", "skipped": "skipped "}
 # how a process ends that has run all of its class
 AT_ITS_END = 86

@@ -16,9 +16,7 @@ import threading
 from collections import Counter
 from typing import Any, Callable, Sequence
 
-from tests.cases import (
-    LONGEST, PATIENCE, TOP, Cases, Done, apart, call, command, environment, read, replaced, run, script_entry, write
-)
+from tests.cases import LONGEST, PATIENCE, Cases, Done, apart, call, command, read, replaced, run, script_entry, write
 
 # what a suite imports where it is needed is there before it is forked
 from tools.lint import main as lint
@@ -78,13 +76,6 @@ def lint_here(_: str, tests: Sequence[File], __: object, ___: float, model: File
 def no_lint(*_: object) -> list[str]:
     """Nothing, where a case is about much that lint takes long for, and that others ask it of."""
     return []
-
-
-def end(process: subprocess.Popen[bytes]) -> None:
-    """Ends a process, where it has not ended yet."""
-    if process.poll() is None:
-        process.kill()
-    process.communicate()
 
 
 def without_first_line(path: str) -> str:
@@ -156,11 +147,7 @@ class SuiteCases(Cases):
         self, *words: str, env: dict[str, str] | None = None, before: Sequence[str] = (), **how: Any
     ) -> subprocess.Popen[bytes]:
         """Starts the suite as a process of its own; these words stand before it."""
-        options: dict[str, Any] = {"stdin": subprocess.DEVNULL, "stdout": subprocess.DEVNULL, "stderr": subprocess.DEVNULL, **how}
-        call_of = [*before, f"{self.top}/examples/suite", *map(self.at, words)]
-        process = subprocess.Popen(call_of, cwd=TOP, env=environment(self.variables(env or {})), **options)
-        self.addCleanup(end, process)
-        return process
+        return self.begin([*before, f"{self.top}/examples/suite", *map(self.at, words)], self.variables(env or {}), **how)
 
     def started(self, *words: str, env: dict[str, str] | None = None, before: Sequence[str] = (), **how: Any) -> Done:
         """Runs the suite as a process of its own; these words stand before it."""
@@ -169,8 +156,7 @@ class SuiteCases(Cases):
     def writes(self, name: str, done: Done, status: int, text: str, said: str = "") -> None:
         """The suite wrote this table with the folder of certificates above the last line, which counts."""
         *lines, count = text.splitlines(keepends=True)
-        if self.is_wanted(name):
-            self.judge(name, of_suite(done, self.work), status, "".join([*lines, "certificates: WORK/kept\n", count]), said)
+        self.judge(name, of_suite(done, self.work), status, "".join([*lines, "certificates: WORK/kept\n", count]), said)
 
     def table(self, name: str, status: int, text: str, *words: str, **env: str) -> None:
         """The suite writes this table."""
@@ -184,5 +170,4 @@ class SuiteCases(Cases):
 
     def refuses(self, name: str, line: str, *words: str, **env: str) -> None:
         """The suite says this line and prints no table."""
-        if self.is_wanted(name):
-            self.judge(name, of_suite(self.called(*words, **env), self.work), 2, "", f"suite: {line}\n")
+        self.judge(name, lambda: of_suite(self.called(*words, **env), self.work), 2, "", f"suite: {line}\n")

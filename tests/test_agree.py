@@ -6,7 +6,6 @@ import contextlib
 import os
 import re
 import signal
-import subprocess
 import tempfile
 import time
 from functools import cache
@@ -14,8 +13,8 @@ from itertools import permutations, product
 from typing import Callable, Iterable, Iterator
 
 from tests.cases import (
-    PATIENCE, TOP, Cases, Done, apart, call, comes, command, environment, pipecheck, program, read, replaced, run, signal_unseen,
-    tool, tool_entry, without_output, write
+    PATIENCE, TOP, Cases, Done, apart, call, comes, command, done_by_unseen, pipecheck, program, read, replaced, run, tool,
+    tool_entry, without_output, write
 )
 
 # what is imported here is there in each process that is forked from this one
@@ -95,8 +94,7 @@ class AgreeCases(Cases):
 
     def agrees(self, name: str, status: int, out: str, err: str, *words: str, **env: str) -> None:
         """Agree writes these two texts."""
-        if self.is_wanted(name):
-            self.judge(name, self.agree(*words, **env), status, out, err)
+        self.judge(name, lambda: self.agree(*words, **env), status, out, err)
 
 
 class Programs(AgreeCases):
@@ -122,11 +120,9 @@ class Programs(AgreeCases):
                        f"pipecheck agree: error: {said}\n")
 
     def test_small(self) -> None:
-        self.gives(
-            "a model and its machine agree on all small programs with fences",
-            [pipecheck(), "agree", "--all", "2+2", "--fences", BUFFER], 0,
-            f"tso-buffer.uspec: 232 programs\n{SWEPT}232 agree, 0 differ\n", env=self.variables({}),
-        )
+        self.gives("a model and its machine agree on all small programs with fences",
+                   [pipecheck(), "agree", "--all", "2+2", "--fences", BUFFER], 0,
+                   f"tso-buffer.uspec: 232 programs\n{SWEPT}232 agree, 0 differ\n", env=self.variables({}))
         done = self.agree("--all", "1+1")
         last = "".join(done.out.splitlines(keepends=True)[-2:])
         name = "without a word for models all of examples/models are compared"
@@ -150,15 +146,6 @@ tso-buffer.uspec: 2 programs
 class Ended(AgreeCases):
     """Comparisons that are ended, and standard output that fails."""
 
-    def begun(self, words: list[str], env: dict[str, str]) -> subprocess.Popen[bytes]:
-        """Starts a command as a process of its own, which ends with the cases."""
-        nothing = subprocess.DEVNULL
-        variables = environment(self.variables(env))
-        process = subprocess.Popen(words, cwd=TOP, env=variables, stdin=nothing, stdout=nothing, stderr=nothing)
-        self.addCleanup(process.wait)
-        self.addCleanup(process.kill)
-        return process
-
     def wait_until(self, is_so: Callable[[], bool]) -> None:
         """Waits until something comes true, or fails."""
         self.assertTrue(comes(is_so), "it did not come true in time")
@@ -174,7 +161,7 @@ exec "{program()}" "$@"
 """)
         calls, words = write(f"{self.work}/calls", ""), ("--all", "2+2", EARLY)
         whole = self.agree(*words, PIPECHECK=program())
-        process = self.begun([*AGREE, *words], {"PIPECHECK": waits})
+        process = self.begin([*AGREE, *words], self.variables({"PIPECHECK": waits}))
         self.wait_until(lambda: len(read(calls)) >= 40)
         time.sleep(0.5)
         process.terminate()
@@ -206,11 +193,11 @@ exec "{program()}" "$@"
         for name in ("TERM", "INT", "PIPE"):
             room, asked = tempfile.mkdtemp(dir=self.work), tempfile.mkdtemp(dir=self.work)
             waits = command(f"{self.work}/waits", f'[ -s "$3" ] || exec "{program()}" "$@"\n: >"{asked}/$$"\nexec sleep 600\n')
-            process = self.begun(["env", f"--default-signal={name}", *AGREE, "--random", "7", "100000", BUFFER],
-                                 {"PIPECHECK": waits, "TMPDIR": room})
+            process = self.begin(["env", f"--default-signal={name}", *AGREE, "--random", "7", "100000", BUFFER],
+                                 self.variables({"PIPECHECK": waits, "TMPDIR": room}))
             # each process that compares waits for the program
             self.wait_until(lambda: len(os.listdir(asked)) >= len(os.sched_getaffinity(0)))
-            workers = children_of(process.pid)
+            workers = [*map(int, run(["pgrep", "-P", str(process.pid)]).out.split())]
             number = signal.Signals[f"SIG{name}"]
             process.send_signal(number)
             self.same(f"{name} ends agree", process.wait(PATIENCE), -number)
@@ -221,26 +208,16 @@ exec "{program()}" "$@"
     def test_unseen(self) -> None:
         """A signal that Python does not see at once, while all processes that compare have long to do."""
 
-        def entry() -> int:
-            # where it is not seen, the clock ends this process
-            signal.alarm(PATIENCE)
-            ending.SIGNALS.receive()
-            signal_unseen()
-            try:
-                with working.Workers(time.sleep) as workers:
-                    return len([*workers.answers([600])])
-            except ending.Interrupted as interrupted:
-                return interrupted.number
+        def work() -> None:
+            with working.Workers(time.sleep) as workers:
+                list(workers.answers([600]))
 
-        self.same("a signal that Python does not see at once ends agree", call(entry, []).status, signal.SIGTERM)
+        done = done_by_unseen(ending.SIGNALS, work)
+        self.same("a signal that Python does not see at once ends agree", done.status, 128 + signal.SIGTERM)
 
     def test_full_device(self) -> None:
         with without_output("full") as how:
             self.gives("a full device is no answer", [*AGREE, BUFFER, MP], 5, env=self.variables({}), **how)
-
-
-def children_of(process: int) -> list[int]:
-    return [*map(int, run(["pgrep", "-P", str(process)]).out.split())]
 
 
 def is_group(number: int) -> bool:
@@ -269,10 +246,8 @@ class Files(AgreeCases):
         """These are read by what the environment says of names."""
         env = self.variables({"LC_ALL": "C"})
         fault = write(f"{self.work}/a\u009bb.uspec", FILES["fault.uspec"])
-        self.gives(
-            "a path that would break a line is one word of bash", [*AGREE, fault, MP], 3,
-            f"$'{self.work}/a\\u009bb.uspec':{FAULT.partition(':')[2]}\n", env=env,
-        )
+        self.gives("a path that would break a line is one word of bash", [*AGREE, fault, MP], 3,
+                   f"$'{self.work}/a\\u009bb.uspec':{FAULT.partition(':')[2]}\n", env=env)
         link = f"{self.work}/c\u009b.uspec"
         os.symlink(f"{TOP}/{EARLY}", link)
         self.gives("so is the name of a model in a line of what differs", [*AGREE, link, PATTERN], 1, f"""\

@@ -2,14 +2,14 @@
 the exit status; and the script `pipecheck`, for what it says on standard error."""
 from __future__ import annotations
 
-import io
 import os
 import resource
-import shutil
 from itertools import product
-from typing import Sequence
 
-from tests.cases import TOP, Cases, Done, command_forms, copy_checkout, pipecheck, program, read, run, unread, within, write
+from tests.cases import (
+    NO_MODEL, NO_TEST, UNWRITTEN, USAGE, Cases, Done, command_forms, meant, missing, pipecheck, program, read, run, told,
+    unread, within, write
+)
 
 PO, REVERSE = "examples/po.uspec", "examples/po-and-reverse.uspec"
 IN_ORDER, BUFFER = "examples/in-order.uspec", "examples/store-buffer.uspec"
@@ -20,31 +20,15 @@ SPOILT = "examples/certificates/mp-spoilt.txt"
 LIFTED_TWO, LIFTED_MP = "examples/lifted/two.txt", "examples/lifted/mp.txt"
 MP_PATTERN = "examples/patterns/MP.pattern"
 
-USAGE = "pipecheck: bad command line\n"
 UNREAD = "pipecheck: a file could not be read\n"
-UNWRITTEN = "pipecheck: standard output could not be written: what it got is not the whole answer\n"
 LACKING = "pipecheck: a command is missing; those that there are stand above\n"
 OBSERVABLE, UNOBSERVABLE = "verified observable\n", "verified unobservable\n"
-NO_TEST = "syntax: no test can continue with this token"
 PO_EDGE = "node 0.0@0:S\nnode 1.0@0:S\nedge 0.0@0:S 1.0@0:S\nend\n"
 ORDERED = f"observable\ntest permitted: ok\n{PO_EDGE}"
 CYCLIC = "unobservable\ntest forbidden: ok\ncycle 0.0@0:S 1.0@0:S\nend\n"
 FREE = "observable\ntest unstated\nend\n"
 FALSE = "unobservable\ntest unstated\nfalse\nend\n"
-BUFFERED = """node 0.0@0:Exec
-node 0.0@0:Mem
-node 2.0@1:Exec
-node 2.0@1:Mem
-node 1.0@0:Exec
-node 3.0@1:Exec
-edge 0.0@0:Exec 0.0@0:Mem
-edge 2.0@1:Exec 2.0@1:Mem
-edge 0.0@0:Exec 1.0@0:Exec
-edge 2.0@1:Exec 3.0@1:Exec
-edge 1.0@0:Exec 2.0@1:Mem
-edge 3.0@1:Exec 0.0@0:Mem
-end
-"""
+BUFFERED = read(SB_CERTIFICATE).partition("\ntest forbidden: BUG\n")[2]
 IN_MEMORY = "cycle 0.0@0:Mem 1.0@0:Mem 2.0@1:Mem 3.0@1:Mem\nend\n"
 # 64 MiB are the limit of a certificate, 1 MiB that of another file
 MOST = 67_108_864
@@ -75,7 +59,6 @@ SIGNS = STAGES + """Axiom "s": forall microops "i",
 WALK = f"""{S}Axiom "walk": forall microops "i", forall microops "j",
   EntryOf i j /\\ MapsTagOf i j => AddEdge ((i, S), (j, S), "walk").
 """
-MANY = S + 'Axiom "a": forall microop "i", forall microop "j", ProgramOrder i j => AddEdge ((i, S), (j, S), "").\n' * 10_000
 
 
 def refused(line: int) -> str:
@@ -99,19 +82,7 @@ def writes(count: int, value: int) -> str:
 
 
 ONE = lines('Litmus "o".', op(0, "Write", 0, 1))
-
-
-LISTING = """X86 SB
-"PodWR Fre PodWR Fre"
-Com=Fr Fr
-{
-}
- P0          | P1          ;
- MOV [x],$1  | MOV [y],$1  ;
- MOV EAX,[y] | MOV EAX,[x] ;
-exists
-(0:EAX=0 /\\ 1:EAX=0)
-"""
+LISTING = read("examples/x86/SB.litmus")
 
 
 def open_read(number: int, address: int) -> str:
@@ -124,26 +95,11 @@ def stored(number: int, value: object) -> str:
     return op(number, "Write", 0, value)
 
 
-def swept(*rows: str, unseen: Sequence[str] = ()) -> str:
-    """The text of a sweep that shows each of these rows but those that are unseen."""
-    told = [f"row{it} {'un' * (it in unseen)}observable" for it in rows]
-    return lines(f"sweep {len(rows)}", *told, f"observable {len(rows) - len(unseen)}", f"unobservable {len(unseen)}", "end")
-
-
 def macros(count: int, body: str, before: str = "") -> str:
     """Macro m0 is True, each next one has this body with the name of the one before it in place of @, and an axiom expands the
     last."""
     defined = [f'DefineMacro "m{it}": {body.replace("@", f"m{it - 1}")}.' for it in range(1, count + 1)]
     return lines(f'{before}DefineMacro "m0": True.', *defined, f'Axiom "x": ExpandMacro m{count}.')
-
-
-def second(*words: str) -> str:
-    """The answer of the second implementation, which is read where it is asked first."""
-    from tools.second.main import run as answer
-
-    out = io.StringIO()
-    answer(list(words), out)
-    return out.getvalue()
 
 
 class Answers(Cases):
@@ -158,12 +114,8 @@ class Answers(Cases):
         self.shows(name, status, out, word, model, test, self.file("certificate", text))
 
     def tells(self, name: str, what: str, path: str, place: str, said: str, *words: str, due: str = "") -> None:
-        """This file is refused, and the script tells it: the place, the fault's word with its sentence, the line there with blanks
-        for tabs, a mark below its column, and what is expected there."""
-        line, column = map(int, place.split(":"))
-        row = read(path).splitlines()[line - 1].replace("\t", " ")
-        told = lines(f"{path}:{place}: {said}", f"    {row}", f"{' ' * (3 + column)}^", *[f"pipecheck: {due} is expected"] * bool(due))
-        self.says(name, 3, f"refused {what} {said.partition(':')[0]} at {place}\n", told, *words)
+        """This file is refused, and the script tells it."""
+        self.says(name, 3, f"refused {what} {said.partition(':')[0]} at {place}\n", told(path, place, said, due), *words)
 
     def breaks_off(self, name: str, word: str, model: str, test: str, text: str) -> None:
         """Each first part of the text, by its length, is refused at the line that it breaks off in."""
@@ -205,20 +157,14 @@ class Words(Answers):
         self.says("no words: the forms of the commands", 2, USAGE, forms + LACKING)
         self.says("--help: the forms of the commands on standard output", 0, forms, "", "--help")
         self.says("help: the forms of the commands on standard output", 0, forms, "", "help")
-        self.says(
-            "help with a word that is no command: the forms of all", 2, USAGE,
-            f"{forms}pipecheck: there is no command chekc; those that there are stand above\n", "help", "chekc",
-        )
-        self.says(
-            "words that are no command: the forms of the one that was meant", 2, USAGE, """pipecheck check MODEL TEST
-    Says whether the outcome of a litmus test is observable on a model. MODEL
-    and TEST are files.
-pipecheck: these words are no command; how check is called stands above
-""", "check", PO,
-        )
+        self.says("a command of the script with too few words", 2, USAGE, meant("explain"), "explain", PO)
+        self.holds("the forms have lines of at most 80 columns", max(map(len, forms.splitlines())) <= 80)
+        self.says("help with a word that is no command: the forms of all", 2, USAGE,
+                  f"{forms}pipecheck: there is no command chekc; those that there are stand above\n", "help", "chekc")
+        self.says("words that are no command: the forms of the one that was meant", 2, USAGE, meant("check"), "check", PO)
 
     def test_files_that_cannot_be_read(self) -> None:
-        none, folder, both = f"{self.work}/none", self.work, (REVERSE, FORBIDDEN)
+        none, folder, both, blank = f"{self.work}/none", self.work, (REVERSE, FORBIDDEN), "pipecheck: two\\ words is not there\n"
         for name, words in (
             ("a missing model", ("check", none, TWO)),
             ("a missing test", ("check", PO, none)),
@@ -239,15 +185,14 @@ pipecheck: these words are no command; how check is called stands above
             self.shows(name, 4, "", *words)
         link = f"{self.work}/link"
         os.symlink(none, link)
-        missing = f"{UNREAD}pipecheck: {none} is not there\n"
         for name, said, words in (
-            ("which file is missing", missing, ("check", PO, none)),
-            ("that both files are missing", f"{missing}pipecheck: two\\ words is not there\n", ("check", none, "two words")),
-            ("that the certificate is missing", missing, ("verify", PO, TWO, none)),
+            ("which file is missing", missing(none), ("check", PO, none)),
+            ("that both files are missing", missing(none) + blank, ("check", none, "two words")),
+            ("that the certificate is missing", missing(none), ("verify", PO, TWO, none)),
             ("which file is a directory", f"{UNREAD}pipecheck: {folder} is a directory\n", ("check", folder, TWO)),
             ("which file is a link to none", f"{UNREAD}pipecheck: {link} is a link to what is not there\n", ("check", link, TWO)),
-            ("verify-lifted: which file is missing", missing, ("verify-lifted", *both, none)),
-            ("verify86: which file is missing", missing, ("verify86", PO, none, SB_CERTIFICATE)),
+            ("verify-lifted: which file is missing", missing(none), ("verify-lifted", *both, none)),
+            ("verify86: which file is missing", missing(none), ("verify86", PO, none, SB_CERTIFICATE)),
         ):
             self.says(name, 4, "", said, *words)
 
@@ -267,10 +212,8 @@ pipecheck: these words are no command; how check is called stands above
 
     def test_a_word_that_is_not_utf_8(self) -> None:
         self.gives("a word that is not UTF-8", [program(), "check", b"\xff", TWO], 8)
-        self.gives(
-            "that the arguments could not be had", [pipecheck(), "check", b"\xff", TWO], 8, "",
-            "pipecheck: the arguments could not be had, as where one of them is not UTF-8\n",
-        )
+        self.gives("that the arguments could not be had", [pipecheck(), "check", b"\xff", TWO], 8, "",
+                   "pipecheck: the arguments could not be had, as where one of them is not UTF-8\n")
 
     def test_verdicts(self) -> None:
         either, absent = self.file("either.uspec", EITHER), self.file("absent.uspec", ABSENT)
@@ -289,6 +232,11 @@ pipecheck: these words are no command; how check is called stands above
         ):
             self.shows(name, status, out, "check", model, test)
         self.says("nothing beside a verdict", 1, CYCLIC, "", "check", REVERSE, FORBIDDEN)
+        version_2 = f"{HEADER}version 2\n"
+        denied = version_2 + AGAIN + LAST
+        self.shows("check2: a split, and a path that is denied on each side", 1, denied, "check2", either, FORBIDDEN)
+        cycle = "cycle 0.0@0:S 1.0@0:S\nend\n"
+        self.shows("check2: a refutation without a split", 1, version_2 + cycle, "check2", REVERSE, FORBIDDEN)
 
     def test_a_pipeline_that_keeps_program_order(self) -> None:
         """It says nothing of values."""
@@ -360,107 +308,20 @@ pipecheck: these words are no command; how check is called stands above
         self.breaks_off("each first part of a refutation is refused where it breaks off", "verify", either, FORBIDDEN, whole)
         self.judged("the whole of it", 1, UNOBSERVABLE, either, FORBIDDEN, whole)
 
-    def test_version_2(self) -> None:
-        """The right side of a split keeps that the left one is false."""
-        sign = self.file("sign.uspec", SIGNS)
-        negative = self.file("neg.uspec", f"""{STAGES}Axiom "n": forall microops "i",
-  ((NodeExists (i, S) /\\ EdgeExists ((i, U), (i, S)))
-   \\/ (~NodeExists (i, T) /\\ EdgeExists ((i, U), (i, S))))
-  /\\ (~NodeExists (i, U) \\/ ~EdgeExists ((i, U), (i, S)))
-  /\\ (~NodeExists (i, U) \\/ EdgeExists ((i, T), (i, S))).
-""")
-        one = self.file("one.test", ONE)
-        either, signed = self.file("either.uspec", EITHER), "unobservable\ntest unstated\nversion 2\nsplit 1\n"
-        denied = lines("split 9", "absent 0.0@0:U", "path 0.0@0:U 0.0@0:S", "split ~2", "absent 0.0@0:S", "path 0.0@0:U 0.0@0:S")
-        cyclic = f"{HEADER}version 2\ncycle 0.0@0:S 1.0@0:S\nend\n"
-        for name, status, out, model, test in (
-            ("a refutation of version 2", 1, f"{signed}absent 0.0@0:T\nabsent 0.0@0:U\nend\n", sign, one),
-            ("a split with a sign", 1, f"{signed}{denied}end\n", negative, one),
-            ("a split, and a path that is denied on each side", 1, f"{HEADER}version 2\n{AGAIN}{LAST}", either, FORBIDDEN),
-            ("a refutation without a split", 1, cyclic, REVERSE, FORBIDDEN),
-            ("a graph has no version", 0, ORDERED, PO, TWO),
-        ):
-            self.shows(f"check2: {name}", status, out, "check2", model, test)
-        unstated, both = "unobservable\ntest unstated\n", "split ~2\nabsent 0.0@0:U\nabsent 0.0@0:U\nend\n"
-        for name, status, out, text in (
-            ("a split of a denied And", 1, UNOBSERVABLE, f"{signed}absent 0.0@0:T\n{both}"),
-            ("a sign in a text of version 1", 6, refused(5), f"{unstated}split 1\nabsent 0.0@0:T\n{both}"),
-            ("a sign where the position is asserted without one", 6, refused(5), f"{signed}split ~2\n{both}"),
-        ):
-            self.judged(name, status, out, sign, one, text)
-
 
 class Lifted(Answers):
     """Lifted refutations, which speak of the axioms themselves, and what makes them of refutations of version 1."""
 
     def test_examples(self) -> None:
-        by_macros = ("examples/models/sc-inorder.uspec", "examples/corr.test", "examples/lifted/corr.txt")
-        for name, status, out, words in (
-            ("verify-lifted: a cycle of two edges", 1, UNOBSERVABLE, (REVERSE, FORBIDDEN, LIFTED_TWO)),
-            ("verify-lifted: message passing in order", 1, UNOBSERVABLE, (IN_ORDER, MP, LIFTED_MP)),
-            ("verify-lifted: coherence of reads in order, by macros", 1, UNOBSERVABLE, by_macros),
-            ("verify-lifted of a test that states something else", 6, refused(2), (REVERSE, TWO, LIFTED_TWO)),
-            ("verify-lifted of a graph", 6, refused(1), (BUFFER, SB, SB_CERTIFICATE)),
-            ("verify-lifted of a refutation of the ground tree", 6, refused(3), (IN_ORDER, MP, MP_CERTIFICATE)),
+        for name, line, words in (
+            ("a test that states something else", 2, (REVERSE, TWO, LIFTED_TWO)),
+            ("a graph", 1, (BUFFER, SB, SB_CERTIFICATE)),
+            ("a refutation of the ground tree", 3, (IN_ORDER, MP, MP_CERTIFICATE)),
         ):
-            self.shows(name, status, out, "verify-lifted", *words)
+            self.shows(f"verify-lifted of {name}", 6, refused(line), "verify-lifted", *words)
         self.says("nothing beside a verified one", 1, UNOBSERVABLE, "", "verify-lifted", REVERSE, FORBIDDEN, LIFTED_TWO)
         self.says("nothing beside a refused one", 6, refused(6), "", "verify-lifted", BUFFER, MP, LIFTED_MP)
         self.shows("verify of a lifted refutation", 6, refused(3), "verify", IN_ORDER, MP, LIFTED_MP)
-
-    def two_writes(self, name: str, status: int, out: str, text: str | bytes) -> None:
-        """What is said of this text of the two writes in both orders."""
-        self.judged(f"verify-lifted: {name}", status, out, REVERSE, FORBIDDEN, text, "verify-lifted")
-
-    def test_changed_lines(self) -> None:
-        """Each text is refused at the first of these lines; of the second one, the old part becomes the new one."""
-        whole = read(LIFTED_TWO).splitlines()
-        for at, name, line, old, new in (
-            (3, "another third line", 3, "lifted", "version 2"),
-            (4, "a micro-op that the test has not", 4, "0.0", "2.0"),
-            (4, "a core for a micro-op", 4, "0.0", "0"),
-            (4, "a leading zero", 4, "0 0.0", "00 0.0"),
-            (4, "two spaces", 4, " ", "  "),
-            (4, "a number past 64 bits", 4, "0 0.0", "18446744073709551616 0.0"),
-            (5, "a fact that is not there yet", 5, "2", "3"),
-            (6, "a split of a forall", 6, "3", "2"),
-            (7, "an implication is not false by itself", 7, "4", "3"),
-            (7, "the end with two branches open", 7, "false 4", "end"),
-            (8, "a fact of the branch that was closed", 8, "member 4 0", "false 4"),
-            (8, "a member past the last", 8, "4 0", "4 1"),
-            (9, "a side of a single edge", 9, "inst 1 0.0", "left 5"),
-            (14, "an edge that does not end where the next begins", 14, "5 9", "5 5"),
-            (14, "a list for its edge", 14, "5 9", "5 8"),
-            (14, "a path without a denial", 14, "cycle", "path"),
-            (16, "a line after the end", 15, "end", "end\nend"),
-        ):
-            self.assertIn(old, whole[line - 1])
-            changed = [*whole[: line - 1], whole[line - 1].replace(old, new, 1), *whole[line:]]
-            self.two_writes(name, 6, refused(at), lines(*changed))
-        self.two_writes("without its third line", 6, refused(3), lines(*whole[:2], *whole[3:]))
-        self.two_writes("without its end", 6, refused(15), lines(*whole[:14]))
-
-    def test_denied_nodes(self) -> None:
-        """A model that asks for its first axiom, and denies it."""
-        nodes = self.file("nodes.uspec", f"""{S}Axiom "c": forall cores "c", exists microop "i", NodeExists (i, (c, S)).
-Axiom "d": ~(exists microop "i", NodesExist [(i, S)]) /\\ True.
-""")
-        asked = ("inst 0 0", "left 1", "not 3", "split 2", "member 5 0", "inst 4 0.0", "split 7")
-        rest = (
-            "absent 8 6", "false 8", "split 5", "member 6 0", "inst 4 1.0", "split 8", "absent 9 7", "false 9", "false 6", "end",
-        )
-        for name, status, out, body in (
-            ("nodes that are asked for and denied", 1, UNOBSERVABLE, (*asked, *rest)),
-            ("absent of a fact that is no denial", 6, refused(11), (*asked, "absent 6 8")),
-            ("a split after the end of a list", 6, refused(12), (*asked, "absent 8 6", "split 8")),
-            ("a core that is not in the range", 6, refused(4), ("inst 0 1",)),
-            ("false of an exists with members left", 6, refused(5), ("inst 0 0", "false 2")),
-        ):
-            text = lines("unobservable", "test permitted: stricter", "lifted", *body)
-            self.judged(f"verify-lifted: {name}", status, out, nodes, TWO, text, "verify-lifted")
-        never, empty = self.file("never.uspec", NEVER), self.file("empty.test", 'Litmus "e".\n')
-        text = lines("unobservable", "test unstated", "lifted", "false 0", "end")
-        self.judged("verify-lifted: an exists over nothing", 1, UNOBSERVABLE, never, empty, text, "verify-lifted")
 
     def test_texts(self) -> None:
         whole = read(LIFTED_TWO)
@@ -475,11 +336,12 @@ Axiom "d": ~(exists microop "i", NodesExist [(i, S)]) /\\ True.
             ("a step of 60,000,000 spaces", 4, "".join(by_line[:3]) + " " * 60_000_000 + "\n"),
             ("100,000 lines that leave a branch open", 100_006, "".join(by_line[:5]) + open_branch + "end\n"),
         ):
-            self.two_writes(name, 6, refused(at), text)
+            self.judged(f"verify-lifted: {name}", 6, refused(at), REVERSE, FORBIDDEN, text, "verify-lifted")
         facts = "inst 0 0.0\n" * 50_000
         last = ("inst 1 0.0", "inst 50006 1.0", "split 50007", "false 50008", "member 50008 0", "cycle 50005 50009", "end")
         text = "".join(by_line[:7]) + facts + lines("member 4 0", *last)
-        self.two_writes("50,000 facts on one branch", 1, UNOBSERVABLE, text)
+        name = "verify-lifted: 50,000 facts on one branch"
+        self.judged(name, 1, UNOBSERVABLE, REVERSE, FORBIDDEN, text, "verify-lifted")
         name = "verify-lifted: each first part is refused where it breaks off"
         self.breaks_off(name, "verify-lifted", REVERSE, FORBIDDEN, whole)
 
@@ -493,12 +355,6 @@ Axiom "d": ~(exists microop "i", NodesExist [(i, S)]) /\\ True.
         self.shows("lift of a spoilt refutation", 6, refused(3), "lift", IN_ORDER, MP, SPOILT)
         self.shows("lift of a lifted refutation", 6, refused(3), "lift", REVERSE, FORBIDDEN, LIFTED_TWO)
         either = self.file("either.uspec", EITHER)
-        for name, line, model, text in (
-            ("lift of a refutation of version 2", 3, either, f"{HEADER}version 2\n{AGAIN}{LAST}"),
-            ("lift of an empty text", 1, REVERSE, ""),
-            ("lift of a text whose first line is none", 1, REVERSE, "test forbidden: ok\nversion 2\n"),
-        ):
-            self.judged(name, 6, refused(line), model, FORBIDDEN, text, "lift")
         two, said = self.file("two", f"{HEADER}version 2\n{AGAIN}{LAST}"), "lift takes a refutation of version 1, as check writes it"
         self.says("lift: which version it takes", 6, refused(3), f"pipecheck: {said}\n", "lift", either, FORBIDDEN, two)
 
@@ -544,8 +400,7 @@ Axiom "d": ~(exists microop "i", NodesExist [(i, S)]) /\\ True.
 
 
 class Questions(Answers):
-    """Minimal sets of axioms, and formulas that are asked, on shipped files with the texts of the second implementation; and tests
-    with page-table entries."""
+    """Minimal sets of axioms, formulas that are asked, and tests with page-table entries."""
 
     def test_core(self) -> None:
         shown = "observable\ntest forbidden: BUG\n"
@@ -559,35 +414,9 @@ class Questions(Answers):
         self.judged("core: its first graph is of the second axiom", 0, OBSERVABLE, reverse, FORBIDDEN, by_reverse)
         self.judged("core: its second graph is of the first axiom", 0, OBSERVABLE, PO, FORBIDDEN, by_order)
         self.shows("core: none", 0, f"core none\n{ORDERED}end\n", "core", PO, TWO)
-        alone = "core 1\naxiom 0\nrefutation\nunobservable\ntest permitted: stricter\nfalse\nend\n"
-        free = "without 0\nobservable\ntest permitted: ok\nend\nend\n"
-        self.shows("core: an axiom that is False by itself", 0, alone + free, "core", self.file("never.uspec", NEVER), TWO)
         true = self.file("true.uspec", "True.\n")
-        self.tells(
-            "core: a refusal is told", "model", true, "1:1", "syntax: no model can continue with this token", "core", true, TWO,
-            due="`StageName`, `Axiom` or `DefineMacro`",
-        )
-
-    def test_core_on_shipped_models(self) -> None:
-        for name in ("sc-inorder", "tso-ooo", "tutorial"):
-            for litmus in ("MP", "SB"):
-                files = (f"examples/models/{name}.uspec", f"examples/tests/{litmus}.test")
-                self.shows(f"core: {litmus} on {name}", 0, second("core", *files), "core", *files)
-
-    def test_a_lock_of_three_cores(self) -> None:
-        """A search of 127 splits, which follows what failed: three cores take a lock, to add 1 to a counter each, and the last
-        addition is lost."""
-        ops = ['Litmus "lock".']
-        for core, (got, put) in enumerate(((0, 1), (1, 2), (1, 100))):
-            first = 4 * core
-            ops += [
-                op(first, "Read Locked", 0, 0, core), op(first, "Write Locked", 0, 1, core, 1), op(first + 1, "Read", 1, got, core),
-                op(first + 2, "Write", 1, put, core), op(first + 3, "Write", 0, 0, core),
-            ]
-        files = ("examples/models/tso-buffer.uspec", self.file("lock.test", lines(*ops)))
-        for word in ("check", "check2"):
-            if self.is_wanted(name := f"{word}: a lock of three cores"):
-                self.shows(name, 1, second(word, *files), word, *files)
+        items = "`StageName`, `Axiom` or `DefineMacro`"
+        self.tells("core: a refusal is told", "model", true, "1:1", NO_MODEL, "core", true, TWO, due=items)
 
     def test_ask(self) -> None:
         both = 'exists microop "i", exists microop "j", ProgramOrder i j /\\ EdgeExists ((i, S), (j, S))'
@@ -599,14 +428,6 @@ class Questions(Answers):
         stage = self.file("stage.query", 'exists microop "i", NodeExists (i, T)\n')
         said = "stage-unknown: no stage has the name"
         self.tells("ask: a refusal is told", "query", stage, "1:36", said, "ask", PO, TWO, stage)
-
-    def test_shipped_questions(self) -> None:
-        for line in read("examples/queries/answers.tsv").splitlines()[1:]:
-            query, name, litmus, word = line.split("\t")
-            files = (f"examples/models/{name}.uspec", f"examples/tests/{litmus}.test", f"examples/queries/{query}.query")
-            text = second("ask", *files)
-            self.same(f"ask: {query} of {litmus} on {name} is {word}", f"ask {word}" in text.splitlines())
-            self.shows(f"ask: {query} of {litmus} on {name}", 0, text, "ask", *files)
 
     def walk(self, word: str, entry: str) -> str:
         """A test of this format, with a read of an entry and a write to the page that it maps to."""
@@ -626,14 +447,8 @@ class Questions(Answers):
         test = self.walk("Litmus2", "Maps 7 2 0")
         for name, word in (("a mark of 2", "check"), ("a mark of 2: check2 says it too", "check2")):
             self.tells(name, "test", test, "2:50", "mark-value: a mark of a page-table entry over 1", word, model, test)
-        for name, column, entry in (("both marks over 1", 50, "Maps 7 2 3"), ("a dirty mark over 1", 52, "Maps 7 1 3")):
-            self.shows(name, 3, f"refused test mark-value at 2:{column}\n", "check", model, self.walk("Litmus2", entry))
-        again = self.file("again.test", 'Litmus2 "d".\nInit (Entry 3) 7.\nInit (Entry 3) (Maps 7 2 0).\n')
-        self.shows("a mark of 2 where an address comes again", 3, "refused test again-initial at 3:1\n", "check", model, again)
-        default = self.file("default.test", lines(
-            'Litmus2 "d".', "Microop 0 0 0 0 (Read (VA 5 0) (Entry 5) (Maps 5 0 0)).",
-            "Microop 1 0 0 0 (Read (VA 5 0) (PA 5 0) (Data 0)).",
-        ))
+        default = self.file("default.test", lines('Litmus2 "d".', "Microop 0 0 0 0 (Read (VA 5 0) (Entry 5) (Maps 5 0 0)).",
+                                                  "Microop 1 0 0 0 (Read (VA 5 0) (PA 5 0) (Data 0))."))
         initial = f'{S}Axiom "a": forall microops "i", DataFromInitialStateAtPA i => NodeExists (i, S).\n'
         held = "observable\ntest unstated\nnode 0.0@0:S\nnode 1.0@0:S\nend\n"
         name = "what an entry and a page hold where no line says it"
@@ -662,18 +477,10 @@ class Listings(Answers):
         self.says("check86: ~exists is forbidden", 0, forbidden, "", "check86", BUFFER, self.listing(denied))
         name = "verify86: a graph of a test is one of the listing"
         self.shows(name, 0, OBSERVABLE, "verify86", BUFFER, self.listing(denied), SB_CERTIFICATE)
-        other = denied.replace("EAX", "exists").replace("[x]", "[MFENCE]").replace("[y]", "[ (* of y *) MOV\n]")
-        for name, text in (
-            ("lines that end with CR and LF", denied.replace("\n", "\r\n")),
-            ("other names, blanks and comments", other.replace("\n{", "\n \t{ (* x=2 *)")),
-        ):
-            self.shows(f"check86: {name}", 0, forbidden, "check86", BUFFER, self.listing(text))
-        filled = LISTING.replace(" MOV EAX,[y]", " MFENCE|;\n" * 60 + " MOV EAX,[y]")
-        self.shows("check86: 64 instructions", 0, FREE, "check86", self.file("empty.uspec", ""), self.listing(filled))
 
     def test_faults_beside_others(self) -> None:
         large, model = self.file("too-large.litmus", LISTING + " " * (MOST_OF_A_FILE + 1)), "refused model syntax at 7:1\n"
-        open_one, at = self.file("open.litmus", LISTING.replace(" /\\ 1:EAX=0", "")), "refused test x86-open at 8:20\n"
+        open_one, at = self.file("open.litmus", LISTING.replace(" /\\ 1:EAX=0", "")), "refused test x86-open at 9:20\n"
         for name, out, words in (
             ("check of a listing", "refused test lexical at 3:4\n", ("check", BUFFER, self.listing())),
             ("check86: a listing past 1 MiB", "refused test too-large at 1:1\n", ("check86", PO, large)),
@@ -682,82 +489,11 @@ class Listings(Answers):
         ):
             self.shows(name, 3, out, *words)
         said = "x86-open: the condition gives this register no value"
-        self.tells("check86: where a listing has its fault", "test", open_one, "8:20", said, "check86", BUFFER, open_one)
+        self.tells("check86: where a listing has its fault", "test", open_one, "9:20", said, "check86", BUFFER, open_one)
 
-    def test_faults(self) -> None:
-        """Of this line the old part becomes the new one; an empty old part stands at its end."""
-        whole = LISTING.splitlines()
-        for fault, name, line, old, new in (
-            ("syntax at 1:1", "another architecture", 1, "X86", "PPC"),
-            ("syntax at 1:1", "X86_64", 1, "X86", "X86_64"),
-            ("syntax at 1:1", "a tab after X86", 1, " ", "\t"),
-            ("syntax at 1:1", "a name of two words", 1, "", " 2"),
-            ("syntax at 2:2", "a line of the header that begins with a blank", 2, '"Pod', ' "Pod'),
-            ("syntax at 3:1", "a line of the header without =", 3, "=", " "),
-            ("lexical at 9:1", "a comment that is none of a listing", 9, "exists", "% exists"),
-            ("lexical at 9:1", "a comment that is open at the end", 9, "exists", "(* exists"),
-            ("lexical at 10:10", "a disjunction", 10, "/\\", "\\/"),
-            ("lexical at 10:8", "a negative number", 10, "=0", "=-1"),
-            ("syntax at 10:9", "a number that begins with 0x", 10, "=0", "=0x1"),
-            ("syntax at 10:2", "a bracket in a condition", 10, "0:", "(0:"),
-            ("syntax at 10:5", "a condition that is denied inside", 10, "(", "not ("),
-            ("syntax at 4:3", "a location without a value in the first block", 4, "", "x; "),
-            ("syntax at 4:7", "a type in the first block", 4, "", " int x=0;"),
-            ("syntax at 4:3", "a register in the first block", 4, "", " 0:EAX=0;"),
-            ("syntax at 8:2", "another instruction", 8, "MOV", "ADD"),
-            ("syntax at 7:10", "a store of a register", 7, "$1", "EBX"),
-            ("syntax at 9:1", "locations", 9, "exists", "locations [x;]\nexists"),
-            ("syntax at 9:1", "forall", 9, "exists", "forall"),
-            ("syntax at 11:1", "a bracket that is open at the end", 10, ")", ""),
-            ("again-initial at 4:8", "a second value at the start", 4, "", " x=1; x=1;"),
-            ("core-number at 6:332", "65 columns", 6, ";", "".join(f"| P{it}" for it in range(2, 65)) + ";"),
-            ("x86-column at 6:16", "the name of a column", 6, "P1", "P2"),
-            ("x86-column at 8:14", "a cell too few", 8, "| MOV EAX,[x] ;", ";"),
-            ("x86-column at 8:29", "a cell too many", 8, ";", "|;"),
-            ("too-many-ops at 69:16", "65 instructions", 8, " MOV EAX,[y]", " MFENCE|;\n" * 61 + " MOV EAX,[y]"),
-            ("x86-reload at 9:6", "a register that is loaded again", 8, "", "\n MOV EAX,[x]|;"),
-            ("x86-unloaded at 10:2", "a register that is not loaded", 10, "EAX", "EBX"),
-            ("x86-unloaded at 10:2", "a thread that there is not", 10, "0:", "2:"),
-            ("x86-again at 10:13", "a second value of a register", 10, "1:", "0:"),
-            ("again-final at 10:21", "a second value at the end", 10, "1:EAX=0)", "x=1 /\\ [x]=1)"),
-            ("x86-open at 8:6", "registers without a value", 10, "(0:EAX=0 /\\ 1:EAX=0)", "x=1"),
-        ):
-            row = whole[line - 1]
-            self.assertIn(old, row)
-            changed = row.replace(old, new, 1) if old else row + new
-            self.refuses(name, fault, lines(*whole[: line - 1], changed, *whole[line:]))
-        self.refuses("a header and nothing after it", "syntax at 4:1", lines(*whole[:3]))
-
-    def refuses(self, name: str, fault: str, text: str) -> None:
-        """A listing of this text has this first fault."""
-        self.shows(f"check86: {name}", 3, f"refused test {fault}\n", "check86", BUFFER, self.listing(text))
-
-    def test_examples(self) -> None:
-        pairs = (" 0 0", " 0 1", " 1 0", " 1 1")
-        maps = (" Maps:6:1:0 Maps:5:1:0 0", " Maps:6:1:0 Maps:7:1:0 0", " Maps:8:1:0 Maps:5:1:0 0", " Maps:8:1:0 Maps:7:1:0 0")
-        tlb, walk = "examples/translation/tlb.uspec", "examples/patterns/MP+read+walk.pattern"
-        for name, out, model, pattern in (
-            ("a sweep of message passing", swept(*pairs, unseen=(" 1 0",)), IN_ORDER, MP_PATTERN),
-            ("a sweep of store buffering through store buffers", swept(*pairs), BUFFER, "examples/patterns/SB.pattern"),
-            ("a sweep of a test without an open read", swept(""), PO, TWO),
-            ("... that is not observable", swept("", unseen=("",)), REVERSE, FORBIDDEN),
-            ("a sweep with page-table entries", swept(*maps, unseen=maps[1::2]), tlb, walk),
-        ):
-            self.shows(name, 0, out, "sweep", model, pattern)
-
-    def opens(self, *ops: str, word: str = "Litmus") -> tuple[str, str, str]:
+    def opens(self, *ops: str) -> tuple[str, str, str]:
         """The words of a sweep of a pattern of these lines on an empty model."""
-        return "sweep", self.file("empty.uspec", ""), self.file("open.pattern", lines(f'{word} "p".', *ops))
-
-    def test_values(self) -> None:
-        again = self.opens(stored(0, 5), stored(1, 0), open_read(2, 0), stored(3, 5), stored(4, 3))
-        self.shows("values that are written twice, and the initial one written again", 0, swept(" 0", " 5", " 3"), *again)
-        initial = self.opens(open_read(0, 0), open_read(1, 1), "Init (PA 1 0) 18446744073709551615.")
-        self.shows("reads that nothing writes", 0, swept(" 0 18446744073709551615"), *initial)
-        self.shows("a number at an entry", 0, swept(" Maps:3:0:0", " 3"), *self.opens(
-            "Microop 0 0 0 0 (Read (VA 3 0) (Entry 3) (Data Any)).", "Microop 0 0 0 1 (Write (VA 3 0) (Entry 3) (Data 3)).",
-            word="Litmus2",
-        ))
+        return "sweep", self.file("empty.uspec", ""), self.file("open.pattern", lines('Litmus "p".', *ops))
 
     def test_rows(self) -> None:
         reads = [open_read(number, 0) for number in range(1, 14)]
@@ -774,13 +510,10 @@ class Listings(Answers):
         words = self.opens(stored(0, 1), *reads)
         said = "too-many-rows: of a pattern: with this open read there are more than 4,096 rows"
         self.tells("one open read too many", "test", words[2], "15:48", said, *words)
-        other = self.opens(stored(0, 1), *reads, "Microop 14 64 0 0 (Fence).")
-        self.shows("too many rows come after all other faults", 3, "refused test core-number at 16:12\n", *other)
 
     def test_what_may_not_be_open(self) -> None:
         words = self.opens(open_read(0, 0), stored(1, "Any"))
         self.tells("a write that is open", "test", words[2], "3:48", NO_TEST, *words, due="a number")
-        self.shows("an initial value that is open", 3, "refused test syntax at 2:15\n", *self.opens("Init (PA 0 0) Any."))
         pattern = self.file("mp.pattern", lines(*(it for it in read(MP_PATTERN).splitlines() if not it.startswith("%"))))
         for word in ("check", "check2"):
             self.shows(f"{word} takes no pattern", 3, "refused test syntax at 4:47\n", word, IN_ORDER, pattern)
@@ -903,17 +636,13 @@ class Faults(Answers):
 
     def test_sizes(self) -> None:
         edges = '((i, S), (i, T), "");' * 40_000
-        self.on(
-            "a list of 40,000 edges", 0, "observable\ntest unstated\nnode 0.0@0:S\nnode 0.0@0:T\nedge 0.0@0:S 0.0@0:T\nend\n",
-            f'{S}StageName 1 "T".\nAxiom "x": forall microops "i", AddEdges [{edges}].\n', ONE,
-        )
+        self.on("a list of 40,000 edges", 0, "observable\ntest unstated\nnode 0.0@0:S\nnode 0.0@0:T\nedge 0.0@0:S 0.0@0:T\nend\n",
+                f'{S}StageName 1 "T".\nAxiom "x": forall microops "i", AddEdges [{edges}].\n', ONE)
         # each axiom has the size 1,000, and there are as many as the limit allows; so the tree has 997,000 literals
         million = f'{S}DefineMacro "k" "i": NodesExist [(i, S){"; (i, S)" * 996}].\n'
         million += 'Axiom "a": forall microops "i", ExpandMacro k i.\n' * 1000
         self.on("997,000 literals", 0, "observable\ntest unstated\nnode 0.0@0:S\nend\n", million, ONE)
-        self.on(
-            "one axiom past the limit of sizes", 3, "refused model too-big at 1003:1\n", f'{million}Axiom "b": True.\n', ONE
-        )
+        self.on("one axiom past the limit of sizes", 3, "refused model too-big at 1003:1\n", f'{million}Axiom "b": True.\n', ONE)
 
     def test_depths(self) -> None:
         """Each construct that may nest, at its limit, in an eighth of the usual stack; docs/faults.md names this stack."""
@@ -924,10 +653,8 @@ class Faults(Answers):
         rows += [("32 quantifiers in each other", f'Axiom "x": {quantifiers}True.\n')]
         empty = self.file("empty.test", 'Litmus "e".\n')
         for name, model in rows:
-            self.gives(
-                f"{name} in 1024 KiB of stack", [program(), "check", self.file("deep.uspec", model), empty], 0, FREE,
-                preexec_fn=within(resource.RLIMIT_STACK, 1024 * 1024),
-            )
+            self.gives(f"{name} in 1024 KiB of stack", [program(), "check", self.file("deep.uspec", model), empty], 0, FREE,
+                       preexec_fn=within(resource.RLIMIT_STACK, 1024 * 1024))
 
     def test_300_nodes(self) -> None:
         """A chain of those of one micro-op at 64 stages of each core, as far as they go: a program that gives up from some size on
@@ -936,9 +663,8 @@ class Faults(Answers):
         terms = [f"(i, ({k // 64}, S{k % 64}))" for k in range(300)]
         nodes = [f"0.0@{k // 64}:S{k % 64}" for k in range(300)]
         stages = lines(*(f'StageName {k} "S{k}".' for k in range(64)))
-        chain = stages + lines(
-            'Axiom "chain": forall microops "i", AddEdges [', *(f"({start}, {end});" for start, end in zip(terms, terms[1:])), "]."
-        )
+        chain = stages + lines('Axiom "chain": forall microops "i", AddEdges [',
+                               *(f"({start}, {end});" for start, end in zip(terms, terms[1:])), "].")
         back = f'Axiom "back": forall microops "i", AddEdge ({terms[299]}, {terms[0]}) \\/ AddEdge ({terms[299]}, {terms[1]}).\n'
         edges = [f"edge {start} {end}" for start, end in zip(nodes, nodes[1:])]
         graph = lines("observable", "test unstated", *(f"node {it}" for it in nodes), *edges, "end")
@@ -956,25 +682,6 @@ class Faults(Answers):
             self.shows(name, status, text, word, model, one)
             self.judged(f"{name}, verified", status, verified, model, one, text)
 
-    def test_a_checkout_with_new_times(self) -> None:
-        program()
-        copy, out = copy_checkout(f"{self.work}/copy", crates=("pipecheck_cli", "model_bench")), "crates/pipecheck_cli/out"
-        os.mkdir(f"{copy}/{out}")
-        for name in os.listdir(f"{TOP}/{out}"):
-            if name.endswith(("_cli", "_built")):
-                shutil.copy2(f"{TOP}/{out}/{name}", f"{copy}/{out}/{name}")
-        for name in ("pipecheck_cli", "model_bench"):
-            os.utime(f"{copy}/crates/{name}/src/main.rt")
-        check = [f"{copy}/pipecheck", "check", f"{TOP}/{PO}", f"{TOP}/{TWO}"]
-        self.gives("a source with a new time builds nothing", check, 0, ORDERED)
-
-    def test_memory(self) -> None:
-        """10,000 axioms take more memory than the 16 MiB that the shell and the program may have."""
-        self.gives(
-            "that memory was refused", ["./pipecheck", "check", self.file("many.uspec", MANY), TWO], 7, "",
-            "pipecheck: memory was refused, so there is no answer\n", preexec_fn=within(resource.RLIMIT_AS, 16384 * 1024),
-        )
-
     def test_standard_output(self) -> None:
         """Where it fails, whatever the words, nothing is seen of what was written."""
         check, itself, script = ["check", PO, TWO], [program()], [pipecheck()]
@@ -986,10 +693,8 @@ class Faults(Answers):
                 ("a full device, with no words", itself, ""),
                 ("a sweep on a full device", [*itself, "sweep", IN_ORDER, MP_PATTERN], ""),
                 ("that a full device could not be written", ["./pipecheck", *check], UNWRITTEN),
-                (
-                    "the forms of the commands, and that a full device could not be written", script,
-                    command_forms() + LACKING + UNWRITTEN,
-                ),
+                ("the forms of the commands, and that a full device could not be written", script,
+                 command_forms() + LACKING + UNWRITTEN),
                 ("a full device where the forms are asked for", [*script, "help"], UNWRITTEN),
                 ("a full device where the version is asked for", ["./pipecheck", "--version"], UNWRITTEN),
             ):

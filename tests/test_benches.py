@@ -153,9 +153,8 @@ class Counted(Benches):
     """What counts instructions and splits, by valgrind itself."""
 
     def test_counts(self) -> None:
-        names = (
-            "bench/runs.py on a ring of 8 cores", "bench/runs.py counts the splits of a ring of 8 cores that were counted before"
-        )
+        ring = "bench/runs.py on a ring of 8 cores"
+        names = ring, "bench/runs.py counts the splits of a ring of 8 cores that were counted before"
         if shutil.which("valgrind") is None:
             for it in (COUNTED[0], *names):
                 self.skips(it, "there is no valgrind")

@@ -44,8 +44,7 @@ class Checked(Cases):
         for name, start in starts.items():
             found = [it for it in lines if it.startswith(start)]
             lines = [it for it in lines if not it.startswith(start)]
-            with self.case(name):
-                self.assertEqual((said.status in (0, 1), found), (True, []))
+            self.same(name, (said.status in (0, 1), found), (True, []))
 
 
 class Shell(Checked):
@@ -83,10 +82,8 @@ class Types(Checked):
 
     def test_second(self) -> None:
         """the second implementation takes nothing of the other tools"""
-        taken = {
-            it for path in glob(f"{TOP}/tools/second/*.py")
-            for it in re.findall(r"(?m)^ *(?:from|import) (tools[\w.]*)", read(path))
-        }
+        texts = "".join(map(read, glob(f"{TOP}/tools/second/*.py")))
+        taken = {*re.findall(r"(?m)^ *(?:from|import) (tools[\w.]*)", texts)}
         self.assertEqual({it for it in taken if not it.startswith("tools.second")}, set())
 
     def test_entries(self) -> None:
@@ -121,29 +118,26 @@ class Families(Cases):
         os.mkdir(f"{self.work}/room")
         self.env = {"TESTED_PROGRAM": "/bin/true", "PIPECHECK_PROVED": "no", "TMPDIR": f"{self.work}/room"}
 
-    def runs(self, name: str, status: int, lines: list[str], *words: str, before: str = "") -> None:
-        """These words give these lines, in any order, behind the one that names the program."""
+    def runs(self, name: str, status: int, counts: str, lines: list[str], *words: str, before: str = "") -> None:
+        """These words give these lines, in any order, behind the one that names the program, and the one that counts so."""
         done = run(["bash", "-c", f'{before} exec tests/program "$@"', "bash", *words], cwd=self.top, env=self.env)
-        self.same(name, (done.status, sorted(done.out.splitlines()[1:]), done.err), (status, sorted(lines), ""))
+        wanted = sorted([*lines, f"{counts}, 0 skipped{BY_THAT_PROGRAM}"])
+        self.same(name, (done.status, sorted(done.out.splitlines()[1:]), done.err), (status, wanted, ""))
 
     def test_families(self) -> None:
-        good = ["ok      one", "ok      two", f"2 passed, 0 failed, 0 skipped{BY_THAT_PROGRAM}"]
-        slow = ["ok      test it", f"1 passed, 0 failed, 0 skipped{BY_THAT_PROGRAM}"]
-        self.runs("a family of which all cases pass", 0, good, "good")
-        self.runs(
-            "... in place of a shell that began something else", 0, slow, "slow",
-            before=f"until [ -e '{self.work}/begun' ]; do sleep 0.1; done &",
-        )
-        self.runs("one case by a part of its name", 0, [good[1], f"1 passed, 0 failed, 0 skipped{BY_THAT_PROGRAM}"], "good", "wo")
-        six = ["ok      six", f"1 passed, 0 failed, 0 skipped{BY_THAT_PROGRAM}"]
-        self.runs("... that stands under with", 0, six, "parts", "six")
-        self.runs("no case has that name", 1, [f"0 passed, 0 failed, 0 skipped{BY_THAT_PROGRAM}"], "good", "four")
-        both = ["ok      deep", "ok      flat", f"2 passed, 0 failed, 0 skipped{BY_THAT_PROGRAM}"]
-        self.runs("how deep Python goes one family says for itself", 0, both, "deep", "flat")
-        self.runs("one that cannot be read, and one whose process ends, fail, and the others run", 1, [
-            *good[:2], "FAILED  three: AssertionError: 3 != 4",
+        good = ["ok      one", "ok      two"]
+        self.runs("a family of which all cases pass", 0, "2 passed, 0 failed", good, "good")
+        self.runs("... in place of a shell that began something else", 0, "1 passed, 0 failed", ["ok      test it"], "slow",
+                  before=f"until [ -e '{self.work}/begun' ]; do sleep 0.1; done &")
+        self.runs("one case by a part of its name", 0, "1 passed, 0 failed", ["ok      two"], "good", "wo")
+        self.runs("... that stands under with", 0, "1 passed, 0 failed", ["ok      six"], "parts", "six")
+        self.runs("no case has that name", 1, "0 passed, 0 failed", [], "good", "four")
+        both = ["ok      deep", "ok      flat"]
+        self.runs("how deep Python goes one family says for itself", 0, "2 passed, 0 failed", both, "deep", "flat")
+        self.runs("one that cannot be read, and one whose process ends, fail, and the others run", 1, "2 passed, 3 failed", [
+            *good, "FAILED  three: AssertionError: 3 != 4",
             "FAILED  tests/test_unread.py can be read: AssertionError: ModuleNotFoundError(\"No module named 'no_such_module'\")",
-            "FAILED  tests.test_ended.It came to no end: status 0", f"2 passed, 3 failed, 0 skipped{BY_THAT_PROGRAM}",
+            "FAILED  tests.test_ended.It came to no end: status 0",
         ], "good", "unread", "ended", "wrong")
 
     def test_signals(self) -> None:

@@ -9,8 +9,6 @@ from __future__ import annotations
 import io
 import os
 import re
-import signal
-import subprocess
 from contextlib import redirect_stderr
 from dataclasses import dataclass
 from functools import cache
@@ -18,7 +16,8 @@ from glob import glob
 from typing import Any
 
 from tests.cases import (
-    PATIENCE, TOP, Cases, call, comes, command, pipecheck, program, read, run, tool, tool_entry, without_output, write
+    TOP, UNWRITTEN, USAGE, Beside, Cases, call, command, meant, missing, pipecheck, program, read, run, tool, tool_entry,
+    without_output, write
 )
 
 from tools.agree.machines import tso
@@ -74,6 +73,11 @@ def lines(names: str, states: str, condition: str) -> str:
     return f"{found}{title}: {form}: {model} in the model, {log} in the log\n"
 
 
+def of_sb(states: str, condition: str = "exists Ok Ok") -> str:
+    """What is said of SB."""
+    return lines("SB: 0:EAX 1:EAX", states, condition)
+
+
 def machine(head: str, states: str, said: str, observed: str) -> str:
     """A log of one test, as short as litmus7 writes it."""
     return f"Test {head}\nHistogram ({states.count('>')} states)\n{states}{said}\n\nWitnesses\nObservation {observed}\n"
@@ -102,7 +106,7 @@ Observation SB Sometimes 34 106
 Time SB 0.44
 
 """
-SB_BOTH = lines("SB: 0:EAX 1:EAX", "0 0 both 34, 0 1 both 52, 1 0 both 49, 1 1 both 5", "exists Ok Ok")
+SB_BOTH = of_sb("0 0 both 34, 0 1 both 52, 1 0 both 49, 1 1 both 5")
 R_MACHINE = machine("R Allowed", "1 :>1:EAX=0; [y]=1;\n8 *>1:EAX=0; [y]=2;\n3 :>1:EAX=1; [y]=1;\n", "Ok", "R Sometimes 8 4")
 R_BOTH = lines("R: 1:EAX [y]", "0 1 both 1, 0 2 both 8, 1 1 both 3, 1 2 unseen", "exists Ok Ok")
 FRAME = """%%%%%%%%%%%%%%%%%%%%%%%%%
@@ -145,7 +149,7 @@ Time SB 0.00
 Hash=7dbd6b8e6dd4abc2ef3d48b0376fb2e3
 
 """
-SB_LISTED = lines("SB: 0:EAX 1:EAX", "0 0 both, 0 1 both, 1 0 both, 1 1 both", "exists Ok Ok")
+SB_LISTED = of_sb("0 0 both, 0 1 both, 1 0 both, 1 1 both")
 R_HERD = herd("R Allowed", "1:EAX=0; y=1;\n1:EAX=0; y=2;\n1:EAX=1; y=1;\n", "Ok", "R Sometimes 1 2")
 R_LISTED = lines("R: 1:EAX y", "0 1 both, 0 2 both, 1 1 both, 1 2 model", "exists Ok Ok")
 
@@ -200,10 +204,10 @@ def changed(text: str, old: str, new: str) -> str:
 MACHINES = [
     Case("a machine with store buffers", SB_MACHINE, 0, SB_BOTH),
     Case("a machine that does what the model forbids", SB_MACHINE, 1,
-         lines("SB: 0:EAX 1:EAX", "0 0 BUG 34, 0 1 both 52, 1 0 both 49, 1 1 both 5", "exists No Ok"), model=IN_ORDER),
+         of_sb("0 0 BUG 34, 0 1 both 52, 1 0 both 49, 1 1 both 5", "exists No Ok"), model=IN_ORDER),
     Case("a state that did not come",
          machine("SB Allowed", "9 :>0:EAX=1; 1:EAX=0;\n1 :>0:EAX=0; 1:EAX=1;\n", "No", "SB Never 0 10"), 0,
-         lines("SB: 0:EAX 1:EAX", "1 0 both 9, 0 1 both 1, 0 0 unseen, 1 1 unseen", "exists Ok No")),
+         of_sb("1 0 both 9, 0 1 both 1, 0 0 unseen, 1 1 unseen", "exists Ok No")),
     Case("the listing, its assembler and what ran it", FRAME + SB_MACHINE + TRAILER, 0, SB_BOTH),
     Case("values of locations", R_MACHINE, 0, R_BOTH),
     Case("values of locations that the model forbids", R_MACHINE, 1,
@@ -212,9 +216,9 @@ MACHINES = [
     Case("lines that end with CR and LF", SB_MACHINE.replace("\n", "\r\n"), 0, SB_BOTH),
     Case("numbers with 0x",
          machine("SB Allowed", "2 *>0:EAX=0x0; 1:EAX=0x0;\n3 :>0:EAX=0x1; 1:EAX=0x1;\n", "Ok", "SB Sometimes 2 3"), 0,
-         lines("SB: 0:EAX 1:EAX", "0 0 both 2, 1 1 both 3, 0 1 unseen, 1 0 unseen", "exists Ok Ok")),
+         of_sb("0 0 both 2, 1 1 both 3, 0 1 unseen, 1 0 unseen")),
     Case("a value that nothing writes", machine("SB Allowed", "1 :>0:EAX=7; 1:EAX=1;\n", "No", "SB Never 0 1"), 1,
-         lines("SB: 0:EAX 1:EAX", "7 1 BUG 1, 0 0 unseen, 0 1 unseen, 1 0 unseen, 1 1 unseen", "exists Ok No")),
+         of_sb("7 1 BUG 1, 0 0 unseen, 0 1 unseen, 1 0 unseen, 1 1 unseen", "exists Ok No")),
     Case("~exists", machine("none Forbidden", "6 :>1:EAX=0;\n4 :>1:EAX=1;\n", "Ok", "none Never 0 10"), 0,
          lines("none: 1:EAX", "0 both 6, 1 both 4", "~exists Ok Ok")),
     Case("forall, and sides of a condition", machine("all Required", "6 *>1:EAX=0;\n4 *>1:EAX=1;\n", "Ok", "all Always 10 0"), 0,
@@ -229,29 +233,26 @@ MACHINES = [
          machine("locked Allowed", "2 *>0:EBX=0; 1:EBX=0;\n", "Ok", "locked Always 2 0"), 3, "",
          "log:1: not compared: locked has locked instructions, and the model asks for no type Locked\n", tests=("locked",),
          model=IN_ORDER, of=1),
-    Case("a test that comes twice", SB_MACHINE + SB_MACHINE, 0,
-         lines("SB: 0:EAX 1:EAX", "0 0 both 68, 0 1 both 104, 1 0 both 98, 1 1 both 10", "exists Ok Ok"),
+    Case("a test that comes twice", SB_MACHINE + SB_MACHINE, 0, of_sb("0 0 both 68, 0 1 both 104, 1 0 both 98, 1 1 both 10"),
          "log:18: SB comes again: its states are taken together with those of line 1\n"),
     Case("a test that comes twice, with other variables", SB_MACHINE + SB_MACHINE.replace("0:EAX=", "[x]="), 3, SB_BOTH,
          "log:18: SB has other variables than at line 1, and is left out here\n"),
     Case("a state that stands twice",
          machine("SB Allowed", "2 *>0:EAX=0; 1:EAX=0;\n1 *>0:EAX=0; 1:EAX=0;\n", "Ok", "SB Always 3 0"), 3,
-         lines("SB: 0:EAX 1:EAX", "0 0 both 3, 0 1 unseen, 1 0 unseen, 1 1 unseen", "exists Ok Ok"),
-         "log:4: the state stands here a second time\n"),
+         of_sb("0 0 both 3, 0 1 unseen, 1 0 unseen, 1 1 unseen"), "log:4: the state stands here a second time\n"),
     Case("an empty log", "", 3, "", NO_TEST + UNUSED),
     Case("blank lines", "\n \n\n", 3, "", NO_TEST + UNUSED),
     Case("a frame without a test", FRAME, 3, "", NO_TEST + UNUSED),
     Case("cut off behind the first line", "Test SB Allowed\n", 3, "", NO_STATES + UNUSED),
     Case("cut off between states", up_to(SB_MACHINE, "49 "), 3,
-         lines("SB: 0:EAX 1:EAX", "0 0 both 34, 0 1 both 52, 1 0 unseen, 1 1 unseen", "exists Ok Ok"), cut("2 are")),
-    Case("cut off in a state", up_to(SB_MACHINE, "; 1:EAX=1;\n49"), 3,
-         lines("SB: 0:EAX 1:EAX", "0 0 both 34, 0 1 unseen, 1 0 unseen, 1 1 unseen", "exists Ok Ok"),
+         of_sb("0 0 both 34, 0 1 both 52, 1 0 unseen, 1 1 unseen"), cut("2 are")),
+    Case("cut off in a state", up_to(SB_MACHINE, "; 1:EAX=1;\n49"), 3, of_sb("0 0 both 34, 0 1 unseen, 1 0 unseen, 1 1 unseen"),
          "log:4: no line of a log: 52    :>0:EAX=0\n" + cut("1 is")),
     Case("cut off behind the states", up_to(SB_MACHINE, "Witnesses"), 3, SB_BOTH, NO_OBSERVATION),
     Case("cut off in the counts", up_to(SB_MACHINE, "06\nTime"), 3, SB_BOTH,
          "log:15: 35 runs are counted here, and 140 in the states\n"),
     Case("cut off, and the model forbids what is left", up_to(SB_MACHINE, "52 "), 1,
-         lines("SB: 0:EAX 1:EAX", "0 0 BUG 34, 0 1 unseen, 1 0 unseen, 1 1 unseen", "exists No Ok"), cut("1 is"), model=IN_ORDER),
+         of_sb("0 0 BUG 34, 0 1 unseen, 1 0 unseen, 1 1 unseen", "exists No Ok"), cut("1 is"), model=IN_ORDER),
     Case("cut off between two tests", up_to(SB_MACHINE, "Ok") + R_MACHINE, 3, SB_BOTH + R_BOTH, NO_OBSERVATION),
     Case("one state more than is announced", changed(SB_MACHINE, "(4 states)", "(3 states)"), 3, SB_BOTH,
          "log:6: 3 states are announced, and here is one more\n"),
@@ -260,12 +261,12 @@ MACHINES = [
     Case("a line that no log has, behind a test", SB_MACHINE + "make: *** [run] Error 1\n", 3, SB_BOTH,
          "log:18: no line of a log: make: *** [run] Error 1\n"),
     Case("a value that is longer than any of a log", changed(SB_MACHINE, "5     :>0:EAX=1;", f"5     :>0:EAX={'9' * 5000};"), 3,
-         lines("SB: 0:EAX 1:EAX", "0 0 both 34, 0 1 both 52, 1 0 both 49, 1 1 unseen", "exists Ok Ok"),
+         of_sb("0 0 both 34, 0 1 both 52, 1 0 both 49, 1 1 unseen"),
          f"log:6: no line of a log: 5     :>0:EAX={'9' * 46}\n" + cut("3 are")),
     Case("a count that is longer than any of a log", changed(SB_MACHINE, "Sometimes 34 106", f"Sometimes 34 {'9' * 5000}"), 3,
          SB_BOTH, f"log:15: no line of a log: Observation SB Sometimes 34 {'9' * 32}\n{NO_OBSERVATION}"),
     Case("a count that is lost", changed(SB_MACHINE, "5     :>", ""), 3,
-         lines("SB: 0:EAX 1:EAX", "0 0 both 34, 0 1 both 52, 1 0 both 49, 1 1 unseen", "exists Ok Ok"),
+         of_sb("0 0 both 34, 0 1 both 52, 1 0 both 49, 1 1 unseen"),
          "log:6: no line of a log: 0:EAX=1; 1:EAX=1;\n" + cut("3 are")),
     Case("the first line of a test is lost", FRAME + changed(SB_MACHINE, "Test SB Allowed\n", ""), 3, "",
          """log:18: no line of a log: Histogram (4 states)
@@ -283,7 +284,7 @@ log:31: no line of a log: Observation SB Sometimes 34 106
          SB_MACHINE.replace("1:EAX=0;", "1:EAX=0; z=0;").replace("1:EAX=1;", "1:EAX=1; z=0;"), 3, "",
          "compare: not compared: SB: the listing has no location z\n", of=1),
     Case("no run", "Test SB Allowed\nHistogram (0 states)\nNo\nWitnesses\nObservation SB Never 0 0\n", 0,
-         lines("SB: 0:EAX 1:EAX", "0 0 unseen, 0 1 unseen, 1 0 unseen, 1 1 unseen", "exists Ok No")),
+         of_sb("0 0 unseen, 0 1 unseen, 1 0 unseen, 1 1 unseen", "exists Ok No")),
     Case("a listing of another condition", changed(SB_MACHINE, "Ok\n", "No\n"), 3, "",
          "log:1: not compared: the condition of the listing SB is not met as the log says: is it another listing?\n", of=1),
     Case("what is no log", "".join(f"line {number}\n" for number in range(100)), 3, "",
@@ -294,10 +295,10 @@ log:31: no line of a log: Observation SB Sometimes 34 106
 HERD = [
     Case("a model with store buffers", SB_HERD, 0, SB_LISTED),
     Case("a state that the model forbids", SB_HERD, 1,
-         lines("SB: 0:EAX 1:EAX", "0 0 herd, 0 1 both, 1 0 both, 1 1 both", "exists No Ok"), model=IN_ORDER),
+         of_sb("0 0 herd, 0 1 both, 1 0 both, 1 1 both", "exists No Ok"), model=IN_ORDER),
     Case("a state that herd forbids",
          herd("SB Allowed", "0:EAX=0; 1:EAX=1;\n0:EAX=1; 1:EAX=0;\n0:EAX=1; 1:EAX=1;\n", "No", "SB Never 0 3"), 0,
-         lines("SB: 0:EAX 1:EAX", "0 1 both, 1 0 both, 1 1 both, 0 0 model", "exists Ok No")),
+         of_sb("0 1 both, 1 0 both, 1 1 both, 0 0 model", "exists Ok No")),
     Case("values of locations", R_HERD, 0, R_LISTED),
     Case("locations alone", "Test R Allowed\nStates 2\n[x]=1; y=1;\n[x]=1; y=2;\nOk\nWitnesses\nObservation R Sometimes 1 3\n", 3,
          "", "log:1: not compared: the condition of the listing R is not met as the log says: is it another listing?\n",
@@ -329,31 +330,27 @@ HERD = [
          "log:15: SB comes again: its states are taken together with those of line 1\n"),
     Case("a test of both forms", SB_MACHINE + SB_HERD, 0, SB_BOTH + SB_LISTED),
     Case("a state that stands twice", changed(SB_HERD, "0:EAX=0; 1:EAX=1;\n", "0:EAX=0; 1:EAX=0;\n"), 3,
-         lines("SB: 0:EAX 1:EAX", "0 0 both, 1 0 both, 1 1 both, 0 1 model", "exists Ok Ok"),
-         "log:4: the state stands here a second time\n"),
+         of_sb("0 0 both, 1 0 both, 1 1 both, 0 1 model"), "log:4: the state stands here a second time\n"),
     Case("a name with a control character", "Test SB\x1b Allowed\n", 3, "",
          "log:1: no line of a log: $'Test SB\\u001b Allowed'\n" + UNUSED),
     Case("NUL bytes", "a" + "\0" * 10, 3, "", "log:1: no line of a log: $'a" + "\\u0000" * 10 + "'\n" + UNUSED),
     Case("cut off behind the first line", "Test SB Allowed", 3, "", NO_STATES + UNUSED),
     Case("cut off behind the number of states", up_to(SB_HERD, "0:EAX"), 3,
-         lines("SB: 0:EAX 1:EAX", "0 0 model, 0 1 model, 1 0 model, 1 1 model", "exists Ok No"), cut("0 are")),
-    Case("cut off in a state", up_to(SB_HERD, "1:EAX=1;\n0:EAX=1"), 3,
-         lines("SB: 0:EAX 1:EAX", "0 0 both, 0 1 model, 1 0 model, 1 1 model", "exists Ok Ok"),
+         of_sb("0 0 model, 0 1 model, 1 0 model, 1 1 model", "exists Ok No"), cut("0 are")),
+    Case("cut off in a state", up_to(SB_HERD, "1:EAX=1;\n0:EAX=1"), 3, of_sb("0 0 both, 0 1 model, 1 0 model, 1 1 model"),
          "log:4: the state has other variables than the first one\n" + cut("2 are")),
     Case("cut off behind the states", up_to(SB_HERD, "Condition"), 3, SB_LISTED, NO_OBSERVATION),
     Case("cut off in the last line that counts", up_to(SB_HERD, "times 1"), 3, SB_LISTED,
          "log:11: no line of a log: Observation SB Some\n" + NO_OBSERVATION),
     Case("cut off behind what counts", up_to(SB_HERD, "Hash"), 0, SB_LISTED),
     Case("cut off between two tests", up_to(SB_HERD, "0:EAX=1; 1:EAX=0;") + R_HERD, 3,
-         lines("SB: 0:EAX 1:EAX", "0 0 both, 0 1 both, 1 0 model, 1 1 model", "exists Ok Ok") + R_LISTED, cut("2 are")),
+         of_sb("0 0 both, 0 1 both, 1 0 model, 1 1 model") + R_LISTED, cut("2 are")),
     Case("one state more than is announced", changed(SB_HERD, "States 4", "States 3"), 3, SB_LISTED,
          "log:6: 3 states are announced, and here is one more\n"),
     Case("a line that no log has", changed(SB_HERD, "0:EAX=1; 1:EAX=0;\n", "0:EAX=1; 1:EAX\n"), 3,
-         lines("SB: 0:EAX 1:EAX", "0 0 both, 0 1 both, 1 1 both, 1 0 model", "exists Ok Ok"),
-         "log:5: no line of a log: 0:EAX=1; 1:EAX\n" + cut("3 are")),
+         of_sb("0 0 both, 0 1 both, 1 1 both, 1 0 model"), "log:5: no line of a log: 0:EAX=1; 1:EAX\n" + cut("3 are")),
     Case("a count in a list", changed(SB_HERD, "0:EAX=1; 1:EAX=1;", "3 :>0:EAX=1; 1:EAX=1;"), 3,
-         lines("SB: 0:EAX 1:EAX", "0 0 both, 0 1 both, 1 0 both, 1 1 model", "exists Ok Ok"),
-         "log:6: no line of a log: 3 :>0:EAX=1; 1:EAX=1;\n" + cut("3 are")),
+         of_sb("0 0 both, 0 1 both, 1 0 both, 1 1 model"), "log:6: no line of a log: 3 :>0:EAX=1; 1:EAX=1;\n" + cut("3 are")),
     Case("two numbers of states", changed(SB_HERD, "States 4\n", "States 4\nStates 4\n"), 3, SB_LISTED,
          "log:3: no line of a log: States 4\n"),
     Case("two numbers of states, and one state more",
@@ -460,18 +457,12 @@ class Words(Compared):
         self.judge(f"compare: {name}", done, status, out, err)
 
     def test_script(self) -> None:
-        form = """pipecheck compare MODEL LISTING.. LOG
-    Compares the states in a log of herd7 or litmus7 with those that the model
-    shows of the listings of the same names.
-pipecheck: these words are no command; how compare is called stands above
-"""
         write("bad.uspec", 'StageName 0 "S".\nAxiom "x": IsAnyRead i 7.\n')
         write("log 2", SB_MACHINE)
         write("-m", read(BUFFERS))
-        self.by_script("no log", [BUFFERS, "SB.litmus"], 2, "pipecheck: bad command line\n", form)
+        self.by_script("no log", [BUFFERS, "SB.litmus"], 2, USAGE, meant("compare"))
         self.by_script("names with a dash or a blank", ["-m", "SB.litmus", "log 2"], 0, counted(SB_BOTH), "")
-        self.by_script("a file that is not there", [BUFFERS, "gone.litmus", "log"], 4, "",
-                       "pipecheck: a file could not be read\npipecheck: gone.litmus is not there\n")
+        self.by_script("a file that is not there", [BUFFERS, "gone.litmus", "log"], 4, "", missing("gone.litmus"))
         self.by_script("a refused model", ["bad.uspec", "SB.litmus", "log"], 3, "", "bad.uspec:2:12: arity: the model is refused\n")
 
     def test_python(self) -> None:
@@ -497,8 +488,7 @@ pipecheck: these words are no command; how compare is called stands above
                        "/bin/true")
 
     def test_outputs(self) -> None:
-        unwritten = "pipecheck: standard output could not be written: what it got is not the whole answer\n"
-        for name, kind, said in (("a full device", "full", unwritten), ("a pipe whose reader has enough", "unread", "")):
+        for name, kind, said in (("a full device", "full", UNWRITTEN), ("a pipe whose reader has enough", "unread", "")):
             with without_output(kind) as how:
                 self.by_script(name, [BUFFERS, "SB.litmus", "log"], 5, "", said, **how)
 
@@ -512,11 +502,7 @@ pipecheck: these words are no command; how compare is called stands above
     def test_signal(self) -> None:
         os.mkdir("temporary")
         sleeper = self.stub("sleeper", 'echo $$ >"$0.pid"; exec sleep 600')
-        env = {**os.environ, "PIPECHECK": sleeper, "TMPDIR": f"{self.work}/temporary"}
-        with subprocess.Popen([pipecheck(), "compare", BUFFERS, "SB.litmus", "log"], env=env) as called:
-            is_called = comes(lambda: os.path.exists(f"{sleeper}.pid") and os.path.getsize(f"{sleeper}.pid") > 0)
-            called.send_signal(signal.SIGTERM)
-            status = called.wait(PATIENCE)
-        with self.case("compare: a signal ends all of it"):
-            is_there = os.path.exists(f"/proc/{read(f'{sleeper}.pid').strip()}")
-            self.assertEqual((is_called, status, is_there, os.listdir("temporary")), (True, -signal.SIGTERM, False, []))
+        env = {"PIPECHECK": sleeper, "TMPDIR": f"{self.work}/temporary"}
+        done = Beside([pipecheck(), "compare", BUFFERS, "SB.litmus", "log"], f"{sleeper}.pid", env).ended_by("TERM")
+        is_there = os.path.exists(f"/proc/{read(f'{sleeper}.pid').strip()}")
+        self.same("compare: a signal ends all of it", (done.status, is_there, os.listdir("temporary")), (143, False, []))

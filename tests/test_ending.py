@@ -8,8 +8,9 @@ import tempfile
 from typing import Any, Callable, ContextManager
 
 from tests.cases import (
-    PATIENCE, TOP, Cases, Done, call, program, replaced, script_entry, signal_unseen, tool_entry, write
+    PATIENCE, TOP, Cases, Done, call, done_by, done_by_unseen, program, replaced, script_entry, tool_entry, write
 )
+from tests.test_compare import machine
 
 from tools import ending
 from tools.build import builder
@@ -17,16 +18,7 @@ from tools.build.processes import SIGNALS
 from tools.suite.calling import Calls, side_by_side
 
 MODEL, TEST = "examples/in-order.uspec", "examples/mp.test"
-LOG = """Test SB Allowed
-Histogram (1 states)
-5     *>0:EAX=0; 1:EAX=0;
-Ok
-Witnesses
-Positive: 5, Negative: 0
-Condition exists (0:EAX=0 /\\ 1:EAX=0) is validated
-Observation SB Always 5 0
-
-"""
+LOG = machine("SB Allowed", "5 *>0:EAX=0; 1:EAX=0;\n", "Ok", "SB Always 5 0")
 # each tool that calls the program beside a folder of temporary files: its entry, and the words after its name
 TOOLS: dict[str, tuple[Callable[[], object], list[str]]] = {
     "mend": (tool_entry("mend.main"), [MODEL, TEST]),
@@ -49,12 +41,9 @@ class Ended(Cases):
             with self.signalled(room, moment):
                 return entry()
 
-        env = {
-            "TMPDIR": room, "PIPECHECK": program(), "SUITE_FOLDER": f"{self.work}/kept", "SUITE_KEPT": None,
-            "SUITE_SECONDS": str(PATIENCE),
-        }
+        suite = {"SUITE_FOLDER": f"{self.work}/kept", "SUITE_KEPT": None, "SUITE_SECONDS": str(PATIENCE)}
         said = [it.replace("WORK", self.work).replace("PROGRAM", program()) for it in words]
-        return call(begin, ["tool", *said], env=env)
+        return call(begin, ["tool", *said], env={"TMPDIR": room, "PIPECHECK": program(), **suite})
 
     def signalled(self, room: str, moment: str) -> ContextManager[None]:
         """Has the signal come when a function of `os` is first called of what stands in the folder for temporary files: before it
@@ -110,18 +99,15 @@ class Ended(Cases):
     def test_unseen(self) -> None:
         """A signal that Python does not see at once while a call waits for another one that builds."""
 
-        def work() -> int:
-            # where it is not seen, the clock ends this process
-            signal.alarm(PATIENCE)
-            SIGNALS.receive()
-            signal_unseen()
+        def work() -> None:
             with replaced(builder, "OUT", self.work), builder.in_turn("pipecheck"):
-                return 0
+                pass
 
         said = "pipecheck: another call is building the program: waiting for it\n"
         with open(f"{self.work}/pipecheck_lock", "wb") as lock:
             fcntl.flock(lock, fcntl.LOCK_EX)
-            self.same("TERM comes while a call waits for another one that builds", done_by(SIGNALS, work), Done(143, "", said))
+            done = done_by_unseen(SIGNALS, work)
+        self.same("TERM comes while a call waits for another one that builds", done, Done(143, "", said))
 
     def test_removed(self) -> None:
         """A signal that comes just before a folder is to be removed."""
@@ -158,8 +144,3 @@ class Ended(Cases):
         done = done_by(signals, work)
         self.same("what is held is done, and the first of two signals ends the tool", (done, os.path.exists(f"{self.work}/held")),
                   (Done(129, "", ""), True))
-
-
-def done_by(signals: ending.Signals, work: Callable[[], int]) -> Done:
-    """What a tool wrote that does this work, and how it ended."""
-    return call(lambda: signals.status_or_end(work), [])

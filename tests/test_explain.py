@@ -15,10 +15,10 @@ from threading import Thread
 from typing import Any, Sequence
 
 from tests.cases import (
-    TOP, Cases, Done, call, command, commands_without, heed_signals, pipecheck, program, read, replaced, run, status_of, within,
-    without_output, without_proofs, write
+    MP, NO_TEST, TOP, UNWRITTEN, VERDICT, Cases, Done, as_a_job, call, command, commands_without, missing, pipecheck, program,
+    read, replaced, run, status_of, told, within, without_output, without_proofs, write
 )
-from tests.test_answers import ABSENT, EITHER, NEVER, ONE, SIGNS, SPOILT, UNWRITTEN, WALK
+from tests.test_answers import ABSENT, EITHER, NEVER, ONE, SIGNS, SPOILT, WALK
 
 from tools.explain import judged
 from tools.texts import origins
@@ -26,7 +26,6 @@ from tools.second.standard_output import status_of as status_of_main
 
 SB = ("examples/store-buffer.uspec", "examples/sb.test")
 SB_GRAPH = "examples/certificates/sb.txt"
-MP = ("examples/in-order.uspec", "examples/mp.test")
 TWO = ("examples/po-and-reverse.uspec", "examples/two-forbidden.test")
 TWO_LIFTED = "examples/lifted/two.txt"
 REFUTED = "unobservable: no run of this model shows the outcome\n"
@@ -39,6 +38,12 @@ def explained(*files: str, width: int = 0, **how: Any) -> Done:
     """What `pipecheck explain` says of these files in lines of so many columns, as it calls Python for that."""
     env = {**PLAIN, "COLUMNS": str(width) if width else None}
     return call(lambda: status_of_main(judged.main, sys.argv[1:]), ["judged", program(), *files], env=env, **how)
+
+
+def shown(*words: str) -> str:
+    """What docs/explain.md shows of these words of `explain`. A line `...` stands for others, and the first one is left out."""
+    behind = read("docs/explain.md").partition(f"$ ./pipecheck explain {' '.join(words)}\n")[2]
+    return behind.partition("```")[0].removeprefix("...\n")
 
 
 @dataclass(frozen=True)
@@ -193,12 +198,6 @@ Every branch is closed.
     Row("axioms that constants make false", """false: the constants of the axioms alone make them false for this test
 Every branch is closed.
 """, NEVER, "examples/two.test", part=BODY),
-    Row("splits that leave one side", """axiom "Stages are in order" at 46:1, i = 0.0, j = 1.0, in macro Follow:
-  split 94 at 41:4: 0.0@0:Decode before 1.0@0:Decode, since 0.0@0:Fetch before 1.0@0:Fetch
-      "program order" by axiom "Fetch is in program order" at 35:1, i = 0.0, j = 1.0
-  split 98 at 42:4: 0.0@0:Execute before 1.0@0:Execute, since 0.0@0:Decode before 1.0@0:Decode
-""", "examples/models/sc-inorder.uspec", "examples/tests/3.SB+fences.test", "examples/certificates/3.SB+fences.txt",
-        r" cannot be:\n((?:.*\n){4})"),
     Row("a refutation of version 2", """axiom "s" at 4:1, i = 0.0:
   split 1: 0.0@0:S is not there or 0.0@0:T is not there; 0.0@0:U is there, since 0.0@0:T is not
       there
@@ -372,6 +371,7 @@ class Words(Cases):
             self.assertNotEqual(lifted, [])
 
 
+# behind its key each is as the page shows it
 GRAPH = """observable: a run of this model shows the outcome
 test forbidden: BUG
 
@@ -384,24 +384,9 @@ The micro-ops of the test:
 
 Places are lines and columns of examples/store-buffer.uspec.
 
-One order of the run, a step a line, in the column of the micro-op's core:
-step  core 0    core 1
-   1  0.0 Exec
-   2            2.0 Exec
-   3  1.0 Exec
-   4            2.0 Mem
-   5            3.0 Exec
-   6  0.0 Mem
-
-The edges between micro-ops of two cores, which carry the values:
-  1.0@0:Exec before 2.0@1:Mem   "fr" by axiom "read" at 11:1, i = 1.0, v = 2.0
-  3.0@1:Exec before 0.0@0:Mem   "fr" by axiom "read" at 11:1, i = 3.0, v = 0.0
-
-Where the values of reads come from:
-  1.0 reads [y] = 0 from the start   "fr" by axiom "read" at 11:1, i = 1.0, v = 2.0
-  3.0 reads [x] = 0 from the start   "fr" by axiom "read" at 11:1, i = 3.0, v = 0.0
-"""
-LIFTED = """unobservable: no run of this model shows the outcome
+""" + shown(*SB)
+FACTS, LEAF = shown(*TWO, TWO_LIFTED).split("...\n")
+LIFTED = f"""unobservable: no run of this model shows the outcome
 test forbidden: ok
 
 The micro-ops of the test:
@@ -411,18 +396,7 @@ The micro-ops of the test:
 
 Places are lines and columns of examples/po-and-reverse.uspec.
 
-The axioms are the first facts:
-  0: axiom "PO" at 4:1
-  1: axiom "rev" at 6:1
-
-Each line adds a fact, or splits a branch, or closes one by what cannot be:
-inst 0 0.0: fact 2, forall microop j, ProgramOrder 0.0 j => 0.0@0:S before (j, S)
-    from axiom 0 with i = 0.0
-inst 2 1.0: fact 3, ProgramOrder 0.0 1.0 => 0.0@0:S before 1.0@0:S
-    from axiom 0 with i = 0.0 and j = 1.0
-split 3: fact 4, 0.0@0:S before 1.0@0:S, since ProgramOrder 0.0 1.0 holds in this test
-    from axiom 0 with i = 0.0 and j = 1.0
-member 4 0: fact 5, 0.0@0:S before 1.0@0:S   "po" from axiom 0 with i = 0.0 and j = 1.0
+{FACTS}member 4 0: fact 5, 0.0@0:S before 1.0@0:S   "po" from axiom 0 with i = 0.0 and j = 1.0
 inst 1 0.0: fact 6, forall microop j, ProgramOrder 0.0 j => (j, S) before 0.0@0:S
     from axiom 1 with i = 0.0
 inst 6 1.0: fact 7, ProgramOrder 0.0 1.0 => 1.0@0:S before 0.0@0:S
@@ -430,11 +404,7 @@ inst 6 1.0: fact 7, ProgramOrder 0.0 1.0 => 1.0@0:S before 0.0@0:S
 split 7: fact 8, 1.0@0:S before 0.0@0:S, since ProgramOrder 0.0 1.0 holds in this test
     from axiom 1 with i = 0.0 and j = 1.0
 member 8 0: fact 9, 1.0@0:S before 0.0@0:S   "rev" from axiom 1 with i = 0.0 and j = 1.0
-cycle 5 9: no order has one
-  0.0@0:S before 1.0@0:S   "po" from axiom 0 with i = 0.0 and j = 1.0
-  1.0@0:S before 0.0@0:S   "rev" from axiom 1 with i = 0.0 and j = 1.0
-Every branch is closed.
-"""
+{LEAF}"""
 REFUSED = "certificate refused at line 3\n"
 UNTAKEN = (
     ("a full device", "full", SB, UNWRITTEN),
@@ -464,52 +434,26 @@ class Script(Cases):
         from this one."""
         if how.keys() - {"cwd"}:
             self.gives(name, [pipecheck(), "explain", *words], status, out, err, **{**how, "env": {**PLAIN, **how.get("env", {})}})
-        elif self.is_wanted(name):
-            self.judge(name, explained(*words, **how), status, out, err)
+        else:
+            self.judge(name, lambda: explained(*words, **how), status, out, err)
 
     def test_files(self) -> None:
         here = [f"{TOP}/pipecheck", "explain"]
-        self.gives("a refutation without a choice", [*here, *MP], 1, """unobservable: no run of this model shows the outcome
-test forbidden: ok
-
-The micro-ops of the test:
-  0.0 core 0 writes [x] = 1
-  1.0 core 0 writes [y] = 1
-  2.0 core 1 reads [y] = 1
-  3.0 core 1 reads [x] = 0
-  [x] is PA 0 0, [y] is PA 1 0
-
-Places are lines and columns of examples/in-order.uspec.
-
-The model leaves no choice, and what it asks for cannot be:
-cycle: no order has one
-  0.0@0:Mem before 1.0@0:Mem   "po" by axiom "PO" at 5:1, i = 0.0, j = 1.0
-  1.0@0:Mem before 2.0@1:Mem   "rf" by axiom "read" at 7:1, i = 2.0, w = 1.0
-  2.0@1:Mem before 3.0@1:Mem   "po" by axiom "PO" at 5:1, i = 2.0, j = 3.0
-  3.0@1:Mem before 0.0@0:Mem   "fr" by axiom "read" at 7:1, i = 3.0, v = 0.0
-Every branch is closed.
-""", env=PLAIN)
+        self.gives("a refutation without a choice", [*here, *MP], 1, shown(*MP), env=PLAIN)
         self.gives("a graph that check finds", [*here, *SB], 0, GRAPH, env=PLAIN)
         self.explains("a graph that is given", [*SB, SB_GRAPH], 0, GRAPH)
         self.explains("a lifted refutation", [*TWO, TWO_LIFTED], 1, LIFTED)
         spoilt = write(f"{self.work}/spoilt", re.sub("(?m)^false 8$", "false 9", read(TWO_LIFTED)))
         self.explains("a refused lifted refutation, and nothing else", [*TWO, spoilt], 6, "certificate refused at line 12\n")
         self.explains("a refused certificate, and nothing else", [*MP, SPOILT], 6, REFUSED)
-        self.explains("a refused file", [MP[0], MP[0]], 3, "refused test syntax at 2:1\n", """\
-examples/in-order.uspec:2:1: syntax: no test can continue with this token
-    StageName 0 "Exec".
-    ^
-pipecheck: `Litmus` or `Litmus2` is expected
-pipecheck: examples/in-order.uspec is a model, and stands for the test: check MODEL TEST
-""")
-        self.explains("a certificate that is not there", [*MP, f"{self.work}/gone"], 4, "",
-                      f"pipecheck: a file could not be read\npipecheck: {self.work}/gone is not there\n")
+        self.explains("a refused file", [MP[0], MP[0]], 3, "refused test syntax at 2:1\n",
+                      told(MP[0], "2:1", NO_TEST, "`Litmus` or `Litmus2`")
+                      + f"pipecheck: {MP[0]} is a model, and stands for the test: check MODEL TEST\n")
+        gone = f"{self.work}/gone"
+        self.explains("a certificate that is not there", [*MP, gone], 4, "", missing(gone))
         opened = write(f"{self.work}/open.litmus", read("examples/x86/SB.litmus").replace(" /\\ 1:EAX=0", ""))
         self.explains("a refused listing", [SB[0], opened], 3, "refused test x86-open at 9:20\n",
-                      f"""{opened}:9:20: x86-open: the condition gives this register no value
-     MOV EAX,[y] | MOV EAX,[x] ;
-                       ^
-""")
+                      told(opened, "9:20", "x86-open: the condition gives this register no value"))
         model, test = write(f"{self.work}/model.uspec", ""), write(f"{self.work}/each.test", EACH)
         # sets have another order with each seed
         for seed in ("1", "2"):
@@ -521,7 +465,7 @@ pipecheck: examples/in-order.uspec is a model, and stands for the test: check MO
         missing = "pipecheck: explain is written in Python, and there is no python3 here\n"
         self.explains("without Python", MP, 125, "", missing, env=path)
         self.gives("a verdict without Python", [f"{TOP}/pipecheck", "check", *MP], 1,
-                   "unobservable\ntest forbidden: ok\ncycle 0.0@0:Mem 1.0@0:Mem 2.0@1:Mem 3.0@1:Mem\nend\n", env=path)
+                   VERDICT, env=path)
 
     def test_output(self) -> None:
         for name, kind, words, said in UNTAKEN:
@@ -599,8 +543,7 @@ pipecheck: a text in quotes is expected
         line = "; ".join(f"((i, S{k}), (i, S{k + 1}))" for k in range(63))
         model = write(f"{self.work}/line.uspec", "".join(f'StageName {k} "S{k}".\n' for k in range(64))
                       + f'Axiom "line": forall microops "i", AddEdges [{line}].\n')
-        with self.case("a certificate of more than 4 KiB"):
-            self.assertGreater(len(run([program(), "check", model, "examples/two.test"]).out), 4096)
+        self.holds("a certificate of more than 4 KiB", len(run([program(), "check", model, "examples/two.test"]).out) > 4096)
         words = [*mount, pipecheck(), "explain", model, "examples/two.test"]
         self.gives(name, words, 125, "", unkept("the answer of check", small), env=PLAIN)
 
@@ -612,20 +555,13 @@ pipecheck: a text in quotes is expected
         self.judge("another checker", run(explains, env={**PLAIN, "PIPECHECK": checker}), 0, GRAPH)
         several: dict[str, str | None] = {**PLAIN, "PIPECHECK": f"env 'LANG=a b' '{checker}'"}
         self.judge("... of several words", run([*explains, SB_GRAPH], env=several), 0, GRAPH)
-        with self.case("... checks and judges"):
-            self.assertEqual(sorted(read(called).split()), ["check", "verify", "verify"])
+        self.same("... checks and judges", sorted(read(called).split()), ["check", "verify", "verify"])
         gone = f"{self.work}/gone"
         self.explains("a checker that is none", SB, 125, "", f"pipecheck: PIPECHECK is no command: {gone}\\ x\n",
                       env={"PIPECHECK": f"{gone} x"})
         self.explains("a checker that says nothing", SB, 125, "",
                       "pipecheck: no judge: the checker ended with status 0 and not with its verdict\n", env={"PIPECHECK": "true"})
         self.explains("a checker that refuses", [*MP, SPOILT], 6, REFUSED, env={"PIPECHECK": f"'{checker}'"})
-
-
-def attend_signals() -> None:
-    """Has this process in a group of its own, which ignores no signal, as one does that runs beside a shell."""
-    os.setsid()
-    heed_signals()
 
 
 QUIT = "pipecheck: the signal QUIT ended the program, so there is no answer: docs/faults.md, 'A signal'\n"
@@ -642,7 +578,7 @@ class Endings(Cases):
     def quits(self, name: str, words: Sequence[str], **env: str) -> None:
         """Of what is said those lines are the script's that begin with its name."""
         if self.is_wanted(name):
-            done = without_proofs(run([f"{TOP}/pipecheck", *words], env={**PLAIN, **env}, preexec_fn=attend_signals))
+            done = without_proofs(run([f"{TOP}/pipecheck", *words], env={**PLAIN, **env}, preexec_fn=as_a_job))
             said = "".join(re.findall("(?m)^pipecheck: .*\n", done.err))
             self.judge(name, Done(done.status, done.out, said), 131, "", QUIT)
 
@@ -673,16 +609,14 @@ class Endings(Cases):
         for name in ("HUP", "INT", "TERM"):
             with self.case(f"{name} while the folder is made leaves none"):
                 env: dict[str, str | None] = {**PLAIN, "ENDED_BY": name, "TMPDIR": folders, "PATH": path}
-                done = run([f"{TOP}/pipecheck", "core", *SB], env=env, preexec_fn=attend_signals)
+                done = run([f"{TOP}/pipecheck", "core", *SB], env=env, preexec_fn=as_a_job)
                 self.assertEqual((done.status, os.listdir(folders)), (128 + signal.Signals[f"SIG{name}"], []))
 
     def test_interrupt(self) -> None:
         """Ctrl-C at eight moments of the beginning: nothing is said"""
         for delay in (0.03, 0.04, 0.05, 0.06, 0.07, 0.08, 0.1, 0.12):
-            with subprocess.Popen(
-                [f"{TOP}/pipecheck", "explain", *SB], cwd=TOP, stdin=subprocess.DEVNULL, stdout=subprocess.DEVNULL,
-                stderr=subprocess.PIPE, preexec_fn=attend_signals,
-            ) as process:
+            with subprocess.Popen([f"{TOP}/pipecheck", "explain", *SB], cwd=TOP, stdin=subprocess.DEVNULL,
+                                  stdout=subprocess.DEVNULL, stderr=subprocess.PIPE, preexec_fn=as_a_job) as process:
                 time.sleep(delay)
                 os.killpg(process.pid, signal.SIGINT)
                 said = process.communicate()[1].decode()

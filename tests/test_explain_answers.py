@@ -5,9 +5,9 @@ from __future__ import annotations
 
 import re
 
-from tests.cases import Cases, Done, pipecheck, program, run, without_proofs, write
+from tests.cases import Cases, Done, missing, pipecheck, program, run, told, without_proofs, write
 from tests.test_answers import ONE
-from tests.test_explain import PLAIN, explained, odds, refutation_of_odds
+from tests.test_explain import PLAIN, explained, odds, refutation_of_odds, shown
 
 SC, TSO, TUTORIAL = (f"examples/models/{name}.uspec" for name in ("sc-inorder", "tso-ooo", "tutorial"))
 LONG = (SC, "examples/tests/3.SB+fences.test", "examples/certificates/3.SB+fences.txt")
@@ -65,12 +65,7 @@ absent: 0.0@0:T is asked for and denied
   0.0@0:T is not there   axiom "deny" at 5:1, i = 0.0
 Every branch is closed.
 """
-SAID_OF_CORE = """core 4: these axioms alone forbid the outcome, and without any one of them the others allow it
-  axiom 0: "Path" at 26:1
-  axiom 2: "Commit is in program order" at 31:1
-  axiom 3: "The store queue drains in order" at 34:1
-  axiom 6: "Reads" at 72:1
-"""
+SAID_OF_CORE = shown(*CORE, "core.txt").partition("...\n")[0]
 NAMED_CORE = """examples/models/tutorial.uspec:26:1: axiom 0: "Path"
 examples/models/tutorial.uspec:31:1: axiom 2: "Commit is in program order"
 examples/models/tutorial.uspec:34:1: axiom 3: "The store queue drains in order"
@@ -117,8 +112,7 @@ class Refutations(Cases):
         with self.case("its splits are all there"):
             self.assertEqual(sum(" split " in f" {line}" and ", since " in line for line in said.out.splitlines()), 31)
         self.shows("it is judged", 1, "verified unobservable\n", "verify", *LONG)
-        with self.case("100 columns where nothing says how many"):
-            self.assertEqual(said, explained(*LONG, width=USUAL))
+        self.same("100 columns where nothing says how many", said, explained(*LONG, width=USUAL))
 
     def test_sides(self) -> None:
         for name, model, certificate, wanted in (
@@ -150,8 +144,7 @@ class Refutations(Cases):
                     self.assertTrue(is_narrow(narrow, width))
                     # a word that is longer than a line is broken, too; a table is written anew where it is too wide
                     self.assertTrue("".join(narrow.split()) == "".join(wide.split()) or "core 0  0.0 " in narrow)
-        with self.case("a table that is too wide names the cores"):
-            self.assertIn("\nstep\n   1  core 0  0.0 ", explained(*graph, width=40).out)
+        self.holds("a table that is too wide names the cores", "\nstep\n   1  core 0  0.0 " in explained(*graph, width=40).out)
 
 
 BESIDE = "pipecheck: an answer of ask is explained beside its query: explain MODEL TEST ANSWER QUERY\n"
@@ -185,11 +178,9 @@ class Answers(Cases):
             self.assertEqual(headings, ["refutation", "without 0", "without 2", "without 3", "without 6"])
             self.assertEqual((done.status, done.out[:len(SAID_OF_CORE)], done.err), (0, SAID_OF_CORE, ""))
             self.assertIn('without 3: a run of the others without axiom "The store queue', done.out)
-        with self.case("core: within 100 columns"):
-            self.assertTrue(is_narrow(done.out, USUAL))
+        self.holds("core: within 100 columns", is_narrow(done.out, USUAL))
         none = self.script("core", *NEVER[:2])
-        with self.case("core none: no names"):
-            self.assertEqual((none.status, none.out.split("\n")[0], none.err), (0, "core none", ""))
+        self.same("core none: no names", (none.status, none.out.split("\n")[0], none.err), (0, "core none", ""))
         with self.case("core none: the graph"):
             done = self.script("explain", *NEVER[:2], write(f"{self.work}/none", none.out))
             self.assertEqual((done.status, done.out.partition(" axioms")[0]), (0, "core none: no"))
@@ -231,16 +222,15 @@ class Answers(Cases):
         wrong = write(f"{self.work}/word", answer.replace("ask sometimes", "ask always"))
         faulty = write(f"{self.work}/faulty.query", 'forall microop "i",\n  NodeExists (i, Nowhere)')
         gone = f"{self.work}/gone"
-        unread = f"pipecheck: a file could not be read\npipecheck: {gone} is not there\n"
-        told = f"{faulty}:2:18: stage-unknown: no stage has the name\n      NodeExists (i, Nowhere)\n{' ' * 21}^\n"
+        said = told(faulty, "2:18", "stage-unknown: no stage has the name")
         for name, words, status, out, err in (
             ("ask: a word that does not follow", (*ASK, wrong, QUERY), 6, refused(answer.split("\n").index("against") + 2), ""),
             # that query holds in both worlds
             ("ask: the answer to another query", (*ASK, path, NEVER[2]), 6, refused(len(answer.splitlines()) - 1), ""),
-            ("ask: a query with a fault", (*ASK, path, faulty), 3, "refused query stage-unknown at 2:18\n", told),
+            ("ask: a query with a fault", (*ASK, path, faulty), 3, "refused query stage-unknown at 2:18\n", said),
             ("a certificate beside a query", (*LONG, QUERY), 125, "", ONLY),
-            ("ask: beside a query that is not there", (*ASK, path, gone), 4, "", unread),
-            ("an answer that is not there, beside a query", (*ASK, gone, QUERY), 4, "", unread),
+            ("ask: beside a query that is not there", (*ASK, path, gone), 4, "", missing(gone)),
+            ("an answer that is not there, beside a query", (*ASK, gone, QUERY), 4, "", missing(gone)),
         ):
             self.gives(name, [pipecheck(), "explain", *words], status, out, err, env=PLAIN)
         # as deep as a formula may be, so that its denial is deeper

@@ -12,8 +12,8 @@ import subprocess
 from typing import Any, Callable, Iterator, Mapping, Sequence
 
 from tests.cases import (
-    NO_TOOLCHAIN, TOP, Beside, Done, InACheckout, as_proved, at_once, call, command, command_forms, copy_checkout, hash_of,
-    heed_signals, holding, program, read, run, tool, within, write
+    MP, NO_TEST, NO_TOOLCHAIN, OUT, TOP, VERDICT, Beside, Done, InACheckout, as_proved, at_once, call, command, command_forms,
+    copy_checkout, hash_of, heed_signals, holding, program, read, run, told, tool, within, write
 )
 
 # where these stand tests.cases says
@@ -21,12 +21,9 @@ from tools.install import installer
 from tools.second.models import RESERVED
 from tools.second.predicates import PREDICATES
 
-MP = ("examples/in-order.uspec", "examples/mp.test")
-VERDICT = "unobservable\ntest forbidden: ok\ncycle 0.0@0:Mem 1.0@0:Mem 2.0@1:Mem 3.0@1:Mem\nend\n"
 NAMES = "pipecheck, pipecheck-suite, their man pages, completion for bash, zsh and fish"
 USAGE = "call it as ./install [PREFIX], or ./install --uninstall [PREFIX]; --help says more"
 NO_HOME = "install: HOME says no folder, so name one: ./install PREFIX\n"
-OUT = "crates/pipecheck_cli/out"
 SHELLS = ("bash", "zsh", "fish")
 BY_BASH = """. "$1"
 for line in "${@:2}"; do
@@ -152,13 +149,10 @@ class Installed(Installs):
     def test_commands(self) -> None:
         for name, status, out, err, words in (
             ("check", 1, VERDICT, "", ("check", "in-order.uspec", "mp.test")),
-            ("a refusal with its sentence", 3, "refused test syntax at 2:1\n", """\
-in-order.uspec:2:1: syntax: no test can continue with this token
-    StageName 0 "Exec".
-    ^
-pipecheck: `Litmus` or `Litmus2` is expected
-pipecheck: in-order.uspec is a model, and stands for the test: check MODEL TEST
-""", ("check", "in-order.uspec", "in-order.uspec")),
+            ("a refusal with its sentence", 3, "refused test syntax at 2:1\n",
+             told("in-order.uspec", "2:1", NO_TEST, "`Litmus` or `Litmus2`", self.work)
+             + "pipecheck: in-order.uspec is a model, and stands for the test: check MODEL TEST\n",
+             ("check", "in-order.uspec", "in-order.uspec")),
             ("help", 0, command_forms(), "", ("help",)),
             ("lint", 0, "", "", ("lint", "in-order.uspec", "mp.test")),
             ("nothing to clean", 125, "", "pipecheck: an installed copy has nothing to clean\n", ("--clean",)),
@@ -180,9 +174,8 @@ pipecheck: in-order.uspec is a model, and stands for the test: check MODEL TEST
             "calls", "completion.bash", "completion.fish", "completion.zsh", "standing", "telling",
         ])
         os.rename(f"{self.tree}/docs", f"{self.tree}/away")
-        self.holds(
-            "without its pages a refusal is told", self.answer("pipecheck", "check", "in-order.uspec", "in-order.uspec").status == 3
-        )
+        self.holds("without its pages a refusal is told",
+                   self.answer("pipecheck", "check", "in-order.uspec", "in-order.uspec").status == 3)
         os.rename(f"{self.tree}/away", f"{self.tree}/docs")
 
     def test_the_suite_and_the_machines(self) -> None:
@@ -192,19 +185,16 @@ pipecheck: in-order.uspec is a model, and stands for the test: check MODEL TEST
         rows = [it for it in done.out.splitlines() if it.startswith(("test ", "mine "))]
         self.same("installed: the suite", (done.status, rows), (0, ["test  tutorial", "mine  ok"]))
         self.answer("pipecheck-suite", model, env={"HOME": user, "XDG_CACHE_HOME": "", "SUITE_TESTS": "tests"})
-        self.holds(
-            "installed: where the suite keeps certificates",
-            os.path.exists(f"{user}/.cache/pipecheck/suite/tutorial/mine.test.certificate"),
-        )
+        self.holds("installed: where the suite keeps certificates",
+                   os.path.exists(f"{user}/.cache/pipecheck/suite/tutorial/mine.test.certificate"))
         its = [f"{examples}/{it}" for it in ("models/tso-ooo.uspec", "tests/SB.test", "patterns/SB.pattern")]
         done = self.run_it([*tool("agree", self.tree), *its], cwd=self.work)
         swept = done.status, re.findall("swept by .*", done.out)
         self.same("installed: the machines of memory models, and the program sweeps", swept, (0, ["swept by the program"]))
-        self.does(
-            "installed: agree, on all small programs", 0,
-            "tso-ooo.uspec: 6 programs\nswept by the program\n6 agree, 0 differ\n", "",
-            [f"{self.prefix}/bin/pipecheck", "agree", "--all", "2,1+1", its[0]], env={"SUITE_FOLDER": "kept"}, cwd=self.work,
-        )
+        self.does("installed: agree, on all small programs", 0,
+                  "tso-ooo.uspec: 6 programs\nswept by the program\n6 agree, 0 differ\n", "",
+                  [f"{self.prefix}/bin/pipecheck", "agree", "--all", "2,1+1", its[0]], env={"SUITE_FOLDER": "kept"},
+                  cwd=self.work)
 
     def test_man_pages(self) -> None:
         pages = {it: f"{self.prefix}/share/man/man1/{it}.1" for it in ("pipecheck", "pipecheck-suite")}
@@ -338,19 +328,16 @@ class Refusals(Installs):
         for name in ("bin", "lib", "share/man"):
             with self.way(name) as way:
                 os.symlink(foreign, f"{way}/{name}")
-                self.refuses(
-                    f"a link in place of the folder {name}",
-                    f"{way}/{name} is a link, so that what is installed there would stand elsewhere", way,
-                )
+                self.refuses(f"a link in place of the folder {name}",
+                             f"{way}/{name} is a link, so that what is installed there would stand elsewhere", way)
                 self.holds("... there neither", os.listdir(foreign) == [])
                 os.remove(f"{way}/{name}")
                 write(f"{way}/{name}", "mine\n")
                 self.refuses(f"a file in place of the folder {name}", f"{way}/{name} is no folder", way)
         for name in ("pipecheck", "pipecheck.1", "pipecheck.2"):
             with self.way(f"lib/{name}/it") as way:
-                self.refuses(
-                    f"a folder lib/{name} that is not of an installation", f"{way}/lib/{name} is not of an installation", way
-                )
+                self.refuses(f"a folder lib/{name} that is not of an installation", f"{way}/lib/{name} is not of an installation",
+                             way)
         with self.way("it") as way:
             os.symlink("/nowhere/at/all", f"{way}/link")
             write(f"{way}/file", "mine\n")
@@ -360,10 +347,8 @@ class Refusals(Installs):
     def test_folders_that_are_copied(self) -> None:
         for name, copied in (("examples/prefix", "examples"), ("docs/new/prefix", "docs"), ("tools/agree", "tools")):
             at = f"{self.top}/{name}"
-            self.refuses(
-                f"the folder {name}, which is copied",
-                f"{at} is in {self.top}/{copied}, all of which is installed: name a folder outside of it", at,
-            )
+            self.refuses(f"the folder {name}, which is copied",
+                         f"{at} is in {self.top}/{copied}, all of which is installed: name a folder outside of it", at)
             self.holds("... there neither",
                 not os.path.exists(f"{at.removesuffix('/prefix')}/lib") and not os.path.exists(f"{at}/prefix"))
 
@@ -371,21 +356,17 @@ class Refusals(Installs):
         way = f"{self.work}/way"
         self.refuses("an option that there is not", USAGE, "--prefix", True)
         self.refuses("a folder without a name", USAGE, "", True)
-        self.refuses(
-            "a path that is not UTF-8", "no folder is taken whose path is not UTF-8: the program could not be called there",
-            f"{way}/\udcff", True,
-        )
-        self.refuses(
-            "a character of control in the path", "no folder is taken whose path has a control character", f"{way}/a\nb", True
-        )
+        self.refuses("a path that is not UTF-8",
+                     "no folder is taken whose path is not UTF-8: the program could not be called there", f"{way}/\udcff", True)
+        self.refuses("a character of control in the path", "no folder is taken whose path has a control character", f"{way}/a\nb",
+                     True)
         self.does("two folders", 1, "", f"install: {USAGE}\n", ["./install", f"{way}/a", f"{way}/b"])
         self.does("no HOME, and no folder", 1, "", NO_HOME, ["./install"], env={"HOME": None})
         self.does("uninstall without HOME", 1, "", NO_HOME, ["./install", "--uninstall"], env={"HOME": ""})
         self.holds("--help", "\n    ./install --uninstall [PREFIX]\n" in self.run_it(["./install", "--help"]).out)
         os.rename(f"{self.plain}/python3", f"{self.plain}/away")
-        self.does(
-            "without Python", 1, "", "pipecheck: install is written in Python, and there is no python3 here\n", ["./install", way]
-        )
+        self.does("without Python", 1, "", "pipecheck: install is written in Python, and there is no python3 here\n",
+                  ["./install", way])
         os.rename(f"{self.plain}/away", f"{self.plain}/python3")
 
 
@@ -433,10 +414,8 @@ class Folders(Installs):
         os.mkdir(home)
         local, env = f"{home}/.local", {"HOME": home}
         self.does("the folder of the user", 0, installed_under(local), "", ["./install"], env=env)
-        self.does(
-            "... is in PATH then", 0, f"installed under {local}: {NAMES}\n", "", ["./install"],
-            env={**env, "PATH": f"{self.plain}:{local}/bin"},
-        )
+        self.does("... is in PATH then", 0, f"installed under {local}: {NAMES}\n", "", ["./install"],
+                  env={**env, "PATH": f"{self.plain}:{local}/bin"})
         self.does("... is taken away", 0, f"removed from {local}\n", "", ["./install", "--uninstall"], env=env)
         with self.case("... all of it"):
             os.rmdir(home)
@@ -474,10 +453,8 @@ class Fails(Installs):
         self.is_refused("an update that fails", said, ["./install", self.way], preexec_fn=limit)
         is_left("... leaves the older one")
         with holding(f"{self.top}/examples/suite", "#!/bin/sh\nexit 1\n"):
-            self.is_refused(
-                "a man page that cannot be made", "install: the man page pipecheck-suite(1) could not be made\n",
-                ["./install", self.way],
-            )
+            self.is_refused("a man page that cannot be made", "install: the man page pipecheck-suite(1) could not be made\n",
+                            ["./install", self.way])
         is_left("... leaves the older one")
 
     def test_signals(self) -> None:
@@ -501,10 +478,8 @@ exec "$PYTHON" -c 'import sys, time; open(sys.argv[1], "w").write("begun"); time
         # Ctrl-\ reaches what the script waits for, too; a shell names the signal then
         for name in ("readlink", "python3"):
             command(f"{self.work}/{name}/{name}", "kill -s QUIT 0\n")
-            done = self.run_it(
-                ["./install", "--uninstall", self.way], {"PATH": f"{self.work}/{name}:{self.plain}"}, start_new_session=True,
-                preexec_fn=heed_signals,
-            )
+            done = self.run_it(["./install", "--uninstall", self.way], {"PATH": f"{self.work}/{name}:{self.plain}"},
+                               start_new_session=True, preexec_fn=heed_signals)
             said = "".join(it for it in done.err.splitlines(True) if not it.startswith("Quit"))
             self.judge(f"Ctrl-\\ at the {name} of an uninstall: nothing is said", Done(done.status, done.out, said), 131)
         is_left("... and all is left")
@@ -516,10 +491,8 @@ exec "$PYTHON" -c 'import sys, time; open(sys.argv[1], "w").write("begun"); time
             self.assertEqual([row for it in calls for row in it.err.splitlines() if "another call works" not in row], [])
         self.does("... of which one stands", 1, VERDICT, "", [f"{self.way}/bin/pipecheck", "check", *MP])
         shutil.copy2(f"{TOP}/install", f"{self.way}/lib/pipecheck")
-        self.does(
-            "an installed copy installs nothing", 1, "", "install: this is an installed copy: install from a checkout\n",
-            [f"{self.way}/lib/pipecheck/install", f"{self.work}/more"],
-        )
+        self.does("an installed copy installs nothing", 1, "", "install: this is an installed copy: install from a checkout\n",
+                  [f"{self.way}/lib/pipecheck/install", f"{self.work}/more"])
 
     def test_a_full_disk(self) -> None:
         """One that has no room for an installation, and one that fills up behind it."""

@@ -14,9 +14,9 @@ from dataclasses import dataclass, field, replace
 from typing import Any, Callable, Iterable, Sequence
 
 from tests.cases import (
-    TOP, Cases, Done, call, commands_without, pipecheck, program, read, replaced, run, without_output, without_proofs, write
+    NO_MODEL, NO_TEST, TOP, UNWRITTEN, Cases, Done, call, commands_without, missing, pipecheck, program, read, replaced, run,
+    told, without_output, without_proofs, write
 )
-from tests.test_answers import UNWRITTEN
 
 from tools.lint import main as lint
 from tools.lint import idle as linting_idle
@@ -123,32 +123,34 @@ HIT = 'Axiom "hit": forall microops "r", IsAnyRead r =>\n  exists microop "l", S
 HIT_OF_WRITES = HIT.replace("IsAnyRead r", "IsAnyWrite r")
 LINE_OF_WRITES = 'Axiom "line": forall microops "w", IsAnyWrite w => NodeExists (w, Line).\n'
 FREE = "and none denies it: a run has this node or not, as it likes"
+
+
+def free(whom: str, others: int = 0) -> list[str]:
+    """That no axiom gives the stage of such a line to this, and to so many more of its kind."""
+    return [f"M@1: free-node: no axiom gives stage Line to {whom}, {FREE}" + f", and {others} more of them" * bool(others)]
+
+
 NODES = [
-    Row("free-node: a line that some access brings in, under exists",
-        [f"M@1: free-node: no axiom gives stage Line to the write 0.0 of T, {FREE}, and 2 more of them"], LINE + HIT, meant="Line"),
-    Row("free-node: the same in a model alone", [f"M@1: free-node: no axiom gives stage Line to every read, {FREE}"], LINE + HIT,
-        ()),
-    Row("free-node: a node on one side of an or", [f"M@1: free-node: no axiom gives stage Line to the write 0.0 of T, {FREE}"],
+    Row("free-node: a line that some access brings in, under exists", free("the write 0.0 of T", 2), LINE + HIT, meant="Line"),
+    Row("free-node: the same in a model alone", free("every read"), LINE + HIT, ()),
+    Row("free-node: a node on one side of an or", free("the write 0.0 of T"),
         LINE + 'Axiom "a": forall microops "w", IsAnyWrite w => NodeExists (w, @Line) \\/ AddEdge ((w, T), (w, S)).'),
     Row("free-node: a node on both sides of an or",
         model=LINE + 'Axiom "a": forall microops "w", IsAnyWrite w =>\n'
         "  AddEdge ((w, Line), (w, S)) \\/ AddEdge ((w, T), (w, Line))."),
-    Row("free-node: a node in a premise that has an order for its conclusion",
-        [f"M@1: free-node: no axiom gives stage Line to the write 0.0 of T, {FREE}, and 3 more of them"],
+    Row("free-node: a node in a premise that has an order for its conclusion", free("the write 0.0 of T", 3),
         LINE + 'Axiom "a": forall microops "l", NodeExists (l, @Line) => AddEdge ((l, S), (l, Line)).'),
     Row("free-node: a node that another axiom gives", model=LINE + HIT + 'Axiom "a": forall microops "l", NodeExists (l, Line).'),
-    Row("free-node: a node that another axiom gives to reads and fences alone",
-        [f"M@1: free-node: no axiom gives stage Line to the write 0.0 of T, {FREE}"],
+    Row("free-node: a node that another axiom gives to reads and fences alone", free("the write 0.0 of T"),
         LINE + HIT + 'Axiom "a": forall microops "l", ~IsAnyWrite l => NodeExists (l, Line).'),
     Row("free-node: a node that one axiom gives to writes alone, and another one asks of any micro-op",
-        [f"M@1: free-node: no axiom gives stage Line to the fence 1.0 of T, {FREE}, and 1 more of them"],
-        LINE + LINE_OF_WRITES + HIT_OF_WRITES),
+        free("the fence 1.0 of T", 1), LINE + LINE_OF_WRITES + HIT_OF_WRITES),
     Row("free-node: ... and another one asks of writes alone, by a macro",
         model=LINE + LINE_OF_WRITES + 'DefineMacro "Hits" "l" "r": SameCore l r /\\ IsAnyWrite l.\n'
         'Axiom "hit": forall microops "r", exists microop "l",\n'
         "  ExpandMacro Hits l r /\\ AddEdge ((l, Line), (r, T)) \\/ IsAnyRead r."),
     Row("free-node: ... and another one asks of no write, by a macro",
-        [f"M@1: free-node: no axiom gives stage Line to the fence 1.0 of T, {FREE}, and 1 more of them"],
+        free("the fence 1.0 of T", 1),
         LINE + LINE_OF_WRITES + 'DefineMacro "Hits" "l" "r": SameCore l r => IsAnyWrite l.\n'
         'Axiom "hit": forall microops "r", exists microop "l",\n'
         "  ~ExpandMacro Hits l r /\\ AddEdge ((l, @Line), (r, T)) \\/ IsAnyWrite r."),
@@ -169,7 +171,7 @@ Axiom "queue": forall microops "v", forall microops "w",
   ExpandMacro Behind v w => AddEdge ((v, (0, Memory)), (w, (0, Memory))).
 """
 LOOKED_AT = Row("free-node: a node in a test of 64 micro-ops, by a few steps for each",
-    [f"M@1: free-node: no axiom gives stage Line to the write 0.0 of T, {FREE}, and 63 more of them"], LINE + GIVEN + HIT,
+    free("the write 0.0 of T", 63), LINE + GIVEN + HIT,
     (ops(*(f"{k} 0 0 0 (Write (VA 0 0) (PA 0 0) (Data {k + 1}))" for k in range(63)),
          "63 0 0 0 (Read (VA 0 0) (PA 0 0) (Data 0))"),))
 BOUND = "is bound again, so that the body does not see the one further outside"
@@ -225,10 +227,8 @@ ARROWS = [
         'Axiom "b": forall microops "r", exists microop "w", IsAnyRead r => NodesExist [(w, T); (r, T)].'),
 ]
 NO_ORDER = "no-order: the absence of this edge is asked for, which no order between its two nodes also meets"
-BETWEEN = (
-    f"{NO_ORDER}, so that a write without an order to the two may stand between them: "
-    "examples/tests/SB+fences+old.test shows the difference"
-)
+BETWEEN = (f"{NO_ORDER}, so that a write without an order to the two may stand between them: "
+           "examples/tests/SB+fences+old.test shows the difference")
 LAST = 'Axiom "last": forall microops "r", forall microops "w", IsAnyWrite w /\\ IsAnyRead r => ExpandMacro Last w r.\n'
 
 
@@ -400,11 +400,9 @@ OF_TESTS = [
         (ops(f"0 0 0 0 {WRITE}", "@Init (PA 1 0) 7.", "@Final (PA 2 0) 0.", "Final (PA 0 0) 1."),), meant=""),
 ]
 MORE = [
-    Row("more files: what is said of a model alone is said of it beside a test",
-        [f"M@1: free-node: no axiom gives stage Line to every write, {FREE}"], LINE + HIT_OF_WRITES,
+    Row("more files: what is said of a model alone is said of it beside a test", free("every write"), LINE + HIT_OF_WRITES,
         (ops("0 0 0 0 (Read (VA 0 0) (PA 0 0) (Data 0))"),)),
-    Row("more files: of each stage one line",
-        [f"M@1: free-node: no axiom gives stage Line to the write 0.0 of T, {FREE}, and 1 more of them"], LINE + HIT_OF_WRITES,
+    Row("more files: of each stage one line", free("the write 0.0 of T", 1), LINE + HIT_OF_WRITES,
         (ops(f"0 0 0 0 {WRITE}", f"1 0 0 0 {WRITE.replace('1))', '2))')}"),)),
 ]
 
@@ -690,15 +688,14 @@ class Command(Cases):
 
     def test_files(self) -> None:
         for name, words, status, out, err in FILES:
-            if self.is_wanted(name):
-                self.judge(name, answer(words, self.work), status, out, err)
+            self.judge(name, functools.partial(answer, words, self.work), status, out, err)
 
     def test_script(self) -> None:
         script, here = [pipecheck(), "lint"], {"cwd": self.work}
         self.gives("a refused test", [f"{TOP}/pipecheck", "lint", "good.uspec", "good.test", "bad.test"], 3,
                    "bad.test:2:11: core-number: a core number over 63\n", **here)
         self.gives("a test that is not there", [*script, "good.uspec", "gone"], 4, "",
-                   "pipecheck: a file could not be read\npipecheck: gone is not there\n", **here)
+                   missing("gone"), **here)
         self.gives("without Python", [*script, "good.uspec"], 125, "",
                    "pipecheck: lint is written in Python, and there is no python3 here\n",
                    env={"PATH": commands_without(f"{self.work}/bin", "python")}, **here)
@@ -717,18 +714,11 @@ class Command(Cases):
     def test_expected(self) -> None:
         write(f"{self.work}/syntax.uspec", "StageName 0 Exec.\n")
         self.gives("expected: a name of a stage", [pipecheck(), "check", "syntax.uspec", "good.test"], 3,
-                   "refused model syntax at 1:13\n", """syntax.uspec:1:13: syntax: no model can continue with this token
-    StageName 0 Exec.
-                ^
-pipecheck: a name in quotes is expected
-""", cwd=self.work)
+                   "refused model syntax at 1:13\n", told("syntax.uspec", "1:13", NO_MODEL, "a name in quotes", self.work),
+                   cwd=self.work)
         self.gives("a model in place of a test", [pipecheck(), "check", "good.uspec", "good.uspec"], 3,
-                   "refused test syntax at 1:1\n", """good.uspec:1:1: syntax: no test can continue with this token
-    StageName 0 "S".
-    ^
-pipecheck: `Litmus` or `Litmus2` is expected
-pipecheck: good.uspec is a model, and stands for the test: check MODEL TEST
-""", cwd=self.work)
+                   "refused test syntax at 1:1\n", told("good.uspec", "1:1", NO_TEST, "`Litmus` or `Litmus2`", self.work)
+                   + "pipecheck: good.uspec is a model, and stands for the test: check MODEL TEST\n", cwd=self.work)
         for name, said, text in EXPECTED:
             if self.is_wanted(f"expected: {name}"):
                 path = write(f"{self.work}/syntax.uspec", f"{text}\n")

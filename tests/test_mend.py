@@ -2,12 +2,11 @@
 from __future__ import annotations
 
 import os
-import signal
-import subprocess
 import sys
-import textwrap
 
-from tests.cases import TOP, Cases, Done, call, comes, command, pipecheck, program, read, replaced, status_of, write
+from tests.cases import (
+    NO_MODEL, TOP, USAGE, Beside, Cases, call, command, meant, missing, pipecheck, program, replaced, told, write
+)
 
 from tools.mend import main as mend
 from tools.second.standard_output import status_of as status_of_main
@@ -52,13 +51,7 @@ Axiom "Reads": forall microops "r", IsAnyRead r =>
 # a case, a wrong model of examples or its text, a test whose outcome it shows, and lines of what is said: an order is named that
 # keeps all other outcomes
 ROWS = (
-    # reads of one address that are not replayed
-    ("two reads of one address", "weak-ooo-read-read", "tests/CoRR.test", (
-        "The model shows this outcome. weak forbids it.",
-        "Of this program 3 other outcomes are shown, 3 of them allowed by weak.",
-        "add 1.0@1:Execute before 2.0@1:Execute",
-        "      IsAnyRead i /\\ IsAnyRead j /\\ ProgramOrder i j /\\ SamePhysicalAddress i j =>",
-        '      AddEdge ((i, Execute), (j, Execute), "mend").')),
+    # reads of one address that are not replayed, beside what docs/mend.md shows of weak-ooo-read-read
     ("reads that are not replayed", REPLAY, "tests/CoRR.test",
      ("add 1.0@1:Access before 2.0@1:Access", '      AddEdge ((i, Access), (j, Access), "mend").')),
     ("... a listing", REPLAY, "x86/MP.litmus", ("add 2.0@1:Access before 3.0@1:Access",)),
@@ -147,26 +140,18 @@ class Script(Cases):
         script = [pipecheck(), "mend"]
         limited = ["bash", "-c", 'ulimit -v 1000000 && exec "$@"', "limited", *script]
         plain: dict[str, str | None] = {"COLUMNS": None, "PIPECHECK": None}
-        forms = next(it for it in read("commands.txt").splitlines() if it.startswith("script|mend|MODEL TEST|")).split("|")[3]
         rows: tuple[tuple[str, list[str], int, str, str, dict[str, str | None]], ...] = (
             ("a program without another outcome", [*script, replay, alone], 1, ALONE, "", {}),
             ("... under a limit of address space, which the machine has then", [*limited, replay, alone], 1, ALONE, "", {}),
             ("an outcome that is not shown", [f"{TOP}/pipecheck", "mend", IN_ORDER, MP], 1, NOTHING, "", {}),
             # the first file is judged first
             ("a test in place of the model, and a model in place of the test", [*script, bad, IN_ORDER], 3,
-             "refused model syntax at 1:1\n", f"""{bad}:1:1: syntax: no model can continue with this token
-    Litmus "mp".
-    ^
-pipecheck: `StageName`, `Axiom` or `DefineMacro` is expected
-pipecheck: {bad} is a test, and stands for the model: check MODEL TEST
-""", {}),
-            ("a file that is not there", [*script, none, MP], 4, "",
-             f"pipecheck: a file could not be read\npipecheck: {none} is not there\n", {}),
+             "refused model syntax at 1:1\n", told(bad, "1:1", NO_MODEL, "`StageName`, `Axiom` or `DefineMacro`")
+             + f"pipecheck: {bad} is a test, and stands for the model: check MODEL TEST\n", {}),
+            ("a file that is not there", [*script, none, MP], 4, "", missing(none), {}),
             ("a program that is none", [*script, IN_ORDER, MP], 125, "", "pipecheck: no checker: /bin/true\n",
              {"PIPECHECK": "/bin/true"}),
-            ("too few words", [f"{TOP}/pipecheck", "mend", IN_ORDER], 2, "pipecheck: bad command line\n",
-             "pipecheck mend MODEL TEST\n" + textwrap.fill(forms, 80, initial_indent="    ", subsequent_indent="    ")
-             + "\npipecheck: these words are no command; how mend is called stands above\n", {}),
+            ("too few words", [f"{TOP}/pipecheck", "mend", IN_ORDER], 2, USAGE, meant("mend"), {}),
         )
         for name, words, status, out, err, env in rows:
             self.gives(name, words, status, out, err, env={**plain, **env})
@@ -175,17 +160,10 @@ pipecheck: {bad} is a test, and stands for the model: check MODEL TEST
         room, waits = f"{self.work}/room", f"{self.work}/waits"
         os.mkdir(room)
         # what is asked first of a model that shows the outcome gets no answer
-        checker = command(f"{self.work}/checker", f'[ "$1" != sweep ] || {{ : >{waits}; exec sleep 600; }}\n'
+        checker = command(f"{self.work}/checker", f'[ "$1" != sweep ] || {{ echo >{waits}; exec sleep 600; }}\n'
                           f'exec {program()} "$@"\n')
         words = [pipecheck(), "mend", "examples/buggy/weak-ooo-read-read.uspec", "examples/tests/RSW.test"]
-        env = {**os.environ, "TMPDIR": room, "PIPECHECK": checker}
-        with subprocess.Popen(words, cwd=TOP, env=env, stdin=subprocess.DEVNULL, stdout=subprocess.PIPE,
-                              stderr=subprocess.PIPE) as process:
-            with self.case("TERM comes while it asks"):
-                self.assertTrue(comes(lambda: os.path.exists(waits) or process.poll() is not None))
-                self.assertEqual((process.poll(), len(os.listdir(room))), (None, 1))
-            process.send_signal(signal.SIGTERM)
-            out, err = (it.decode() for it in process.communicate())
-        self.judge("TERM ends it", Done(status_of(process.returncode), out, err), 143)
-        with self.case("... and leaves nothing"):
-            self.assertEqual(os.listdir(room), [])
+        job = Beside(words, waits, {"TMPDIR": room, "PIPECHECK": checker}, cwd=TOP)
+        self.same("TERM comes while it asks", (job.process.poll(), len(os.listdir(room))), (None, 1))
+        self.judge("TERM ends it", job.ended_by("TERM"), 143)
+        self.same("... and leaves nothing", os.listdir(room), [])

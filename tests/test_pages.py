@@ -81,8 +81,7 @@ class Pages(Cases):
 
     def test_tables(self) -> None:
         for page in sorted(glob.glob(f"{TOP}/*.md") + glob.glob(f"{TOP}/docs/*.md")):
-            with self.case(f"no line cuts a table of {os.path.relpath(page, TOP)} in two"):
-                self.assertEqual([], CUT_TABLE.findall(read(page)))
+            self.same(f"no line cuts a table of {os.path.relpath(page, TOP)} in two", [], CUT_TABLE.findall(read(page)))
 
     def test_pages(self) -> None:
         os.symlink(pipecheck(), f"{self.work}/pipecheck")

@@ -8,18 +8,14 @@ import shutil
 from typing import Any
 
 from tests.cases import (
-    NO_TOOLCHAIN, TOP, Done, InACheckout, as_proved, command, command_forms, copy_checkout, files_below, forms_of, hash_of,
-    program, read, run, unread, within, write
+    MP, NO_TOOLCHAIN, OUT, TOP, UNWRITTEN, VERDICT, Done, InACheckout, as_proved, command, command_forms, copy_checkout,
+    files_below, forms_of, hash_of, meant, missing, program, read, unread, within, write
 )
 
-MP = ("examples/in-order.uspec", "examples/mp.test")
 CHECK = ("check", *MP)
-VERDICT = "unobservable\ntest forbidden: ok\ncycle 0.0@0:Mem 1.0@0:Mem 2.0@1:Mem 3.0@1:Mem\nend\n"
 MEMORY = "pipecheck: memory was refused, so there is no answer\n"
-UNWRITTEN = "pipecheck: standard output could not be written: what it got is not the whole answer\n"
 AXIOM = 'Axiom "a": forall microop "i", forall microop "j", ProgramOrder i j => AddEdge ((i, S), (j, S), "").\n'
 MANY = 'StageName 0 "S".\n' + AXIOM * 10_000
-OUT = "crates/pipecheck_cli/out"
 
 
 class InACopy(InACheckout):
@@ -49,10 +45,8 @@ class NotBuilt(InACopy):
     def test_a_clone_without_the_toolchain(self) -> None:
         self.answers("a clone without the toolchain", CHECK, 125, "", NO_TOOLCHAIN)
         self.answers("explain in a clone without the toolchain", ("explain", *MP), 125, "", NO_TOOLCHAIN)
-        self.answers(
-            "--clean keeps what proves a program that is not built", ("--clean",), 125, "",
-            "pipecheck: the program is not built from these sources, so that what proves it is kept\n",
-        )
+        self.answers("--clean keeps what proves a program that is not built", ("--clean",), 125, "",
+                     "pipecheck: the program is not built from these sources, so that what proves it is kept\n")
 
     def test_forms(self) -> None:
         for word in ("--help", "help", "-h"):
@@ -67,25 +61,13 @@ class NotBuilt(InACopy):
         self.same("help agree", (done.status, "".join(done.out.splitlines(True)[:3]), done.err), (0, forms_of("agree"), ""))
         self.finds("... has the options too", "--between MODEL MODEL", done.out)
 
-    def test_the_commit(self) -> None:
-        done = run(["git", "rev-parse", "HEAD"])
-        if done.status != 0:
-            self.skips("--version names the commit", "this is no clone")
-            return
-        tools = f"{self.work}/tools"
-        command(f"{tools}/rt", "echo 'a kit logic 0123456789abcdef'\n")
-        said = self.call_it("--version", env={"PATH": f"{tools}:{self.plain}"}, cwd=TOP)
-        found = said.out.partition("\n")[0].removesuffix(", changed since")
-        self.same("--version names the commit", (found, said.err), (f"commit {done.out.rstrip()}", ""))
-
     def test_the_script_alone(self) -> None:
         alone = f"{self.work}/alone"
         os.mkdir(alone)
         shutil.copy2(f"{TOP}/pipecheck", alone)
-        self.answers(
-            "a copied script has no checkout", CHECK, 125, "",
-            f"pipecheck: {alone} has neither a checkout nor an installed program beside this script: nothing is built\n", cwd=alone,
-        )
+        self.answers("a copied script has no checkout", CHECK, 125, "",
+                     f"pipecheck: {alone} has neither a checkout nor an installed program beside this script: nothing is built\n",
+                     cwd=alone)
         self.same("... and leaves nothing behind", os.listdir(alone), ["pipecheck"])
         shutil.copy2(f"{TOP}/commands.txt", alone)
         shutil.copytree(f"{TOP}/script", f"{alone}/script")
@@ -112,34 +94,30 @@ class Built(InACopy):
         self.same("... leaves the program", [it for it in files_below(f"{self.top}/crates") if "/out/" in it], left)
         self.answers("... which is called as before", CHECK, 1, VERDICT)
         command(f"{self.work}/tools/rt", "echo 'a kit logic 0123456789abcdef'\n")
-        self.answers(
-            "--version names the program", ("--version",), 0,
-            f"commit unknown\nlogic 0123456789abcdef\nprogram sha256 {hash_of(program())}, proved\n",
-            env={"PATH": f"{self.work}/tools:{self.plain}"},
-        )
+        self.answers("--version names the program", ("--version",), 0,
+                     f"commit unknown\nlogic 0123456789abcdef\nprogram sha256 {hash_of(program())}, proved\n",
+                     env={"PATH": f"{self.work}/tools:{self.plain}"})
 
     def test_a_signal(self) -> None:
         """The shell says its own word of it before."""
         as_proved(self.top, command(f"{self.work}/ended", "kill -SEGV $$\n"))
         done = self.call_it(*CHECK)
         said = "".join(it for it in done.err.splitlines(True) if it.startswith("pipecheck: "))
-        self.judge(
-            "a signal is named", Done(done.status, done.out, said), 139, "",
-            "pipecheck: the signal SEGV ended the program, so there is no answer: docs/faults.md, 'A signal'\n",
-        )
+        self.judge("a signal is named", Done(done.status, done.out, said), 139, "",
+                   "pipecheck: the signal SEGV ended the program, so there is no answer: docs/faults.md, 'A signal'\n")
 
     def test_limits_of_memory(self) -> None:
         many = ("check", write(f"{self.work}/many.uspec", MANY), "examples/two.test")
         self.answers("a limit of memory", many, 7, "", MEMORY, env={"PIPECHECK_MEMORY": "16"})
-        self.answers(
-            "a limit is never raised", many, 7, "", MEMORY, env={"PIPECHECK_MEMORY": "4000"},
-            preexec_fn=within(resource.RLIMIT_AS, 16384 * 1024),
-        )
+        self.answers("a limit is never raised", many, 7, "", MEMORY, env={"PIPECHECK_MEMORY": "4000"},
+                     preexec_fn=within(resource.RLIMIT_AS, 16384 * 1024))
         self.answers("no limit of memory", CHECK, 1, VERDICT, env={"PIPECHECK_MEMORY": "none"})
-        self.answers(
-            "a limit that is no number", CHECK, 125, "", "pipecheck: PIPECHECK_MEMORY is a number of MiB, or none, and not lots\n",
-            env={"PIPECHECK_MEMORY": "lots"},
-        )
+        self.answers("PIPECHECK_MEMORY=64", CHECK, 1, VERDICT, env={"PIPECHECK_MEMORY": "64"})
+        for size in ("0", "1", "2"):
+            said = f"pipecheck: PIPECHECK_MEMORY is {size} MiB, and the program takes more to start\n"
+            self.answers(f"PIPECHECK_MEMORY={size}", CHECK, 125, "", said, env={"PIPECHECK_MEMORY": size})
+        self.answers("a limit that is no number", CHECK, 125, "",
+                     "pipecheck: PIPECHECK_MEMORY is a number of MiB, or none, and not lots\n", env={"PIPECHECK_MEMORY": "lots"})
 
     def test_limits_of_files(self) -> None:
         """Of 1,024 bytes, and where no file may have a byte."""
@@ -177,16 +155,9 @@ class Built(InACopy):
                 ("an unobservable one", 1, "", CHECK, {}),
                 ("a core", 0, f'{model}:5:1: axiom 1: "PO"\n{model}:7:1: axiom 2: "read"\n', ("core", *MP), {}),
                 ("a certificate that is refused", 6, "", ("verify", *MP, "examples/certificates/mp-spoilt.txt"), {}),
-                (
-                    "a file that is not there", 4, f"pipecheck: a file could not be read\npipecheck: {none} is not there\n",
-                    ("check", none, test), {},
-                ),
+                ("a file that is not there", 4, missing(none), ("check", none, test), {}),
                 ("a limit of memory", 7, MEMORY, ("check", many, "examples/two.test"), small),
-                (
-                    "words that are no command", 2,
-                    f"{forms_of('check')}pipecheck: these words are no command; how check is called stands above\n",
-                    ("check", model), {},
-                ),
+                ("words that are no command", 2, meant("check"), ("check", model), {}),
                 ("the forms", 0, "", ("help",), {}),
                 ("the version", 0, "", ("--version",), {}),
             ):
@@ -194,8 +165,6 @@ class Built(InACopy):
             reader, writer = os.pipe()
             os.write(writer, read(test).encode())
             os.close(writer)
-            self.answers(
-                "a pipe that nobody reads, and a test that can be read only once", ("check", model, f"/dev/fd/{reader}"), 5,
-                stdout=pipe, pass_fds=(reader,),
-            )
+            self.answers("a pipe that nobody reads, and a test that can be read only once", ("check", model, f"/dev/fd/{reader}"),
+                         5, stdout=pipe, pass_fds=(reader,))
             os.close(reader)

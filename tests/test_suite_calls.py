@@ -22,12 +22,13 @@ from functools import partial
 from typing import Any, Callable
 
 from tests.cases import (
-    PATIENCE, TOP, Done, apart, call, comes, files_below, program, read, replaced, signal_unseen, text_of, tool, within,
+    PATIENCE, TOP, Done, apart, comes, done_by_unseen, files_below, program, read, replaced, text_of, tool, within,
     without_output, write
 )
 from tests.suite_cases import CORR, EARLY, GOOD, MP, SB, SC, TUTORIAL, SuiteCases, no_lint, of_suite, tabled
+from tests.test_answers import lines, op
 
-from tools.ending import SIGNALS as RECEIVED, Interrupted
+from tools.ending import SIGNALS as RECEIVED
 from tools.texts.memory_models import memory_model_of
 from tools.suite import keeping
 from tools.suite.calling import Calls, side_by_side
@@ -42,10 +43,8 @@ BAD_ROW = f"{PATTERN}: tutorial-early: shown though tso does not allow it: 1 0"
 BAD_PATTERN = tabled("tutorial-early", "MP.pattern BUG", "1 BUG", BAD_ROW)
 BAD_PAIR = tabled("tutorial-early", "MP BUG, SB ok", "1 ok, 1 BUG")
 # those that end a process without a fault of its own
-SIGNALS = (
-    signal.SIGTERM, signal.SIGHUP, signal.SIGINT, signal.SIGQUIT, signal.SIGUSR1, signal.SIGUSR2, signal.SIGALRM,
-    signal.SIGVTALRM, signal.SIGPROF, signal.SIGXCPU,
-)
+SIGNALS = (signal.SIGTERM, signal.SIGHUP, signal.SIGINT, signal.SIGQUIT, signal.SIGUSR1, signal.SIGUSR2, signal.SIGALRM,
+           signal.SIGVTALRM, signal.SIGPROF, signal.SIGXCPU)
 
 
 def contents_in(folder: str) -> dict[str, dict[str, str]]:
@@ -165,9 +164,7 @@ class Checkers(SuiteCases):
         self.refuses("a limit of memory that the program cannot start in", said, SC, PIPECHECK_MEMORY="1")
         said = "pipecheck: PIPECHECK_MEMORY is a number of MiB, or none, and not much\n"
         self.judge("a limit of memory that is no number", self.called(SC, PIPECHECK_MEMORY="much"), 2, "", said)
-        self.put("four.test", 'Litmus "four".\n' + "".join(
-            f"Microop {k} 0 0 0 (Write (VA {k} 0) (PA {k} 0) (Data 1)).\n" for k in range(4)
-        ))
+        self.put("four.test", lines('Litmus "four".', *(op(k, "Write", k, 1) for k in range(4))))
         stages = "".join(f'StageName {k} "S{k}".\n' for k in range(32))
         nodes = "".join(f"(i, S{k});" for k in range(32))
         self.put("nodes.uspec", f'% Memory model: tso\n{stages}Axiom "n": forall microops "i", NodesExist [{nodes}].\n')
@@ -176,11 +173,9 @@ class Checkers(SuiteCases):
                     tabled("nodes", "four status:5", "1 faults"))
         os.mkdir(f"{self.work}/temporary")
         done = self.started(EARLY, "WORK/four.test", preexec_fn=limited, env={"TMPDIR": "WORK/temporary"})
-        self.judge(
-            "a limit of the size of files that a copy of a model passes",
-            Done(done.status, done.out, re.sub("tmp[a-z0-9_]*:", "FOLDER:", done.err.replace(self.work, "WORK"))), 2, "",
-            f"suite: {EARLY} cannot be copied into WORK/temporary/FOLDER: File too large\n",
-        )
+        self.judge("a limit of the size of files that a copy of a model passes",
+                   Done(done.status, done.out, re.sub("tmp[a-z0-9_]*:", "FOLDER:", done.err.replace(self.work, "WORK"))), 2, "",
+                   f"suite: {EARLY} cannot be copied into WORK/temporary/FOLDER: File too large\n")
         self.same("a copy of a model that passes the limit of size leaves nothing", os.listdir(f"{self.work}/temporary"), [])
         done = self.started(SC, preexec_fn=within(resource.RLIMIT_AS, 20_000 << 10))
         self.judge("a limit of memory that Python cannot load the suite in", Done(done.status, done.out, ""), 2)
@@ -206,11 +201,9 @@ exec "{program()}" "$@\"""")
         self.same("the suite's program is replaced after its first answer", os.path.exists(f"{self.work}/second"), False)
         self.two_programs()
         patterns = (f"examples/patterns/{it}.pattern" for it in ("MP", "R", "SB"))
-        self.gives(
-            "a program that is replaced while agree runs",
-            [*tool("agree", self.top), "examples/models/tso-ooo.uspec", *patterns], 0,
-            "swept by the program\n3 agree, 0 differ\n",
-        )
+        self.gives("a program that is replaced while agree runs",
+                   [*tool("agree", self.top), "examples/models/tso-ooo.uspec", *patterns], 0,
+                   "swept by the program\n3 agree, 0 differ\n")
         self.same("agree's program is replaced after its first answer", os.path.exists(f"{self.work}/second"), False)
 
     def two_programs(self) -> None:
@@ -250,9 +243,7 @@ class Machines(SuiteCases):
 
     def test_late(self) -> None:
         """Eight cores with eight writes each have some 40 million states."""
-        self.put("large.test", 'Litmus "large".\n' + "".join(
-            f"Microop {k} {k // 8} 0 0 (Write (VA {k} 0) (PA {k} 0) (Data 1)).\n" for k in range(64)
-        ))
+        self.put("large.test", lines('Litmus "large".', *(op(k, "Write", k, 1, k // 8) for k in range(64))))
         liar = self.script("liar", """\
 case $1 in "") exit 2 ;; check) echo observable; echo test unstated ;; verify) echo verified observable ;; esac""")
         self.rows("a machine that is late", 0, [SC, "WORK/large.test"], "large observable",
@@ -443,32 +434,17 @@ class Signals(SuiteCases):
         process.send_signal(signal.SIGTERM)
         process.wait(PATIENCE)
 
-    def unseen(self, wait: Callable[[], object]) -> Done:
-        """What a process says that waits so, and gets a signal that Python does not see at once."""
-
-        def entry() -> int:
-            # where it is not seen, the clock ends this process
-            signal.alarm(PATIENCE)
-            RECEIVED.receive()
-            signal_unseen()
-            try:
-                wait()
-            except Interrupted as interrupted:
-                return interrupted.number
-            return 0
-
-        return call(entry, [])
-
     def test_unseen(self) -> None:
         """Python does not see at once what comes just before it waits, nor what another thread gets, as here."""
         calls = Calls()
         with open(os.devnull, "wb") as out:
-            done = self.unseen(lambda: side_by_side(calls, 1, [lambda: calls.status(["sleep", "600"], None, 600, out)]))
-        self.same("a signal that Python does not see at once ends a call", done.status, signal.SIGTERM)
+            waits = partial(side_by_side, calls, 1, [lambda: calls.status(["sleep", "600"], None, 600, out)])
+            done = done_by_unseen(RECEIVED, waits)
+        self.same("a signal that Python does not see at once ends a call", done.status, 128 + signal.SIGTERM)
         Folder(f"{self.work}/kept").wait_in_turn()
-        done = self.unseen(lambda: Folder(f"{self.work}/kept").wait_in_turn())
+        done = done_by_unseen(RECEIVED, lambda: Folder(f"{self.work}/kept").wait_in_turn())
         said = f"suite: another suite writes into {self.work}/kept: waiting for it\n"
-        self.same("... and a suite that waits for another one", done, Done(signal.SIGTERM, "", said))
+        self.same("... and a suite that waits for another one", done, Done(128 + signal.SIGTERM, "", said))
 
     def test_early(self) -> None:
         """Ctrl-C while Python still loads what the suite is made of ends it without a word. What Python says is what it loads."""

@@ -1,17 +1,24 @@
-"""The tables of examples/suite: what it says of tests of one's own, of listings, patterns and queries, and beside other tables."""
+"""The tables of examples/suite: what it, and the machines beside it, say of all that is shipped; and what it says of tests of
+one's own, of listings, patterns and queries, and beside other tables."""
 from __future__ import annotations
 
+import glob
 import json
 import os
+import re
 import shutil
+import signal
 import stat
+import subprocess
 import threading
+import time
 from typing import Any, Iterator
 from xml.etree import ElementTree
 
-from tests.cases import TOP, program, read, write
-from tests.suite_cases import BUFFER, CORR, EARLY, GOOD, MP, SB, SC, TSO, TUTORIAL, SuiteCases, of_suite, tabled
-from tests.suite_cases import without_first_line
+from tests.cases import PATIENCE, TOP, apart, program, read, text_of, tool, write
+from tests.suite_cases import (
+    BUFFER, CORR, EARLY, GOOD, MP, SB, SC, TSO, TUTORIAL, SuiteCases, no_lint, of_suite, tabled, without_first_line
+)
 
 from tools.second.cores import without
 from tools.second.scopes import read_model
@@ -39,6 +46,95 @@ STRICT = "% Memory model: tso\n" + without_first_line(SC)
 STRICT_TABLE = "strict tutorial-early", "MP ok BUG, SB stricter ok", "2 ok, 1 BUG, 1 stricter"
 
 
+def names_of(pattern: str) -> list[str]:
+    """The files of the examples that such a name stands for, in order."""
+    return [f"examples/{it}" for it in sorted(glob.glob(pattern, root_dir=f"{TOP}/examples"))]
+
+
+MODELS, TESTS, LISTINGS = names_of("models/*.uspec"), names_of("tests/*.test"), names_of("x86/*.litmus")
+LOCKED, TRANSLATION = names_of("locked/*.test"), names_of("translation/*.test")
+
+
+class Shipped(SuiteCases):
+    """All shipped tests and listings on all shipped models, and those with locked instructions."""
+
+    def test_all(self) -> None:
+        """The first suite is ended when it has some, and the next one goes on from there."""
+        self.lint_lines = no_lint
+        env = {"SUITE_TESTS": f"{TOP}/examples/tests", "SUITE_FOLDER": "WORK/ended"}
+        process = self.begun(env={**env, "SUITE_JOBS": "1"}, stderr=subprocess.PIPE)
+        while process.poll() is None and len(glob.glob(f"{self.work}/ended/*/*.certificate")) < 50:
+            time.sleep(0.1)
+        process.send_signal(signal.SIGTERM)
+        _, said = process.communicate(timeout=PATIENCE)
+        kept = "suite: N pairs are kept, and the next suite goes on from there\n"
+        self.same("a suite that is ended", (process.returncode, numbered(text_of(said))), (-signal.SIGTERM, kept))
+        self.same("a suite that is ended leaves no part", glob.glob(f"{self.work}/ended/*/*.part"), [])
+        self.counts("a suite goes on from what it has: all shipped tests on all shipped models", TESTS,
+                    "suite: N pairs stand from a suite that was interrupted\n", **env)
+        self.counts("all shipped listings on all shipped models", LISTINGS, "", **{**env, "SUITE_TESTS": f"{TOP}/examples/x86"})
+        self.same("tests that are written in both forms have one verdict", self.verdicts_of_both_forms(), (630, []))
+
+    def counts(self, name: str, tests: list[str], said: str, **env: str) -> None:
+        """All models are right on all of these, by the last line."""
+        done = of_suite(self.called(**env), self.work)
+        pairs = len(tests) * len(MODELS)
+        last = f"{pairs} pairs: {pairs} ok, 0 BUG, 0 stricter, 0 time, 0 faults, in N s\n"
+        self.same(name, (done.status, done.out.splitlines(keepends=True)[-1], numbered(done.err)), (0, last, said))
+
+    def verdicts_of_both_forms(self) -> tuple[int, list[str]]:
+        """How many pairs of a model and a listing have the verdict of the test that says the same, and those that have another."""
+        same, others = 0, []
+        for listing in (it.rpartition("/")[2] for it in LISTINGS):
+            test = listing.replace("mfence", "fence").removesuffix(".litmus") + ".test"
+            if f"examples/tests/{test}" in TESTS:
+                for model in (it.rpartition("/")[2].removesuffix(".uspec") for it in MODELS):
+                    paths = (f"{self.work}/ended/{model}/{it}.certificate" for it in (test, listing))
+                    first, second = (read(it).partition("\n")[0] for it in paths)
+                    same += first == second
+                    others += [] if first == second else [f"{model} {listing}"]
+        return same, others
+
+    def test_locked(self) -> None:
+        names = sorted(it.rpartition("/")[2].removesuffix(".test") for it in LOCKED)
+        text = tabled("tso-buffer", ", ".join(f"{it} ok" for it in names), "18 ok")
+        self.table("the shipped tests with locked instructions", 0, text, BUFFER, SUITE_TESTS=f"{TOP}/examples/locked")
+
+
+def numbered(text: str) -> str:
+    """What is said of pairs, without how many there are."""
+    return re.sub("^suite: [1-9][0-9]+ pairs", "suite: N pairs", text)
+
+
+class Agreement(SuiteCases):
+    """Whether the machines agree with the shipped models, and with the tables."""
+
+    def agree(self, name: str, status: int, text: str, *words: str) -> None:
+        """This is what `agree` writes."""
+        self.gives(name, [*tool("agree", apart()), *words], status, text)
+
+    def test_files(self) -> None:
+        listings = (f"examples/x86/{it}.litmus" for it in ("n6", "SB+mfences", "R+po+mfence"))
+        self.agree("the machines agree on final values, on locked instructions, on page tables and on listings", 0,
+                   "208 agree, 0 differ\n", *names_of("tests/Final*.test"), *LOCKED, *TRANSLATION, *listings)
+        self.agree("the buggy TLBs differ from their machine where they should", 1, """\
+tlb-late-hold.uspec remap+invalidate+walk.test: shown yes, tlb allows no
+tlb-late-hold.uspec shootdown.test: shown yes, tlb allows no
+tlb-late-hold.uspec wrong-frame.test: shown yes, tlb allows no
+tlb-lazy-mark.uspec accessed.test: shown yes, tlb allows no
+tlb-lazy-mark.uspec dirty.test: shown yes, tlb allows no
+39 agree, 5 differ
+""", *names_of("translation/buggy/*.uspec"), *TRANSLATION)
+        self.agree("what the reads get on all shipped models is what they get on the machines", 0, """\
+swept by the program
+498 agree, 0 differ
+""", *names_of("patterns/*.pattern"))
+
+    def test_table(self) -> None:
+        self.gives("the table of the tests with page-table entries is the one that the machine gives",
+                   [*tool("table"), "translation"], 0, read("examples/translation/memory-models.tsv"))
+
+
 class OwnTests(SuiteCases):
     """Tests of one's own: the table of memory models has no row for them, and the machine may say otherwise."""
 
@@ -52,10 +148,8 @@ class OwnTests(SuiteCases):
                   "WORK/axiom.uspec:2:1: syntax: no model can continue with this token")
         for name in "ab":
             self.put(f"refused/{name}.litmus", read("examples/x86/SB.litmus").replace("\nexists", "\nforall"))
-        forall = (
-            "left-out: a test states one outcome: write a listing with ~exists for each that must not come; beside a log, "
-            "compare answers forall"
-        )
+        forall = ("left-out: a test states one outcome: write a listing with ~exists for each that must not come; beside a log, "
+                  "compare answers forall")
         self.rows("what to do about a refused listing", 2, [SC, EARLY],
                   "a.litmus test:syntax test:syntax, b.litmus test:syntax test:syntax",
                   "WORK/refused/a.litmus:10:1: syntax: no test can continue with this token",
@@ -76,10 +170,8 @@ class OwnTests(SuiteCases):
         line = r"the table WORK/twice.tsv has yes and no for one test: $'tso\tMP\tyes'"
         self.refuses("a table with two rows that differ", line, EARLY, SUITE_TABLE="WORK/twice.tsv")
         self.put("nameless.uspec", without_first_line(EARLY))
-        line = (
-            "WORK/nameless.uspec:1:1: unnamed: the model names no memory model; known are NAMES, named once by a comment "
-            "% Memory model: NAME"
-        )
+        line = ("WORK/nameless.uspec:1:1: unnamed: the model names no memory model; known are NAMES, named once by a comment "
+                "% Memory model: NAME")
         self.rows("without a memory model the word of a test of one's own decides", 1,
                   ["WORK/nameless.uspec", "WORK/tests/Forbidden.test", "WORK/tests/Permitted.test"], "Forbidden BUG, Permitted ok",
                   line)
@@ -100,10 +192,8 @@ class OwnTests(SuiteCases):
         line = r"the table WORK/short.tsv has a row without test: $'TSO\tyes'"
         self.refuses("a table with a row that names no test", line, EARLY, SUITE_TABLE="WORK/short.tsv")
         self.put("nameless.uspec", without_first_line(EARLY))
-        for end, shown in ((" ", " "), ("\r", r"\r"), (" \t\r", r" \t\r")):
-            self.put("mine.uspec", f"% Memory Model: TSO{end}\n{without_first_line(EARLY)}")
-            self.rows(f"a memory model in capitals, and '{shown}' after it", 1, ["WORK/mine.uspec"], "unstated BUG",
-                      SUITE_TABLE=table)
+        self.put("mine.uspec", f"% Memory Model: TSO \t\r\n{without_first_line(EARLY)}")
+        self.rows(r"a memory model in capitals, and ' \t\r' after it", 1, ["WORK/mine.uspec"], "unstated BUG", SUITE_TABLE=table)
         known = self.called("WORK/nameless.uspec", SUITE_TABLE=table).out.partition("known are ")[2].partition(", named")[0]
         for name in ("nmca", "pso", "sc", "tlb", "tso", "weak"):
             self.same(f"the memory models that are known have {name}", name in known.replace(" and ", ", ").split(", "))
@@ -327,10 +417,8 @@ class Keeping(SuiteCases):
         self.stand("verdicts are kept", 0)
         shutil.rmtree(f"{self.work}/kept/sc-inorder")
         self.stand("verdicts that are kept stand in another suite", 2)
-        self.shows(
-            "verdicts that are kept stand with their certificates", 1, "verified unobservable\n",
-            "verify", SC, MP, f"{self.work}/kept/sc-inorder/MP.test.certificate",
-        )
+        self.shows("verdicts that are kept stand with their certificates", 1, "verified unobservable\n", "verify", SC, MP,
+                   f"{self.work}/kept/sc-inorder/MP.test.certificate")
         self.put("tests/MP.test", read(MP) + "% another test\n")
         self.stand("verdicts stand for the same bytes of a test alone", 1)
         self.copy("tests", MP)
@@ -407,8 +495,7 @@ class Axioms(SuiteCases):
 
     def changes(self, name: str, text: str, *words: str) -> None:
         """The suite writes this table of axioms."""
-        if self.is_wanted(name):
-            self.judge(name, of_suite(self.called("--axioms", *words), self.work), 0, text)
+        self.judge(name, lambda: of_suite(self.called("--axioms", *words), self.work), 0, text)
 
     def test_axioms(self) -> None:
         self.put("axioms.uspec", """\
@@ -428,18 +515,6 @@ axiom      changes  first
 3 axioms on 1 tests: 2 change a verdict, 1 change none, 0 time, 0 faults, in N s
 """, "WORK/axioms.uspec", "examples/two.test")
         self.same("to take axioms out keeps nothing", os.path.exists(f"{self.work}/kept"), False)
-        self.changes("the axioms of a shipped model on message passing", """\
-axiom                                      changes  first
-0 "Path"                                   1        MP
-1 "Path of writes"                         0        untested or not needed
-2 "Commit is in program order"             1        MP
-3 "The store queue drains in order"        1        MP
-4 "A full fence commits behind the drain"  0        untested or not needed
-5 "Writes of one address have an order"    0        untested or not needed
-6 "Reads"                                  1        MP
-7 "Final values"                           0        untested or not needed
-8 axioms on 1 tests: 4 change a verdict, 4 change none, 0 time, 0 faults, in N s
-""", TUTORIAL, MP)
         one_model = "--axioms takes one model, which is named"
         self.put("axiom.uspec", "Axiom\n")
         self.copy("tests", MP)
@@ -454,10 +529,8 @@ axiom                                      changes  first
     def test_without(self) -> None:
         """A model without an axiom is the model with blanks in its place."""
         text = b'StageName 0 "S". Axiom "a": True % Axiom "no": .\n. (* b *) Axiom "b": False.\nDefineMacro "M": True.'
-        wanted = (
-            b'StageName 0 "S".' + b" " * 32 + b'\n  (* b *) Axiom "b": False.\nDefineMacro "M": True.',
-            b'StageName 0 "S". Axiom "a": True % Axiom "no": .\n. (* b *)' + b" " * 18 + b'\nDefineMacro "M": True.',
-        )
+        wanted = (b'StageName 0 "S".' + b" " * 32 + b'\n  (* b *) Axiom "b": False.\nDefineMacro "M": True.',
+                  b'StageName 0 "S". Axiom "a": True % Axiom "no": .\n. (* b *)' + b" " * 18 + b'\nDefineMacro "M": True.')
         model = read_model(text)
         for number, rest in enumerate(wanted):
             axiom = model.axioms[number]

@@ -15,6 +15,7 @@ from glob import glob
 from random import Random
 
 from tests.cases import TOP, Cases, call, pipecheck, program, run, tool_entry, without_proofs, write
+from tests.random_texts import changed_file
 
 from tools.listings.reading import Notes
 from tools.listings.test86 import test_of, test_of_herd
@@ -228,13 +229,6 @@ class Maker:
         names = self.chance.sample(LOCATIONS, self.chance.randint(0, 4))
         return ";".join(map(self.equation, names)) + (";" if names and self.chance.random() < 0.5 else "")
 
-    def spoilt(self, listing: bytes) -> bytes:
-        """The listing with a part of it left out or put elsewhere."""
-        start, end, at = sorted(self.chance.randrange(len(listing) + 1) for _ in range(3))
-        end = min(end, start + self.chance.choice((1, 1, 3, 8)))
-        part = self.chance.choice((b"", b"", listing[start:end], b"locations", b"\\/", b"0:"))
-        return listing[:start] + listing[end:at] + part + listing[at:]
-
 
 def line_of(fault: Fault, listing: bytes) -> str:
     return f"refused test {fault.word} at {line_and_column(listing, fault.place)}\n"
@@ -279,7 +273,8 @@ class Answers(Cases):
         made = [maker.listing() for _ in range(int(os.environ.get("COUNT", "200")))]
         shipped = [*map(contents, sorted(glob(f"{TOP}/examples/x86/*.litmus")))]
         for name, listings in (
-            ("shipped listings", shipped), ("random listings", made), ("spoilt listings", [maker.spoilt(it) for it in made]),
+            ("shipped listings", shipped), ("random listings", made),
+            ("spoilt listings", [changed_file(maker.chance, it) for it in made]),
         ):
             with self.case(f"test86: {len(listings)} {name}"):
                 # random ones are asked on one model, and the next ones on the other

@@ -5,8 +5,8 @@ before itself, or a denied node or edge. A disjunction is open where the least w
 clash by themselves are struck out. A last member left is asserted; with none left the branch is closed. Where nothing is
 open, the least world is the witness.
 """
-from dataclasses import replace
 from copy import copy
+from dataclasses import replace
 from typing import Callable
 
 from tools.second.cases import Case
