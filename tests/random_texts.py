@@ -10,7 +10,7 @@ import sys
 from collections import Counter
 from itertools import count
 from random import Random
-from typing import Iterator
+from typing import Iterator, Sequence
 
 from tools.second.cases import Case
 from tools.second.judging import second_line
@@ -31,6 +31,8 @@ PREDICATES = {
 }
 NUMBERS = ("0", "1", "2", "00", "63", "64", "65", "0" * 5_000 + "7", "18446744073709551615", "18446744073709551616", "9" * 5_000)
 PIECE = re.compile(rb'\s+|"[^"\n]*"|[A-Za-z0-9_\']+|/\\|\\/|=>|->|.', re.DOTALL)
+# what a listing may have beside its own words
+LISTING_WORDS = b"MOV MFENCE exists P2 0:EAX=1 x=1; X86 locations EBX [x]".split()
 
 # the variables in scope, each with what it stands for
 Scope = dict[str, str]
@@ -215,18 +217,23 @@ def opened(random: Random, text: bytes, opens_writes: bool = False) -> bytes:
     return value.sub(lambda found: found[1] + b"(Data Any)" if random.random() < share else found[0], text)
 
 
-def changed_file(random: Random, text: bytes) -> bytes:
-    """The text with one to three changes of its pieces."""
+def changed_file(random: Random, text: bytes, words: Sequence[bytes] = ()) -> bytes:
+    """The text with one to three changes of its pieces, which may become one of these words."""
     pieces = PIECE.findall(text)
     for _ in range(random.choice((1, 1, 2, 3))):
-        pieces = changed_pieces(random, pieces) or [b" "]
+        pieces = changed_pieces(random, pieces, words) or [b" "]
     return b"".join(pieces)
 
 
-def changed_pieces(random: Random, pieces: list[bytes]) -> list[bytes]:
+def changed_listing(random: Random, text: bytes) -> bytes:
+    return changed_file(random, text, LISTING_WORDS)
+
+
+def changed_pieces(random: Random, pieces: list[bytes], words: Sequence[bytes]) -> list[bytes]:
     """One change: a piece goes, comes twice, moves or becomes another, or the text breaks off."""
     at, other = (random.randrange(len(pieces)) for _ in range(2))
-    kind = random.choice(("drop", "twice", "swap", "other", "number", "byte", "break", "open", "line"))
+    kinds = ["drop", "twice", "swap", "other", "number", "byte", "break", "open", "line"]
+    kind = random.choice([*kinds, "word", "word"] if words else kinds)
     if kind == "drop":
         return pieces[:at] + pieces[at + random.choice((1, 1, 5)):]
     if kind == "twice":
@@ -235,6 +242,8 @@ def changed_pieces(random: Random, pieces: list[bytes]) -> list[bytes]:
         pieces[at], pieces[other] = pieces[other], pieces[at]
     elif kind == "other":
         pieces[at] = pieces[other]
+    elif kind == "word":
+        pieces[at] = random.choice(words)
     elif kind == "number":
         pieces[at] = random.choice(NUMBERS).encode()
     elif kind == "byte":

@@ -667,7 +667,7 @@ class SpoiltListings(Cases):
         chance = Random(86)
         listings = [contents(it) for it in sorted(glob(f"{TOP}/examples/x86/*.litmus"))]
         with self.case(f"spoilt listings: {COUNT} answered alike by check86"):
-            found = [said("check86", VALUES, random_texts.changed_file(chance, chance.choice(listings))) for _ in range(COUNT)]
+            found = [said("check86", VALUES, random_texts.changed_listing(chance, chance.choice(listings))) for _ in range(COUNT)]
             words = {it.replace(";", "").split()[2 if it.startswith("refused") else 0] for it in found}
             self.assertLess({"observable", "unobservable", "lexical", "syntax"}, words)
 

@@ -15,7 +15,7 @@ from glob import glob
 from random import Random
 
 from tests.cases import TOP, Cases, call, pipecheck, program, run, tool_entry, without_proofs, write
-from tests.random_texts import changed_file
+from tests.random_texts import changed_listing
 
 from tools.listings.reading import Notes
 from tools.listings.test86 import test_of, test_of_herd
@@ -274,7 +274,7 @@ class Answers(Cases):
         shipped = [*map(contents, sorted(glob(f"{TOP}/examples/x86/*.litmus")))]
         for name, listings in (
             ("shipped listings", shipped), ("random listings", made),
-            ("spoilt listings", [changed_file(maker.chance, it) for it in made]),
+            ("spoilt listings", [changed_listing(maker.chance, it) for it in made]),
         ):
             with self.case(f"test86: {len(listings)} {name}"):
                 # random ones are asked on one model, and the next ones on the other
