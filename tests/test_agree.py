@@ -20,8 +20,11 @@ from tests.cases import (
 # what is imported here is there in each process that is forked from this one
 from tools import ending
 from tools.agree import comments, comparing_programs, table, working
+from tools.agree.listing import read_file
 from tools.agree.programs import Program
 from tools.agree.small_programs import Family, Shape, shapes_of
+from tools.agree.verdicts import is_alike
+from tools.second.listings import read_file_items
 
 AGREE = tool("agree", apart())
 BUFFER, DRAIN = "examples/models/tso-buffer.uspec", "examples/models/tso-drain.uspec"
@@ -254,6 +257,18 @@ class Files(AgreeCases):
 $'c\\u009b.uspec' MP.pattern: shown though tso does not allow it: 1 0
 {SWEPT}0 agree, 1 differ
 """, env=env)
+
+    def test_readings(self) -> None:
+        """machines run a test only as it is read here, too"""
+        path = f"{TOP}/examples/tests/MP+po+addr.test"
+        text = read(path)
+        for name, old, new in (
+            ("no change", "", ""), ("another address", "(PA 0 0) (Data 0)", "(PA 2 0) (Data 0)"), ("another end", "addr 2 0", "addr 1 0"),
+        ):
+            with self.case(f"a reading with {name}"):
+                self.assertIn(old, text)
+                case = read_file_items(path, text.replace(old, new).encode())[0]
+                self.assertEqual(is_alike(read_file(path), case), not old)
 
     def test_caches(self) -> None:
         for name, said, words in CACHES:

@@ -120,7 +120,7 @@ class Families(Cases):
 
     def runs(self, name: str, status: int, counts: str, lines: list[str], *words: str, before: str = "") -> None:
         """These words give these lines, in any order, behind the one that names the program, and the one that counts so."""
-        done = run(["bash", "-c", f'{before} exec tests/program "$@"', "bash", *words], cwd=self.top, env=self.env)
+        done = run(["bash", "-c", f'{before} unset SHOW_FAILED; exec tests/program "$@"', "bash", *words], cwd=self.top, env=self.env)
         wanted = sorted([*lines, f"{counts}, 0 skipped{BY_THAT_PROGRAM}"])
         self.same(name, (done.status, sorted(done.out.splitlines()[1:]), done.err), (status, wanted, ""))
 

@@ -16,7 +16,7 @@ import resource
 import sys
 from importlib import import_module
 from types import ModuleType
-from typing import Iterator
+from typing import Iterator, Sequence
 
 from tools.agree.listing import read_file
 from tools.agree.litmus import NotRun, Reads, Test, Value
@@ -47,12 +47,19 @@ def value_of(value: ReadValue | None) -> Value:
     return (value.tag, value.accessed, value.dirty) if isinstance(value, Entry) else value or 0
 
 
+def firsts(addresses: Sequence[object]) -> list[int]:
+    """For each of these addresses the place of the first that is the same."""
+    return [addresses.index(it) for it in addresses]
+
+
 def is_alike(test: Test, case: Case) -> bool:
-    """Whether both readings have the same micro-ops, and as many dependencies, initial and final values."""
+    """Whether both readings have the same micro-ops and dependencies, addresses that are alike at the same places, and as many initial
+    and final values."""
     here = [(op.instruction, op.kind, op.types, op.value) for op in test.ops]
     there = [(op.g, op.access, op.types, value_of(op.value)) for op in case.ops]
-    read = len(test.dependencies), len(test.initial), len(test.final)
-    return here == there and read == (len(case.dependencies), len(case.initial), len(case.final))
+    same = firsts([op.address for op in test.ops if op.kind != "Fence"]) == firsts([op.pa for op in case.ops if op.pa is not None])
+    read = test.dependencies, len(test.initial), len(test.final)
+    return here == there and same and read == (case.dependencies, len(case.initial), len(case.final))
 
 
 def lines_of(machine: ModuleType, path: str) -> list[str] | None:
