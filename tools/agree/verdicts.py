@@ -58,7 +58,7 @@ def is_alike(test: Test, case: Case) -> bool:
     here = [(op.instruction, op.kind, op.types, op.value) for op in test.ops]
     there = [(op.g, op.access, op.types, value_of(op.value)) for op in case.ops]
     same = firsts([op.address for op in test.ops if op.kind != "Fence"]) == firsts([op.pa for op in case.ops if op.pa is not None])
-    read = test.dependencies, len(test.initial), len(test.final)
+    read = {*test.dependencies}, len(test.initial), len(test.final)
     return here == there and same and read == (case.dependencies, len(case.initial), len(case.final))
 
 
