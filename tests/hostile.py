@@ -126,25 +126,17 @@ class Runs:
             raise Wrong(f"{args}: status {answer[0]}, {answer[1][:80]!r}, and not {wanted}")
         return answer
 
-    def whole(self) -> None:
-        """A model and a test without a fault."""
-        self.pair(random_texts.ModelMaker(self.random).text(), random_texts.test_text(self.random))
-
-    def changed(self) -> None:
-        """A model and a test of which one or both are changed."""
-        model_text, test_text = random_texts.ModelMaker(self.random).text(), random_texts.test_text(self.random)
-        which = self.random.randrange(3)
-        model_text = random_texts.changed_file(self.random, model_text) if which != 1 else model_text
-        test_text = random_texts.changed_file(self.random, test_text) if which != 0 else test_text
-        self.pair(model_text, test_text)
-
     def alike(self, args: Words, seconds: float = SECONDS_OF_A_READING) -> Answer:
         """Runs the program; its answer has to be that of the second implementation."""
         return self.demand(args, within(of_second, args, seconds=seconds))
 
-    def pair(self, model_text: bytes, test_text: bytes) -> None:
-        """Both kinds of check on a pair, against the second implementation; then what can be done with the certificate."""
-        files: Words = [self.write("model", model_text), self.write("test", test_text)]
+    def pair(self) -> None:
+        """Both kinds of check on a model and a test, as often changed as not, against the second implementation; then what can be
+        done with the certificate."""
+        texts = [random_texts.ModelMaker(self.random).text(), random_texts.test_text(self.random)]
+        for place in self.random.choice(((), (), (), (0,), (1,), (0, 1))):
+            texts[place] = random_texts.changed_file(self.random, texts[place])
+        files: Words = [*map(self.write, ("model", "test"), texts)]
         status, text = within(of_second, ["check", *files])
         if status == 3:
             self.refused(files, text)
@@ -155,10 +147,10 @@ class Runs:
             self.outside([word, *files], answer)
         self.alike(["core", *files])
         # texts that begin as a lifted refutation does, and changes of them
-        text = within(random_texts.lifted_text, self.random, LiftedJudge(read_model(model_text), read_case(test_text)))
+        text = within(random_texts.lifted_text, self.random, LiftedJudge(read_model(texts[0]), read_case(texts[1])))
         for _ in range(3):
             self.lifted(files, status, text)
-            text = random_texts.changed_lifted(self.random, text)
+            text = random_texts.changed_certificate(self.random, text)
 
     def lifted(self, files: Words, status: int, text: bytes) -> bool:
         """Whether both judges take a lifted refutation. They take none where the status of `check` is that of an observable one."""
@@ -180,10 +172,10 @@ class Runs:
         """All commands on two files refuse them by this line, which has a word of docs/faults.md."""
         word = self.word_of(line)
         third = self.path("none")
-        commands = (["check", *files], ["check2", *files], ["core", *files], ["verify", *files, third],
-                    ["verify-lifted", *files, third], ["lift", *files, third])
-        for args in commands:
-            self.demand(args, (3, line))
+        for command in ("check", "check2", "core"):
+            self.demand([command, *files], (3, line))
+        for command in ("verify", "verify-lifted", "lift"):
+            self.demand([command, *files, third], (3, line))
         # the query is read before anything is judged
         self.demand(["ask", *files, third], (3, line) if word == b"too-large" else (4, b""))
         self.outside(["check", *files], (3, line))
@@ -267,11 +259,9 @@ class Runs:
         pattern_text = random_texts.opened(self.random, random_texts.test_text(self.random), self.random.random() < 0.05)
         if self.random.random() < 0.3:
             pattern_text = random_texts.changed_file(self.random, pattern_text)
-        model_text = random_texts.ModelMaker(self.random).text()
-        files: Words = [self.write("model", model_text), self.write("test", pattern_text)]
+        files: Words = [self.write("model", random_texts.ModelMaker(self.random).text()), self.write("test", pattern_text)]
         answer = self.alike(["sweep", *files])
-        if self.random.random() < 0.1:
-            self.little_memory(["sweep", *files], answer)
+        self.outside(["sweep", *files], answer)
 
     def query(self) -> None:
         """A query, against the second implementation's answer."""
@@ -311,7 +301,7 @@ class Runs:
     def judged(self, name: str) -> None:
         """The case of this name; what is wrong with it is kept."""
         self.random = Random(name)
-        kinds = {self.whole: 5, self.changed: 5, self.arguments: 1, self.machine: 2, self.pattern: 3, self.query: 3}
+        kinds = {self.pair: 10, self.arguments: 1, self.machine: 2, self.pattern: 3, self.query: 3}
         (kind,) = self.random.choices([*kinds], weights=[*kinds.values()])
         try:
             kind()

@@ -15,26 +15,22 @@ from typing import Iterator, Sequence
 from tools.second.cases import Case
 from tools.second.judging import second_line
 from tools.second.lifted import LiftedJudge
+from tools.second.predicates import CORE, MICROOP, PLAIN, PREDICATES
 
-SORTS = {"op": "microop", "core": "core"}
-# what a predicate takes: a micro-op, a core, or a plain name of these
-OP, CORE, TYPE, KIND = "op", "core", "type", "kind"
 TYPES = ("Full", "Light", "Walk", "VA")
 KINDS = ("addr", "data", "ctrl")
-OF_ONE = ("IsAnyRead", "IsAnyWrite", "IsAnyFence")
-OF_TWO = """SameCore SameThread SameMicroop SameInstruction SameIntra ProgramOrder SameVirtualAddress SamePhysicalAddress
-    SameVirtualTag SamePhysicalTag SameIndex SameData EntryOf MapsTagOf"""
-PREDICATES = {
-    **dict.fromkeys(OF_ONE, [OP]), "AccessType": [TYPE, OP], "OnCore": [CORE, OP],
-    **dict.fromkeys(("DataFromInitialStateAtPA", "DataFromFinalStateAtPA"), [OP]), "HasDependency": [KIND, OP, OP],
-    **dict.fromkeys(("MarkedAccessed", "MarkedDirty"), [OP]), **dict.fromkeys(OF_TWO.split(), [OP, OP]),
-}
 NUMBERS = ("0", "1", "2", "00", "63", "64", "65", "0" * 5_000 + "7", "18446744073709551615", "18446744073709551616", "9" * 5_000)
 PIECE = re.compile(rb'\s+|"[^"\n]*"|[A-Za-z0-9_\']+|/\\|\\/|=>|->|.', re.DOTALL)
 # what a listing may have beside its own words
 LISTING_WORDS = b"MOV MFENCE exists P2 0:EAX=1 x=1; X86 locations EBX [x]".split()
 
-# the variables in scope, each with what it stands for
+# the first words of lines of certificates and of lifted refutations, and what may come behind a line
+FIRST_WORDS = b"split cycle path absent false node edge end left right not bind inst member".split()
+ENDS = (b" ", b"\r", b"\t", b" 0.0@0:S", b" 0", b".0", b"0", b" 18446744073709551616")
+
+# the parts of a text that are changed, and what stands in their place then
+Change = tuple[slice, list[bytes]]
+# the variables in scope, each with what it stands for: a micro-op or a core
 Scope = dict[str, str]
 
 
@@ -63,7 +59,7 @@ class ModelMaker:
 
     def macro(self, name: str) -> str:
         """A macro; its body names its parameters alone."""
-        sorts = [self.random.choice((OP, OP, CORE)) for _ in range(self.random.randint(0, 3))]
+        sorts = [self.random.choice((MICROOP, MICROOP, CORE)) for _ in range(self.random.randint(0, 3))]
         names = self.random.sample("ijkcd", len(sorts))
         self.deepest = 0
         body = self.formula(dict(zip(names, sorts)), 2, 1)
@@ -75,13 +71,13 @@ class ModelMaker:
         self.deepest = 0
         if self.random.random() < 0.4:
             return self.formula({}, 4, 3)
-        scope = {"i": OP, "j": OP}
+        scope = {"i": MICROOP, "j": MICROOP}
         guard, body = self.atom(scope, False), self.formula(scope, 2, 1)
         return f'forall microops "i", forall microops "j", {guard} => {body}'
 
     def formula(self, scope: Scope, depth: int, quantifiers: int) -> str:
         """A formula over this scope: at most so deep, with at most so many quantifiers over each other."""
-        forms = ["atom", "atom", "and", "or", "implies", "not"] + ["quantifier"] * (2 if OP in scope.values() else 20)
+        forms = ["atom", "atom", "and", "or", "implies", "not"] + ["quantifier"] * (2 if MICROOP in scope.values() else 20)
         form = self.random.choice(forms)
         macros = [macro for macro in self.macros if macro[2] <= quantifiers and set(macro[1]) <= set(scope.values())]
         if macros and self.random.random() < 0.25:
@@ -100,12 +96,12 @@ class ModelMaker:
 
     def quantified(self, scope: Scope, depth: int, quantifiers: int) -> str:
         """A quantifier, whose variable may hide one. Its brackets let it stand anywhere."""
-        sort = self.random.choice((OP, OP, OP, CORE))
-        name = self.random.choice("ijk" if sort == OP else "cdi")
+        sort = self.random.choice((MICROOP, MICROOP, MICROOP, CORE))
+        name = self.random.choice("ijk" if sort == MICROOP else "cdi")
         self.deepest = max(self.deepest, 4 - quantifiers)
         body = self.formula(scope | {name: sort}, depth - 1, quantifiers - 1)
         word = self.random.choice(("forall", "exists"))
-        return f'({word} {SORTS[sort]}{self.random.choice(("", "s"))} "{name}", {body})'
+        return f'({word} {sort}{self.random.choice(("", "s"))} "{name}", {body})'
 
     def expansion(self, scope: Scope, name: str, sorts: list[str], deepest: int) -> str:
         """An expansion with arguments of the sorts that the macro was made for."""
@@ -114,8 +110,6 @@ class ModelMaker:
 
     def argument(self, scope: Scope, sort: str) -> str:
         """An argument of this sort."""
-        if sort in (TYPE, KIND):
-            return self.random.choice(TYPES if sort == TYPE else KINDS)
         names = [name for name, its in scope.items() if its == sort]
         if sort == CORE and (not names or self.random.random() < 0.4):
             return str(self.random.randint(0, 3))
@@ -123,19 +117,21 @@ class ModelMaker:
 
     def atom(self, scope: Scope, may_order: bool) -> str:
         """A predicate, or nodes or edges where there is a micro-op to speak of."""
-        if OP not in scope.values():
+        if MICROOP not in scope.values():
             return self.random.choice(("True", "False", "True"))
         if may_order and self.random.random() < 0.75:
             return self.order(scope)
         name = self.random.choice(list(PREDICATES))
-        return " ".join([name] + [self.argument(scope, sort) for sort in PREDICATES[name]])
+        takes, _ = PREDICATES[name]
+        plain = KINDS if name == "HasDependency" else TYPES
+        return " ".join([name, *(self.random.choice(plain) if it == PLAIN else self.argument(scope, it) for it in takes)])
 
     def node(self, scope: Scope) -> str:
         """A node, at its own core or at another one."""
         stage = self.random.choice(self.stages)
         if self.random.random() < 0.2:
             stage = f"({self.argument(scope, CORE)}, {stage})"
-        return f"({self.argument(scope, OP)}, {stage})"
+        return f"({self.argument(scope, MICROOP)}, {stage})"
 
     def order(self, scope: Scope) -> str:
         """Nodes or edges."""
@@ -229,83 +225,57 @@ def changed_listing(random: Random, text: bytes) -> bytes:
     return changed_file(random, text, LISTING_WORDS)
 
 
+def moved(parts: list[bytes], at: int, other: int) -> list[Change]:
+    """Changes that leave each part of a text as it is: one goes, or comes twice, or two change places."""
+    first, last = sorted((at, other))
+    swapped = [parts[last], *parts[first + 1 : last], parts[first]]
+    return [(slice(at, at + 1), []), (slice(other, other), [parts[at]]), (slice(first, last + 1), swapped)]
+
+
 def changed_pieces(random: Random, pieces: list[bytes], words: Sequence[bytes]) -> list[bytes]:
-    """One change: a piece goes, comes twice, moves or becomes another, or the text breaks off."""
+    """One change: pieces go, come again, move or become others, or the text breaks off."""
     at, other = (random.randrange(len(pieces)) for _ in range(2))
-    kinds = ["drop", "twice", "swap", "other", "number", "byte", "break", "open", "line"]
-    kind = random.choice([*kinds, "word", "word"] if words else kinds)
-    if kind == "drop":
-        return pieces[:at] + pieces[at + random.choice((1, 1, 5)):]
-    if kind == "twice":
-        return pieces[:at] + pieces[at:at + 1] * random.choice((2, 3, 200)) + pieces[at + 1:]
-    if kind == "swap":
-        pieces[at], pieces[other] = pieces[other], pieces[at]
-    elif kind == "other":
-        pieces[at] = pieces[other]
-    elif kind == "word":
-        pieces[at] = random.choice(words)
-    elif kind == "number":
-        pieces[at] = random.choice(NUMBERS).encode()
-    elif kind == "byte":
-        pieces[at] = bytes([random.choice((0, 9, 13, 34, 37, 40, 127, 128, 195, 255, random.randrange(256)))])
-    elif kind == "break":
-        return pieces[:at]
-    elif kind == "open":
-        pieces[at] = random.choice((b"(", b"~", b"(*", b"//", b'"')) * random.choice((1, 127, 128, 129))
-    elif kind == "line":
-        return pieces[:at] + [b"\n"] + pieces[min(at, other):max(at, other)] + pieces[at:]
+    opening = random.choice((b"(", b"~", b"(*", b"//", b'"'))
+    # what may stand in place of the piece
+    instead = [
+        pieces[other], random.choice(NUMBERS).encode(), opening * random.choice((1, 127, 128, 129)),
+        bytes([random.choice((0, 9, 13, 34, 37, 40, 127, 128, 195, 255, random.randrange(256)))]),
+        *(random.choice(words) for _ in range(2) if words),
+    ]
+    changes: list[Change] = [
+        *moved(pieces, at, other), (slice(at, at + 5), []), (slice(at, None), []), (slice(at, at), 199 * [pieces[at]]),
+        (slice(at, at), [b"\n", *pieces[min(at, other) : max(at, other)]]),
+        *((slice(at, at + 1), [it]) for it in instead),
+    ]
+    where, new = random.choice(changes)
+    pieces[where] = new
     return pieces
 
 
 def changed_certificate(random: Random, text: bytes) -> bytes:
-    """The certificate with one change of its lines, which may spoil it or not."""
-    firsts, ends = b"split cycle path absent false node edge end".split(), (b" ", b"\r", b"\t", b" 0.0@0:S")
-    return changed_lines(random, text, firsts, ends, ("node", "sign", "version", "number"))
-
-
-def changed_lifted(random: Random, text: bytes) -> bytes:
-    """The lifted refutation with one change of its lines, which may spoil it or not."""
-    firsts = b"left right not bind inst member split false cycle path absent end".split()
-    ends = (b" ", b"\r", b" 0", b".0", b"0", b" 18446744073709551616")
-    return changed_lines(random, text, firsts, ends, ("words", *4 * ["number"]))
-
-
-def changed_lines(random: Random, text: bytes, firsts: list[bytes], ends: tuple[bytes, ...], kinds: tuple[str, ...]) -> bytes:
-    """A text with one change of a line: of its first word to another, of its end, or of one of these kinds beside all others."""
+    """The certificate, or lifted refutation, with one change of its lines or of a line, which may spoil it or not."""
     lines = text.split(b"\n")
     at = random.randrange(len(lines))
     other = random.choice((max(0, at - 1), min(len(lines) - 1, at + 1), random.randrange(len(lines))))
-    words = lines[at].split(b" ")
-    place = random.randrange(len(words))
-    kind = random.choice(("drop", "twice", "swap", "word", "break", "end", "byte", *kinds))
-    if kind == "drop":
-        del lines[at]
-    elif kind == "twice":
-        lines.insert(other, lines[at])
-    elif kind == "swap":
-        lines[at], lines[other] = lines[other], lines[at]
-    elif kind == "word":
-        lines[at] = b" ".join([random.choice(firsts), *words[1:]])
-    elif kind == "break":
-        return text[: random.randrange(len(text) + 1)]
-    elif kind == "end":
-        lines[at] += random.choice(ends)
-    elif kind == "byte":
-        start = random.randrange(len(lines[at]) + 1)
-        lines[at] = lines[at][:start] + bytes([random.randrange(256)]) + lines[at][start + 1 :]
-    elif kind == "version":
-        lines[2:3] = [] if lines[2:3] == [b"version 2"] else [b"version 2", *lines[2:3]]
-    elif kind == "sign":
-        old, new = (b"split ~", b"split ") if b"~" in lines[at] else (b"split ", b"split ~")
-        lines[at] = lines[at].replace(old, new)
-    else:
-        step, taken = random.choice((-2, -1, -1, 1, 1, 2, 100)), words[random.randrange(len(words))]
-        words[place:place + 1] = {
-            "node": [random.choice([word for line in lines for word in line.split(b" ") if b"@" in word] or [b"0.0@0:S"])],
-            "words": [taken, words[place]],
-            "number": [re.sub(rb"\d+", lambda found: str(max(0, int(found[0]) + step)).encode(), words[place], count=1)],
-        }[kind]
-        lines[at] = b" ".join(words)
+    line, words = lines[at], lines[at].split(b" ")
+    start, place, step = random.randrange(len(line) + 1), random.randrange(len(words)), random.choice((-2, -1, -1, 1, 1, 2, 100))
+    nodes = [word for it in lines for word in it.split(b" ") if b"@" in word] or [b"0.0@0:S"]
+    number = re.sub(rb"\d+", lambda found: str(max(0, int(found[0]) + step)).encode(), words[place], count=1)
+    # what may stand in place of a word, and in place of the line
+    new_words = [[random.choice(nodes)], [random.choice(words), words[place]], *4 * [[number]]]
+    instead = [
+        b" ".join([random.choice(FIRST_WORDS), *words[1:]]), line + random.choice(ENDS),
+        line[:start] + bytes([random.randrange(256)]) + line[start + 1 :],
+        line.replace(b"split ~", b"split ") if b"~" in line else line.replace(b"split ", b"split ~"),
+        *(b" ".join([*words[:place], *it, *words[place + 1 :]]) for it in new_words),
+    ]
+    changes: list[Change] = [
+        *moved(lines, at, other), (slice(at, None), [line[:start]]),
+        (slice(2, 3), [] if lines[2:3] == [b"version 2"] else [b"version 2", *lines[2:3]]),
+        *((slice(at, at + 1), [it]) for it in instead),
+    ]
+    where, new = random.choice(changes)
+    lines[where] = new
     return b"\n".join(lines)
 
 

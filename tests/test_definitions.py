@@ -7,7 +7,6 @@ import os
 import re
 from glob import glob
 
-from tests import random_texts
 from tests.cases import TOP, Cases, Done, read, run, tool, write
 from tests.test_pages import shown_by
 
@@ -286,7 +285,6 @@ class Lists(Cases):
             ("the code's list", in_file("crates/*/src/pred.rt", r"^        Pred::(\w+),$"), names),
             ("docs/language.md", sorted(re.findall(r"^\| `(\w+)[^`]*` \|", page, re.M)), names),
             ("the second implementation", sorted(PREDICATES), names),
-            ("random texts", sorted(random_texts.PREDICATES), of_test),
             ("editors/vim", sorted(" ".join(vim).split()), of_test),
             ("editors/textmate", sorted("".join(textmate).split("|")), of_test),
             ("tests of names", in_file("crates/language_tests/src/parsers/formulas.rt", r'\(\s*b"(\w+)",\s*Pred::'), names),

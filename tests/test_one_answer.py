@@ -34,7 +34,6 @@ from tools.second.positions import Positions
 from tools.second.predicates import PREDICATES
 from tools.second.scopes import read_model
 from tools.texts.contents import contents as bytes_of
-from tools.texts.writing_tests import without_names
 
 COUNT = int(os.environ.get("COUNT", "600"))
 # each file is read once
@@ -509,7 +508,7 @@ def told_listing(text: str) -> str:
     """What the case of a listing says, its addresses by their numbers, or its refusal. It is answered on a model of values."""
     answered = said("check86", VALUES, text)
     is_refused = answered.startswith("refused")
-    return answered if is_refused else str(without_names(judged("test", read_listing, text.encode("ascii"))))
+    return answered if is_refused else str(judged("test", read_listing, text.encode("ascii")))
 
 
 # beside an edge from S to T: an Or, written with names of stages, and whether it is forced, with one alternative left or none
@@ -598,7 +597,7 @@ class Second(Cases):
             self.tells(lambda it, of=PREDICATES[name][1]: str(of(case, *map(int, it.split()))), rows)
 
     def test_listings(self) -> None:
-        same = str(without_names(read_case(SAME.encode("ascii"))))
+        same = str(read_case(SAME.encode("ascii")))
         many = LISTING.replace(" MFENCE ", 59 * " MFENCE | ;\n" + " MFENCE ")
         self.tells(told_listing, [
             ("a listing says what a test says", LISTING, same),
@@ -699,7 +698,7 @@ class SpoiltLifted(Cases):
             for number in range(COUNT):
                 model, test, text = (self.walked if number % 2 else self.shipped)(chance)
                 for _ in range(chance.randint(0, 3)):
-                    text = random_texts.changed_lifted(chance, text)
+                    text = random_texts.changed_certificate(chance, text)
                 words.add(said("verify-lifted", model, test, text).split()[0])
             self.assertEqual(words, {"verified", "certificate"})
 

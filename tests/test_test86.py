@@ -26,7 +26,7 @@ from tools.telling.refusals import expected, left_out
 from tools.telling.refusals import refusal_of as read_refusal
 from tools.texts.contents import contents
 from tools.texts.quoting import line_and_column
-from tools.texts.writing_tests import test_of_listing, without_names
+from tools.texts.writing_tests import test_of_listing
 
 # what the script calls, in a process that is forked from this one
 TEST86 = tool_entry("listings.test86")
@@ -261,7 +261,7 @@ class Answers(Cases):
             done = run([program(), "check86", MODELS[0], paths[0]])
             return "" if (done.status, done.out) == (3, line_of(fault, listing)) else f"check86 says {done.out}"
         write(paths[1], text)
-        if without_names(read_case(text.encode("ascii"))) != without_names(read_listing(listing)):
+        if read_case(text.encode("ascii")) != read_listing(listing):
             return "says another case"
         for it in models:
             if run([program(), "check", it, paths[1]]) != run([program(), "check86", it, paths[0]]):
@@ -284,7 +284,7 @@ class Answers(Cases):
             for listing in made:
                 notes = Notes()
                 found = read_case(test_of_herd(listing, notes).encode("ascii"))
-                self.assertEqual((without_names(found), notes.places), (without_names(read_listing(listing)), {}), listing)
+                self.assertEqual((found, notes.places), (read_listing(listing), {}), listing)
 
 
 class Typed(Cases):

@@ -9,7 +9,7 @@ from typing import Iterator, Mapping, NamedTuple
 from tools.listings.logs import Result, State
 from tools.listings.programs import Program
 from tools.listings.reading import Variable, register_name
-from tools.second.cases import Location
+from tools.second.cases import Page
 from tools.second.patterns import ENDING, MOST_ROWS
 from tools.second.standard_output import FAILED
 from tools.suite.pairs import OBSERVABLE, Checker
@@ -34,7 +34,7 @@ class Sweep(NamedTuple):
     """What one sweep asks: what some reads get, and the values at the end."""
 
     reads: Mapping[int, int]
-    finals: Mapping[Location, int]
+    finals: Mapping[Page, int]
 
 
 @dataclass

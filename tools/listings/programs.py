@@ -3,10 +3,10 @@ from dataclasses import replace
 from typing import Mapping, NamedTuple
 
 from tools.listings.reading import Beyond, HerdReader, Instruction, Notes, Variable
-from tools.second.cases import MOST_OPS, Location, Op
+from tools.second.cases import MOST_OPS, Op, Page
 from tools.second.listings import judge_head
 from tools.second.tokens import Fault, Token
-from tools.texts.writing_tests import op_text, printable, value_line, written
+from tools.texts.writing_tests import item_lines, printable, written
 
 LOCKED = "Locked"
 
@@ -26,9 +26,9 @@ class Program:
         self.condition = written.condition
         self.notes = notes
         # by their names, and numbered as they are named first
-        self.locations: dict[str, Location] = {}
+        self.locations: dict[str, Page] = {}
         # the values at the start that are stated, in the order of the text
-        self.initial: dict[Location, int] = {}
+        self.initial: dict[Page, int] = {}
         # what the registers hold at the end; those that are not named hold 0
         self.registers: dict[Variable, int | Loaded] = {}
         # where a register that was loaded gets another value, in the order of the text: what was loaded is not to be seen
@@ -60,7 +60,7 @@ class Program:
         """The numbers of the reads, in test order."""
         return [number for number, op in self.ops.items() if op.access == "Read"]
 
-    def writes_to(self, location: Location) -> list[int]:
+    def writes_to(self, location: Page) -> list[int]:
         """What is written to a location, each value once, in test order."""
         values = (op.value for op in self.ops.values() if op.access == "Write" and op.pa == location)
         return list(dict.fromkeys(value for value in values if isinstance(value, int)))
@@ -68,10 +68,10 @@ class Program:
     def choices(self, number: int) -> list[int]:
         """What a read may get: the value at the start, and what is written there."""
         location = self.ops[number].pa
-        assert isinstance(location, Location)
+        assert isinstance(location, Page)
         return list(dict.fromkeys([self.initial.get(location, 0), *self.writes_to(location)]))
 
-    def value(self, variable: Variable, reads: Mapping[int, int], finals: Mapping[Location, int]) -> int:
+    def value(self, variable: Variable, reads: Mapping[int, int], finals: Mapping[Page, int]) -> int:
         """What a variable has at the end, where the reads get these values."""
         if variable.thread is None:
             location = self.locations[variable.name]
@@ -79,22 +79,22 @@ class Program:
         held = self.registers.get(variable, 0)
         return reads[held.op] if isinstance(held, Loaded) else held
 
-    def lines(self, reads: Mapping[int, int], finals: Mapping[Location, int]) -> list[tuple[str, str]]:
+    def lines(self, reads: Mapping[int, int], finals: Mapping[Page, int]) -> list[tuple[str, str]]:
         """The items of a test or of a pattern, each with a comment. These reads get these values, and the others are open."""
-        lines = [value_line("Init", location, value) for location, value in self.initial.items()]
+        ops = []
         for number, op in self.ops.items():
             text = printable(self.texts[number])
             if number in reads:
                 op, text = replace(op, value=reads[number]), f"{text} = {reads[number]}"
-            lines.append((op_text(op), text))
-        return [*lines, *(value_line("Final", location, value) for location, value in finals.items())]
+            ops.append((op, text))
+        return item_lines(self.initial.items(), ops, finals.items(), self.condition.quantifier == "~exists")
 
-    def pattern(self, reads: Mapping[int, int], finals: Mapping[Location, int]) -> str:
+    def pattern(self, reads: Mapping[int, int], finals: Mapping[Page, int]) -> str:
         """A pattern whose reads are open, but for those that get these values, with these values at the end."""
         return written(self.written.title, [], [(line, "") for line, _ in self.lines(reads, finals)])
 
-    def location(self, name: str) -> Location:
-        return self.locations.setdefault(name, Location(len(self.locations), 0, name))
+    def location(self, name: str) -> Page:
+        return self.locations.setdefault(name, Page(len(self.locations), 0, name))
 
     def judge_start(self, variable: Variable, value: int, token: Token) -> None:
         """A location, or a register, has one value at the start."""

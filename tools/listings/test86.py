@@ -10,7 +10,7 @@ import os
 from tools import TOP
 from tools.listings.programs import Loaded, Program
 from tools.listings.reading import Beyond, Notes
-from tools.second.cases import Location
+from tools.second.cases import Page
 from tools.second.standard_output import UNREAD
 from tools.second.tokens import Fault
 from tools.suite.telling import tell
@@ -42,16 +42,14 @@ def test_of_herd(data: bytes, notes: Notes) -> str:
     if program.reloads:
         raise Fault("x86-reload", program.reloads[0].at)
     lines = program.lines(*outcome_of(program, notes))
-    if program.condition.quantifier == "~exists":
-        lines.append(("Forbidden.", ""))
     above = (line.removeprefix("(*").removesuffix("*)").strip() for line in comments(data, program.written.start))
     return within_limit(program.written.title, filter(None, above), lines)
 
 
-def outcome_of(program: Program, notes: Notes) -> tuple[dict[int, int], dict[Location, int]]:
+def outcome_of(program: Program, notes: Notes) -> tuple[dict[int, int], dict[Page, int]]:
     """The one outcome that the condition states, or its first fault: what the reads get, by their numbers, and final values."""
     reads: dict[int, int] = {}
-    finals: dict[Location, int] = {}
+    finals: dict[Page, int] = {}
     for variable, value, token in program.condition.equations():
         held = program.registers.get(variable, 0)
         if variable.thread is None:

@@ -12,23 +12,14 @@ OPEN = "Any"
 
 @dataclass(frozen=True)
 class Page:
-    """An address: a tag, and an index inside the page."""
+    """An address: a tag, and an index inside the page; and the name that a listing has for it."""
 
     tag: int
     index: int
+    name: str = field(default="", compare=False, repr=False)
 
     def __str__(self) -> str:
-        return f"PA {self.tag} {self.index}"
-
-
-@dataclass(frozen=True)
-class Location(Page):
-    """An address that a listing names."""
-
-    name: str = field(default="", compare=False)
-
-    def __str__(self) -> str:
-        return self.name
+        return self.name or f"PA {self.tag} {self.index}"
 
 
 @dataclass(frozen=True)
@@ -75,9 +66,10 @@ class Op:
 
 @dataclass
 class Case:
-    """What a test says. Micro-ops stand in test order and are named by their places in it."""
+    """What a test says. Micro-ops stand in test order and are named by their places in it. No axiom can ask for a title or a name,
+    so that cases are the same without them."""
 
-    title: str
+    title: str = field(compare=False)
     ops: list[Op] = field(default_factory=list)
     dependencies: set[tuple[str, int, int]] = field(default_factory=set)
     initial: dict[Address, Value] = field(default_factory=dict)

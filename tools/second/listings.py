@@ -2,7 +2,7 @@
 import re
 from typing import Callable, NamedTuple, Sequence
 
-from tools.second.cases import GREATEST_CORE, MOST_OPS, Case, ExpectationItem, Item, Location, Op, OpItem, ValueItem
+from tools.second.cases import GREATEST_CORE, MOST_OPS, Case, ExpectationItem, Item, Op, OpItem, Page, ValueItem
 from tools.second.cases import case_of, read_items
 from tools.second.patterns import ENDING as PATTERN_ENDING
 from tools.second.patterns import read_pattern_items
@@ -185,9 +185,9 @@ class Judge:
 
     def __init__(self, listing: Listing) -> None:
         self.listing = listing
-        self.locations: dict[str, Location] = {}
-        self.inits: dict[Location, Equation] = {}
-        self.finals: dict[Location, Equation] = {}
+        self.locations: dict[str, Page] = {}
+        self.inits: dict[Page, Equation] = {}
+        self.finals: dict[Page, Equation] = {}
         # each load by its register, in the order of the text
         self.loads: dict[Register, Token] = {}
         self.values: dict[Register, Token] = {}
@@ -210,11 +210,11 @@ class Judge:
         forbids: list[Item] = [ExpectationItem("Forbidden", condition.at)] if condition.piece == "~" else []
         return [*self.states("Init", self.inits), *self.ops(), *self.states("Final", self.finals), *forbids]
 
-    def location(self, name: Token) -> Location:
+    def location(self, name: Token) -> Page:
         """The location of a name. Locations are numbered as they are named first."""
-        return self.locations.setdefault(name.piece, Location(len(self.locations), 0, name.piece))
+        return self.locations.setdefault(name.piece, Page(len(self.locations), 0, name.piece))
 
-    def judge_state(self, equation: Equation, known: dict[Location, Equation], fault: str) -> None:
+    def judge_state(self, equation: Equation, known: dict[Page, Equation], fault: str) -> None:
         """A location has one value at the start, and one at the end."""
         location = self.location(equation.name)
         if location in known:
@@ -250,7 +250,7 @@ class Judge:
             raise Fault("x86-again", thread.at)
         self.values[register] = equation.number
 
-    def states(self, word: str, known: dict[Location, Equation]) -> list[Item]:
+    def states(self, word: str, known: dict[Page, Equation]) -> list[Item]:
         """The values at the start, or at the end."""
         return [ValueItem(word, one.name.at, location, one.number.value) for location, one in known.items()]
 

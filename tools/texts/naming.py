@@ -3,7 +3,7 @@ that the comments of a test give: `% x = 1` or `% x is 1` behind the micro-op of
 import re
 from typing import Iterable
 
-from tools.second.cases import Address, Case, Item, Location, OpItem
+from tools.second.cases import Address, Case, Item, OpItem, Page
 from tools.second.listings import ENDING, read_file_items
 from tools.second.meaning import Node
 from tools.second.models import Axiom, Model
@@ -28,7 +28,7 @@ class Names:
         self.text = model_text
         pages = dict.fromkeys([op.pa for op in case.ops if op.pa is not None] + [*case.initial, *case.final])
         # those of a listing have names of their own
-        has_letters = len(pages) <= len(LETTERS) and not any(isinstance(page, Location) for page in pages)
+        has_letters = len(pages) <= len(LETTERS) and not any(isinstance(page, Page) and page.name for page in pages)
         letters = (letter for letter in LETTERS if letter not in case.names.values())
         self.pages = {page: case.names.get(page) or (next(letters) if has_letters else str(page)) for page in pages}
 

@@ -2,12 +2,10 @@
 
 The names of the listing stand in comments: of its threads, locations and registers, and what its author wrote beside them.
 """
-from dataclasses import replace
 from typing import Iterable, Iterator
 
-from tools.second.cases import OPEN, Address, Case, Entry, ExpectationItem, Item, Location, Op, OpItem, Page, ValueItem
-from tools.second.cases import read_case
-from tools.second.listings import PIECE, Instruction, Judge, Listing, ListingReader, behind_header, read_listing
+from tools.second.cases import OPEN, Address, Entry, Op, Page, case_of, read_case
+from tools.second.listings import PIECE, Instruction, Judge, ListingReader, behind_header
 from tools.second.tokens import Fault, tokens
 from tools.texts.contents import LIMIT
 
@@ -20,9 +18,13 @@ def test_of_listing(data: bytes) -> str:
     would have too many bytes with them; where it has without them too, the listing is refused."""
     title, start = behind_header(data)
     listing = ListingReader(tokens(data, PIECE, start)).listing()
-    items = Judge(listing).items()
-    text = within_limit(title, notes(data, start), list(item_lines(listing, items)))
-    assert without_names(read_case(text.encode("ascii"))) == without_names(read_listing(data))
+    case = case_of(title, Judge(listing).items())
+    # the instructions in the order of their micro-ops
+    cells = [cell for column in zip(*(row for row, _ in listing.rows)) for cell in column if cell is not None]
+    ops = zip(case.ops, map(op_comment, case.ops, cells))
+    lines = item_lines(case.initial.items(), ops, case.final.items(), case.expectation == "forbidden")
+    text = within_limit(title, notes(data, start), lines)
+    assert read_case(text.encode("ascii")) == case
     return text
 
 
@@ -58,24 +60,15 @@ def notes(data: bytes, start: int) -> Iterator[str]:
     yield from (printable(line.strip()) for line in [*header, *inside] if line.strip())
 
 
-def item_lines(listing: Listing, items: list[Item]) -> Iterator[tuple[str, str]]:
-    """Each item with a comment that has its names."""
-    # the instructions in the order of their micro-ops
-    cells = (cell for column in zip(*(row for row, _ in listing.rows)) for cell in column if cell is not None)
-    for item in items:
-        if isinstance(item, OpItem):
-            yield op_text(item.op), op_comment(item.op, next(cells))
-        elif isinstance(item, ValueItem):
-            assert isinstance(item.pa, Location)
-            yield value_line(item.word, item.pa, item.value)
-        else:
-            assert isinstance(item, ExpectationItem)
-            yield f"{item.word}.", ""
-
-
-def value_line(word: str, location: Location, value: object) -> tuple[str, str]:
-    """An `Init` or a `Final` with a comment that names its location."""
-    return f"{word} {address_text(location)} {value}.", f"{printable(location.name)} = {value}"
+def item_lines(
+    starts: Iterable[tuple[Address, object]], ops: Iterable[tuple[Op, str]], ends: Iterable[tuple[Address, object]], is_forbidden: bool
+) -> list[tuple[str, str]]:
+    """The items of a test, each with a comment: that of a value at the start or at the end names its location."""
+    first, last = (
+        [(f"{word} {address_text(location)} {value}.", f"{printable(str(location))} = {value}") for location, value in values]
+        for word, values in (("Init", starts), ("Final", ends))
+    )
+    return [*first, *((op_text(op), comment) for op, comment in ops), *last, *([("Forbidden.", "")] if is_forbidden else [])]
 
 
 def op_text(op: Op) -> str:
@@ -100,16 +93,3 @@ def op_comment(op: Op, one: Instruction) -> str:
         return f"P{op.core}: MOV {location},${op.value}"
     register = printable(one.register.piece)
     return f"P{op.core}: MOV {register},{location}, and {register} = {op.value}"
-
-
-def without_names(case: Case) -> Case:
-    """The case without its title and the names of its locations, which no axiom can ask for."""
-    ops = [op if op.va is None else replace(op, va=plain(op.va), pa=plain(op.pa)) for op in case.ops]
-    initial, final = ({plain(address): value for address, value in known.items()} for known in (case.initial, case.final))
-    return replace(case, title="", ops=ops, initial=initial, final=final)
-
-
-def plain(address: object) -> Page:
-    """The address of a page without its name."""
-    assert isinstance(address, Page)
-    return Page(address.tag, address.index)
