@@ -15,7 +15,7 @@ from typing import Mapping, Sequence
 from tools import TOP
 from tools.ending import SIGNALS
 from tools.lint.asked import Asked
-from tools.listings.comparing import MOST_SWEEPS, Comparison, Sweep, Swept, Unasked, swept
+from tools.listings.comparing import MOST_SWEEPS, Comparison, Sweep, Unasked, swept
 from tools.listings.logs import Log, Result
 from tools.listings.programs import LOCKED, Program
 from tools.listings.reading import Notes
@@ -172,13 +172,10 @@ def compare(model_path: str, listing_paths: Sequence[str], log_path: str) -> tup
 
 def run(waiting: Sequence[tuple[Comparison, Sweep]], checker: Checker, model: str) -> None:
     """Runs sweeps side by side, and notes what each shows."""
-
-    def take(place: int, found: Swept) -> None:
-        comparison, sweep = waiting[place]
-        comparison.take(sweep, found)
-
     tasks = [partial(swept, checker, model, comparison.program, sweep) for comparison, sweep in waiting]
-    side_by_side(checker.calls, len(os.sched_getaffinity(0)), tasks, take, is_long=True)
+    answers = side_by_side(checker.calls, len(os.sched_getaffinity(0)), tasks, is_long=True)
+    for (comparison, sweep), found in zip(waiting, answers):
+        comparison.take(sweep, found)
 
 
 def main(model: str, *paths: str) -> int:

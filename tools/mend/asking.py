@@ -106,10 +106,6 @@ class Questions:
             self.paths[outcome] = self.file(f"{len(self.paths)}.test", text)
         return self.paths[outcome]
 
-    def model_with(self, axiom: str) -> str:
-        """The path of the model with one axiom more."""
-        return self.file("with", self.text + f"\n{axiom}\n".encode("ascii"))
-
     def world(self, outcome: Outcome) -> World:
         """A run that shows an outcome which is observable."""
         said = self.called("check", self.model_path, self.path_of(outcome))
@@ -213,15 +209,14 @@ class SuiteTests:
             if name.endswith(TEST_ENDING):
                 test = test_file(os.path.join(folder, name))
                 is_allowed = rows.allowed(memory_model, test)
-                if is_allowed is not None and self.is_shown(model_path, test):
+                if is_allowed is not None and is_shown(checker, "check", model_path, test.path):
                     self.shown[is_allowed].append(test)
-
-    def is_shown(self, model_path: str, test: File) -> bool:
-        return is_shown(self.checker, "check", model_path, test.path)
 
     def counts(self, model_path: str) -> Counts | None:
         """What a model with one axiom more changes; None where the model shows no test that the memory model speaks of."""
         if not any(self.shown.values()):
             return None
-        gone = {it: sum(not self.is_shown(model_path, test) for test in tests) for it, tests in self.shown.items()}
+        gone = {
+            it: sum(not is_shown(self.checker, "check", model_path, test.path) for test in tests) for it, tests in self.shown.items()
+        }
         return Counts(gone[True], len(self.shown[True]), gone[False], len(self.shown[False]))

@@ -6,9 +6,9 @@ from itertools import islice, product
 from math import prod
 from typing import Iterator, NamedTuple
 
-from tools.second.cases import Address, Case, Entry, EntryAddress, Value
+from tools.second.cases import Address, Case, Value
 from tools.second.patterns import Pattern, values_at, written_at
-from tools.texts.writing_tests import address_text, op_text
+from tools.texts.writing_tests import item_lines
 
 # how many outcomes of a program are looked at, and how many final values among them
 MOST_OUTCOMES = 256
@@ -68,19 +68,13 @@ def free_name(*texts: bytes) -> str:
 
 def text_of(case: Case, name: str, opens: tuple[int, ...] = ()) -> bytes:
     """The test of a case, in which each micro-op has a type of this name and its place, with these reads open."""
-    lines = [f'{"Litmus2" if has_entries(case) else "Litmus"} "mend".']
-    for place, op in enumerate(case.ops):
-        lines.append(op_text(replace(op, types=op.types | {f"{name}{place}"}, value=None if place in opens else op.value)))
+    ops = [
+        (replace(op, types=op.types | {f"{name}{place}"}, value=None if place in opens else op.value), "")
+        for place, op in enumerate(case.ops)
+    ]
+    lines = [line for line, _ in item_lines(case.initial.items(), ops, case.final.items())]
     for kind, i, j in sorted(case.dependencies):
         lines.append(f"Relationship {kind} {case.ops[i].g} {case.ops[i].n} -> {case.ops[j].g} {case.ops[j].n}.")
-    for word, values in (("Init", case.initial), ("Final", case.final)):
-        for address, value in values.items():
-            lines.append(f"{word} {address_text(address)} {f'({value})' if isinstance(value, Entry) else value}.")
-    return "".join(f"{line}\n" for line in lines).encode("ascii")
-
-
-def has_entries(case: Case) -> bool:
-    """Whether a test speaks of page-table entries, which the older format has not."""
-    addresses = [op.pa for op in case.ops] + [*case.initial, *case.final]
-    values = [op.value for op in case.ops] + [*case.initial.values(), *case.final.values()]
-    return any(isinstance(one, (EntryAddress, Entry)) for one in [*addresses, *values])
+    # the older format has no page-table entries
+    has_entries = any("(Entry " in line or "(Maps " in line for line in lines)
+    return "\n".join([f'{"Litmus2" if has_entries else "Litmus"} "mend".', *lines, ""]).encode("ascii")

@@ -124,7 +124,7 @@ class Mending:
 
     def axiom(self, lines: list[str], kept: list[Outcome]) -> Iterator[str]:
         """An axiom, with what it does to the program and to the shipped tests."""
-        path = self.questions.model_with("\n".join(lines))
+        path = self.questions.file("with", self.questions.text + "\n".join(["", *lines, ""]).encode("ascii"))
         shown = set(self.questions.shown(path))
         yield from self.telling.axiom(lines, sum(outcome in shown for outcome in kept), len(kept), self.tests.counts(path))
 

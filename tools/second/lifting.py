@@ -8,7 +8,7 @@ and that side closed. Such a side on the right waits until what stands before it
 from typing import Iterator, NamedTuple
 
 from tools.second.cases import Case
-from tools.second.grounding import Literal
+from tools.second.grounding import Grounder, Literal, Tree, joined
 from tools.second.judging import second_line
 from tools.second.lifted import LIFTED, Fact, LiftedJudge, Said
 from tools.second.models import Binary, Edges, Expand, Model, Nodes, Not, Quantified, Static
@@ -34,6 +34,7 @@ class Lifter:
 
     def __init__(self, model: Model, case: Case) -> None:
         self.rules = LiftedJudge(model, case)
+        self.grounder = Grounder(model, case, joined)
         self.positions = Positions(model, case)
         self.facts = list(self.rules.open[0])
         # the numbers of the facts that are choices, by their positions, and of those that are literals
@@ -179,21 +180,14 @@ class Lifter:
 
     def constant(self, fact: Fact) -> bool | None:
         """The truth of a fact whatever the world; None where that depends on the world."""
+        tree = self.tree(fact)
+        return tree if isinstance(tree, bool) else None
+
+    def tree(self, fact: Fact) -> Tree:
+        """What is left of a fact in the test, of some member from its start on where it speaks of one."""
         if isinstance(fact, Literal):
-            return None
-        if isinstance(fact.formula, Static):
-            return not self.rules.is_false(fact)
-        if isinstance(fact.formula, (Nodes, Edges)):
-            is_empty = len(fact.formula.members) <= fact.start
-            return fact.holds if is_empty else None
-        if self.rules.is_false(fact):
-            return False
-        is_choice = self.is_choice(fact)
-        members = self.sides(fact) if is_choice else (part for *_, part in self.parts(fact))
-        found: bool | None = not is_choice
-        for member in members:
-            kind = self.constant(member)
-            if kind is is_choice:
-                return kind
-            found = None if kind is None else found
-        return found
+            return fact
+        count = self.rules.members(fact)
+        if count is None:
+            return self.grounder.tree(fact.formula, fact.env, fact.holds)
+        return self.grounder.join(False, [self.tree(self.rules.member(fact, place)) for place in range(fact.start, count)])

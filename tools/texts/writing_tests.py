@@ -4,7 +4,7 @@ The names of the listing stand in comments: of its threads, locations and regist
 """
 from typing import Iterable, Iterator
 
-from tools.second.cases import OPEN, Address, Entry, Op, Page, case_of, read_case
+from tools.second.cases import OPEN, Address, Entry, Op, Page, Value, case_of, read_case
 from tools.second.listings import PIECE, Instruction, Judge, ListingReader, behind_header
 from tools.second.tokens import Fault, tokens
 from tools.texts.contents import LIMIT
@@ -61,14 +61,20 @@ def notes(data: bytes, start: int) -> Iterator[str]:
 
 
 def item_lines(
-    starts: Iterable[tuple[Address, object]], ops: Iterable[tuple[Op, str]], ends: Iterable[tuple[Address, object]], is_forbidden: bool
+    starts: Iterable[tuple[Address, Value]], ops: Iterable[tuple[Op, str]], ends: Iterable[tuple[Address, Value]],
+    is_forbidden: bool = False,
 ) -> list[tuple[str, str]]:
     """The items of a test, each with a comment: that of a value at the start or at the end names its location."""
     first, last = (
-        [(f"{word} {address_text(location)} {value}.", f"{printable(str(location))} = {value}") for location, value in values]
+        [(f"{word} {address_text(it)} {stated_text(value)}.", f"{printable(str(it))} = {value}") for it, value in values]
         for word, values in (("Init", starts), ("Final", ends))
     )
     return [*first, *((op_text(op), comment) for op, comment in ops), *last, *([("Forbidden.", "")] if is_forbidden else [])]
+
+
+def stated_text(value: Value) -> str:
+    """A value at the start or at the end."""
+    return f"({value})" if isinstance(value, Entry) else str(value)
 
 
 def op_text(op: Op) -> str:
