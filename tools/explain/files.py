@@ -9,13 +9,13 @@ from tools.explain.refutations import Refutation
 from tools.explain.runs import Run
 from tools.second.cases import Case
 from tools.second.lifted import LIFTED
-from tools.second.models import Axiom, Model
+from tools.second.models import Model
 from tools.second.queries import read_query
 from tools.second.scopes import read_model
 from tools.texts.answers import Answer, Asked, Core, Part, is_answer, model_of, read_answer
 from tools.texts.naming import Names, case_with_names
 from tools.texts.origins import TracedPositions
-from tools.texts.quoting import line_and_column, shown
+from tools.texts.quoting import shown
 from tools.texts.wrapping import width_of_output, within
 
 VERDICTS = {"observable": "a run of this model shows the outcome", "unobservable": "no run of this model shows the outcome"}
@@ -93,28 +93,6 @@ def key(case: Case, names: Names) -> Iterator[str]:
         yield "  " + ", ".join(called)
 
 
-class PartNames(Names):
-    """The names of a model that may have a query behind it, as one more axiom."""
-
-    def __init__(self, model: Model, case: Case, text: bytes, query_at: int) -> None:
-        super().__init__(model, case, text)
-        self.query_at = query_at
-
-    def place(self, at: int) -> str:
-        """A place in the model, or in the query."""
-        if at < self.query_at:
-            return super().place(at)
-        return f"query {line_and_column(self.text[self.query_at :], at - self.query_at)}"
-
-    def axiom(self, axiom: Axiom) -> str:
-        """An axiom by its title; the query is none that the model has."""
-        return f"the {axiom.title}" if self.is_query(axiom) else super().axiom(axiom)
-
-    def is_query(self, axiom: Axiom) -> bool:
-        """Whether an axiom is the query, or its denial."""
-        return axiom.at >= self.query_at
-
-
 def explain_answer(
     model: Model, case: Case, model_text: bytes, model_name: str, answer: Answer, query: bytes, query_name: str, width: int
 ) -> Iterator[str]:
@@ -133,8 +111,7 @@ def explain_answer(
     for part in answer.parts:
         said = model_of(answer, part, model, model_text, query)
         yield from ("", verdict(model, names, answer, part), part.lines[1], "")
-        part_names = PartNames(said.model, case, said.text, said.query_at)
-        yield from body(said.model, case, part_names, part.lines, width)
+        yield from body(said.model, case, Names(said.model, case, said.text, said.query_at), part.lines, width)
 
 
 def core_heading(model: Model, names: Names, answer: Core) -> Iterator[str]:

@@ -77,6 +77,8 @@ class Case:
     expectation: str = "unstated"
     # what comments call addresses, where that was looked for
     names: dict[Address, str] = field(default_factory=dict, compare=False)
+    # what says all of it, as it is written
+    items: "list[Item]" = field(default_factory=list, compare=False, repr=False)
 
     @property
     def cores(self) -> range:
@@ -93,20 +95,15 @@ class Case:
         return next((place for place, op in enumerate(self.ops) if (op.g, op.n) == (g, n)), None)
 
 
-def read_case(data: bytes) -> Case:
-    """The case that the bytes say, or their first fault."""
-    return read_items(data)[0]
-
-
-def read_items(data: bytes, takes_open: bool = False) -> "tuple[Case, list[Item]]":
-    """The case, with its items as they are written. All of the grammar is judged before any item. A pattern takes open reads."""
-    title, items = CaseReader(tokens(data), takes_open).items()
-    return case_of(title, items), items
+def read_case(data: bytes, takes_open: bool = False) -> Case:
+    """The case that the bytes say, or their first fault. All of the grammar is judged before any item. A pattern takes open
+    reads."""
+    return case_of(*CaseReader(tokens(data), takes_open).items())
 
 
 def case_of(title: str, items: "list[Item]") -> Case:
     """The case that these items say, each of which is judged by those before it."""
-    case = Case(title)
+    case = Case(title, items=items)
     for item in items:
         item.add_to(case)
     return case

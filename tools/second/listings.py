@@ -3,9 +3,9 @@ import re
 from typing import Callable, NamedTuple, Sequence
 
 from tools.second.cases import GREATEST_CORE, MOST_OPS, Case, ExpectationItem, Item, Op, OpItem, Page, ValueItem
-from tools.second.cases import case_of, read_items
+from tools.second.cases import case_of, read_case
 from tools.second.patterns import ENDING as PATTERN_ENDING
-from tools.second.patterns import read_pattern_items
+from tools.second.patterns import read_pattern
 from tools.second.tokens import Fault, Part, Reader, Token, tokens
 
 # the ending of a file that is read as a listing where no command says how
@@ -60,26 +60,26 @@ class Listing(NamedTuple):
     condition: Token
     equations: tuple[Equation, ...]
 
-
-def read_listing(data: bytes) -> Case:
-    """The case that the bytes say, or their first fault."""
-    return read_listing_items(data)[0]
+    @property
+    def instructions(self) -> list[tuple[int, Instruction]]:
+        """What becomes a micro-op each, column by column, with the column."""
+        columns = enumerate(zip(*(cells for cells, _ in self.rows)))
+        return [(column, one) for column, cells in columns for one in cells if one is not None]
 
 
 def read_file_items(path: str, data: bytes) -> tuple[Case, list[Item]]:
     """The case of a file, with its items: a listing, a pattern or a test, as its ending says. Open reads have 0."""
     if path.endswith(PATTERN_ENDING):
-        pattern, items = read_pattern_items(data)
-        return pattern.case, items
-    return read_listing_items(data) if path.endswith(ENDING) else read_items(data)
+        case = read_pattern(data).case
+    else:
+        case = read_listing(data) if path.endswith(ENDING) else read_case(data)
+    return case, case.items
 
 
-def read_listing_items(data: bytes) -> tuple[Case, list[Item]]:
-    """The case, with the items that a test would have in its place. They stand where the listing says them."""
+def read_listing(data: bytes) -> Case:
+    """The case that the bytes say, or their first fault. Its items are those that a test would have, where the listing says them."""
     title, start = behind_header(data)
-    listing = ListingReader(tokens(data, PIECE, start)).listing()
-    items = Judge(listing).items()
-    return case_of(title, items), items
+    return case_of(title, Judge(ListingReader(tokens(data, PIECE, start)).listing()).items())
 
 
 def behind_header(data: bytes) -> tuple[str, int]:
@@ -208,7 +208,8 @@ class Judge:
                 raise Fault("x86-open", token.at)
         condition = self.listing.condition
         forbids: list[Item] = [ExpectationItem("Forbidden", condition.at)] if condition.piece == "~" else []
-        return [*self.states("Init", self.inits), *self.ops(), *self.states("Final", self.finals), *forbids]
+        ops = (self.op(g, column, one) for g, (column, one) in enumerate(self.listing.instructions))
+        return [*self.states("Init", self.inits), *ops, *self.states("Final", self.finals), *forbids]
 
     def location(self, name: Token) -> Page:
         """The location of a name. Locations are numbered as they are named first."""
@@ -253,16 +254,6 @@ class Judge:
     def states(self, word: str, known: dict[Page, Equation]) -> list[Item]:
         """The values at the start, or at the end."""
         return [ValueItem(word, one.name.at, location, one.number.value) for location, one in known.items()]
-
-    def ops(self) -> list[Item]:
-        """The micro-ops, column by column."""
-        found: list[Item] = []
-        for column in range(len(self.listing.head)):
-            for cells, _ in self.listing.rows:
-                one = cells[column]
-                if one is not None:
-                    found.append(self.op(len(found), column, one))
-        return found
 
     def op(self, g: int, column: int, one: Instruction) -> OpItem:
         at = one.word.at

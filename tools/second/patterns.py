@@ -3,7 +3,7 @@ reads may get; and the sweep, which says of each combination whether it is obser
 from dataclasses import dataclass, replace
 from itertools import product
 
-from tools.second.cases import Address, Case, Entry, Item, OpItem, Value, read_items
+from tools.second.cases import Address, Case, Entry, OpItem, Value, read_case
 from tools.second.models import Model
 from tools.second.searching import is_observable
 from tools.second.tokens import Fault
@@ -42,14 +42,9 @@ def written_at(case: Case, address: Address) -> list[Value]:
 
 
 def read_pattern(data: bytes) -> Pattern:
-    """The pattern that the bytes say, or their first fault."""
-    return read_pattern_items(data)[0]
-
-
-def read_pattern_items(data: bytes) -> tuple[Pattern, list[Item]]:
-    """The pattern, with its items as they are written. That it has too many rows is judged last."""
-    case, items = read_items(data, takes_open=True)
-    ops = [item for item in items if isinstance(item, OpItem)]
+    """The pattern that the bytes say, or their first fault. That it has too many rows is judged last."""
+    case = read_case(data, takes_open=True)
+    ops = [item for item in case.items if isinstance(item, OpItem)]
     opens = [place for place, item in enumerate(ops) if item.is_open]
     choices = [values_at(case, place) for place in opens]
     count = 1
@@ -57,7 +52,7 @@ def read_pattern_items(data: bytes) -> tuple[Pattern, list[Item]]:
         count *= len(values)
         if count > MOST_ROWS:
             raise Fault("too-many-rows", ops[place].value_at)
-    return Pattern(case, tuple(opens), tuple(choices)), items
+    return Pattern(case, tuple(opens), tuple(choices))
 
 
 def sweep(model: Model, pattern: Pattern) -> list[tuple[tuple[Value, ...], bool]]:

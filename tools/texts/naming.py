@@ -20,12 +20,14 @@ Fact = tuple[Node, Node | None, bool]
 
 
 class Names:
-    """How micro-ops, addresses, nodes and places of the model are written."""
+    """How micro-ops, addresses, nodes and places of the model are written. From `query_at` on the text is that of a query, which
+    is one more axiom, or its denial is."""
 
-    def __init__(self, model: Model, case: Case, model_text: bytes) -> None:
+    def __init__(self, model: Model, case: Case, model_text: bytes, query_at: int | None = None) -> None:
         self.case = case
         self.nodes = NodeNames(model, case)
         self.text = model_text
+        self.query_at = len(model_text) if query_at is None else query_at
         pages = dict.fromkeys([op.pa for op in case.ops if op.pa is not None] + [*case.initial, *case.final])
         # those of a listing have names of their own
         has_letters = len(pages) <= len(LETTERS) and not any(isinstance(page, Page) and page.name for page in pages)
@@ -42,14 +44,18 @@ class Names:
         return self.nodes.write(node)
 
     def place(self, at: int) -> str:
-        return line_and_column(self.text, at)
+        """A place in the model, or in the query."""
+        if at < self.query_at:
+            return line_and_column(self.text, at)
+        return f"query {line_and_column(self.text[self.query_at :], at - self.query_at)}"
 
     def axiom(self, axiom: Axiom) -> str:
-        return f'axiom "{axiom.title}"'
+        """An axiom by its title; the query is none that the model has."""
+        return f"the {axiom.title}" if self.is_query(axiom) else f'axiom "{axiom.title}"'
 
-    def is_query(self, _axiom: Axiom) -> bool:
-        """Whether an axiom is a query that is asked of the model, or its denial."""
-        return False
+    def is_query(self, axiom: Axiom) -> bool:
+        """Whether an axiom is the query, or its denial."""
+        return axiom.at >= self.query_at
 
     def fact(self, fact: Fact) -> str:
         start, end, wanted = fact

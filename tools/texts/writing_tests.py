@@ -19,9 +19,7 @@ def test_of_listing(data: bytes) -> str:
     title, start = behind_header(data)
     listing = ListingReader(tokens(data, PIECE, start)).listing()
     case = case_of(title, Judge(listing).items())
-    # the instructions in the order of their micro-ops
-    cells = [cell for column in zip(*(row for row, _ in listing.rows)) for cell in column if cell is not None]
-    ops = zip(case.ops, map(op_comment, case.ops, cells))
+    ops = [(op, op_comment(op, one)) for op, (_, one) in zip(case.ops, listing.instructions)]
     lines = item_lines(case.initial.items(), ops, case.final.items(), case.expectation == "forbidden")
     text = within_limit(title, notes(data, start), lines)
     assert read_case(text.encode("ascii")) == case
