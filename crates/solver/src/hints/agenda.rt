@@ -5,10 +5,12 @@ use super::alternatives::count_open;
 use super::bits::Bits;
 use super::changes::{Changes, Others};
 use super::failures::Failures;
-use super::standing::Standing;
+use super::standing::{
+    COUNT_STALE, FORCED, NEGATED, NONE_LEFT, ONE_LEFT, PENDING, READY, Standing, TRUTH_STALE,
+};
 use super::truth::{Truth, or_truth};
 use super::walk::skip_at;
-use super::watch::{Watch, Watched, end_of_ors, ends_of, joint_of, own_of, starts_of};
+use super::watch::{ENDS, JOINT, OWN, STARTS, Watch, Watched, end_of_ors, list_of};
 use crate::tree::numbered_tree::NumberedTree;
 use crate::tree::ors::is_or;
 use crate::tree::place::Place;
@@ -17,6 +19,7 @@ use pc_common::Memory;
 use pc_ground::{Row, Version};
 use refutation::Cut;
 use std::alloc::Global;
+use std::mem;
 
 /// What stood at a position before a change.
 #[derive(Clone, Copy)]
@@ -35,7 +38,8 @@ pub(crate) struct Agenda {
     /// The pending Ors.
     pending: Bits,
     open: Bits,
-    ready: Bits,
+    /// Those that may be a choice with a side that is closed at once.
+    pub(crate) ready: Bits,
     forced: Bits,
     /// Room for the truth of a part's positions.
     truths: Vec<bool>,
@@ -70,18 +74,13 @@ impl Agenda {
             changes: Changes::new(alloc),
             is_refused: false,
         };
-        agenda.make_room(count);
+        agenda.is_refused |= agenda.standings.resize(count, Standing::none()).is_err();
+        agenda.is_refused |= agenda.pending.make_room(count);
+        agenda.is_refused |= agenda.open.make_room(count);
+        agenda.is_refused |= agenda.ready.make_room(count);
+        agenda.is_refused |= agenda.forced.make_room(count);
+        agenda.is_refused |= agenda.truths.resize(count, false).is_err();
         agenda
-    }
-
-    /// Makes room for so many positions.
-    fn make_room(&mut self, count: usize) {
-        self.is_refused |= self.standings.resize(count, Standing::none()).is_err();
-        self.is_refused |= self.pending.make_room(count);
-        self.is_refused |= self.open.make_room(count);
-        self.is_refused |= self.ready.make_room(count);
-        self.is_refused |= self.forced.make_room(count);
-        self.is_refused |= self.truths.resize(count, false).is_err();
     }
 
     /// Whether memory was refused to any hint. Then that hint went without what it was to keep.
@@ -101,25 +100,16 @@ impl Agenda {
         }
     }
 
-    /// Sets the standing of the position, and of the four sets those that it changes.
+    /// Sets the standing of the position, and whether it is in each of the four sets.
     fn set(&mut self, position: usize, standing: Standing) {
         if position >= self.standings.len() {
             return;
         }
-        let before = self.standings[position];
         self.standings[position] = standing;
-        if before.is_pending() != standing.is_pending() {
-            self.pending.put(position, standing.is_pending());
-        }
-        if before.is_open() != standing.is_open() {
-            self.open.put(position, standing.is_open());
-        }
-        if before.is_ready() != standing.is_ready() {
-            self.ready.put(position, standing.is_ready());
-        }
-        if before.may_be_forced() != standing.may_be_forced() {
-            self.forced.put(position, standing.may_be_forced());
-        }
+        self.pending.put(position, standing.has(PENDING));
+        self.open.put(position, standing.is_open());
+        self.ready.put(position, standing.is_open_with(READY));
+        self.forced.put(position, standing.is_open_with(FORCED));
     }
 
     /// Changes the standing of the position. If a split waits, what stood there goes on the trail: undone newest first,
@@ -139,25 +129,8 @@ impl Agenda {
         self.set(position, standing);
     }
 
-    /// Makes the lists of what a literal changes, at the first split: before it no standing is known that a literal
-    /// could change.
-    fn begin_watch(
-        &mut self,
-        alloc: Global,
-        tree: &NumberedTree,
-        version: Version,
-        graph: &OrderGraph,
-    )
-        requires { graph.now.nodes ≡ length tree.now.nodes }
-    {
-        if self.watch.is_empty() {
-            self.watch = Watch::new(alloc, tree.rows(), tree.count(), version);
-            self.changes.begin(tree.count() as usize);
-            self.changes.look(tree.count(), graph);
-        }
-    }
-
-    /// The Or is split by this step, and its right side waits. Returns `Memory` where memory was refused to a hint: so
+    /// The Or is split by this step, and its right side waits. The first split makes the lists of what a literal changes:
+    /// before it no standing is known that a literal could change. Returns `Memory` where memory was refused to a hint: so
     /// what is split is never chosen by a hint that lacks something.
     pub(crate) fn split(
         &mut self,
@@ -173,7 +146,11 @@ impl Agenda {
         if self.is_refused() {
             return Err(Memory);
         }
-        self.begin_watch(alloc, tree, version, graph);
+        if self.watch.is_empty() {
+            self.watch = Watch::new(alloc, tree.rows(), tree.count(), version);
+            self.changes.begin(tree.count() as usize);
+            self.changes.look(tree.count(), graph);
+        }
         self.change(place.position, Standing::none());
         self.failures.split(place, graph, step);
         self.changes.split();
@@ -195,8 +172,12 @@ impl Agenda {
         self.seen = count;
     }
 
-    /// Looks at the positions that were asserted since the last call: each Or is a choice.
-    fn take(&mut self, tree: &NumberedTree, asserted: &[Place]) {
+    /// Looks at what is asserted on this branch since the side was to be entered: at the literals, and at the positions, of
+    /// which each Or is a choice.
+    pub(crate) fn note(&mut self, tree: &NumberedTree, graph: &OrderGraph, asserted: &[Place])
+        requires { graph.now.nodes ≡ length tree.now.nodes }
+    {
+        self.touch_all(tree, graph);
         for k in self.seen..asserted.len() {
             let place = asserted[k];
             if is_or(tree, place) {
@@ -205,14 +186,6 @@ impl Agenda {
             }
         }
         self.seen = asserted.len();
-    }
-
-    /// Looks at what is asserted on this branch since the side was to be entered.
-    pub(crate) fn note(&mut self, tree: &NumberedTree, graph: &OrderGraph, asserted: &[Place])
-        requires { graph.now.nodes ≡ length tree.now.nodes }
-    {
-        self.touch_all(tree, graph);
-        self.take(tree, asserted);
     }
 
     /// Makes stale what the literals that were asserted since the last call may have changed.
@@ -239,28 +212,28 @@ impl Agenda {
         let has_grown = self.changes.grown.has(k);
         let is_starting = self.changes.starting.has(k);
         if has_grown {
-            self.touch_list(rows, starts_of(node), Others::Reached, true);
-            self.touch_list(rows, ends_of(node), Others::Closing, false);
+            self.touch_list(rows, list_of(node, STARTS), Others::Reached, true);
+            self.touch_list(rows, list_of(node, ENDS), Others::Closing, false);
         }
         if is_starting {
-            self.touch_list(rows, starts_of(node), Others::All, false);
+            self.touch_list(rows, list_of(node, STARTS), Others::All, false);
         }
         if has_grown | is_starting {
-            self.touch_list(rows, joint_of(node), Others::All, false);
+            self.touch_list(rows, list_of(node, JOINT), Others::All, false);
         }
         if self.changes.named.has(k) {
-            self.touch_list(rows, own_of(node), Others::All, true);
+            self.touch_list(rows, list_of(node, OWN), Others::All, true);
         }
         if self.changes.denied.has(k) {
-            self.touch_list(rows, starts_of(node), Others::All, false);
-            self.touch_list(rows, ends_of(node), Others::All, false);
+            self.touch_list(rows, list_of(node, STARTS), Others::All, false);
+            self.touch_list(rows, list_of(node, ENDS), Others::All, false);
         }
     }
 
     /// Makes the pending Or that this is within stale: its closed sides, and with `in_truth` its truth.
     fn touch(&mut self, rows: &[Row<u32>], watched: Watched, in_truth: bool) {
-        let position = watched.position();
-        if let Some(p) = self.pending.last_up_to(position, watched.outer()) {
+        let position = watched.position as usize;
+        if let Some(p) = self.pending.last_up_to(position, watched.outer as usize) {
             if position < p.saturating_add(skip_at(rows, p)) {
                 let standing = self.standing(p).stale(in_truth);
                 self.change(p, standing);
@@ -286,10 +259,10 @@ impl Agenda {
         requires { All (IsRowBelow graph.now.nodes) rows.now }
     {
         let before = self.standing(p);
-        if !before.is_truth_stale() {
+        if !before.has(TRUTH_STALE) {
             return before;
         }
-        match or_truth(rows, graph, &mut self.truths, before.is_negated(), p) {
+        match or_truth(rows, graph, &mut self.truths, before.has(NEGATED), p) {
             Truth::No => before.told(false),
             Truth::Now => before.told(true),
             Truth::ForGood => Standing::none(),
@@ -305,11 +278,6 @@ impl Agenda {
         standing
     }
 
-    /// The first position from `from` on that may be a choice with a side that is closed at once.
-    pub(crate) fn next_ready(&self, from: usize) -> Option<usize> {
-        self.ready.first_from(from)
-    }
-
     /// The first choice.
     pub(crate) fn first_open(&mut self, rows: &[Row<u32>], graph: &OrderGraph) -> Option<Place>
         requires { All (IsRowBelow graph.now.nodes) rows.now }
@@ -320,7 +288,7 @@ impl Agenda {
             let standing = self.refresh(rows, graph, position);
             if standing.is_open() {
                 return Some(Place {
-                    negated: standing.is_negated(),
+                    negated: standing.has(NEGATED),
                     position,
                 });
             }
@@ -350,19 +318,19 @@ impl Agenda {
 
     /// Hands out which steps are not needed, as far as was learned.
     pub(crate) fn take_cuts(&mut self, alloc: Global) -> Vec<Cut> {
-        self.failures.take_cuts(alloc)
+        mem::replace(&mut self.failures.cuts, Vec::new(alloc))
     }
 
     /// Whether a side has failed.
     pub(crate) fn has_failed(&self) -> bool {
-        !self.failures.is_empty()
+        self.failures.records.failures > 0
     }
 
     /// Forgets which sides are closed, now and at the splits that wait.
     fn renew(&mut self) {
         for p in 0..self.standings.len() {
             let standing = self.standing(p);
-            if standing.is_pending() {
+            if standing.has(PENDING) {
                 self.set(p, standing.renewed());
             }
         }
@@ -378,12 +346,12 @@ impl Agenda {
         requires { All (IsRowBelow graph.now.nodes) rows.now }
     {
         let mut standing = self.look(rows, graph, p);
-        if standing.needs_counting() {
+        if standing.is_open_with(COUNT_STALE) {
             // two leaves are open where no literal would clash
             let left = if skip_at(rows, p) == 3 {
                 2
             } else {
-                count_open(rows, graph, standing.is_negated(), p, 2, true)
+                count_open(rows, graph, standing.has(NEGATED), p, 2, true)
             };
             standing = standing.counted(left);
         }
@@ -404,11 +372,11 @@ impl Agenda {
             };
             from = position.saturating_add(1);
             let standing = self.count(rows, graph, position);
-            let negated = standing.is_negated();
-            if standing.has_none_left() {
+            let negated = standing.has(NEGATED);
+            if standing.is_open_with(NONE_LEFT) {
                 return Some(Place { negated, position });
             }
-            if standing.has_one_left() && forced.is_none() {
+            if standing.is_open_with(ONE_LEFT) && forced.is_none() {
                 forced = Some(Place { negated, position });
             }
         }
@@ -426,7 +394,7 @@ impl Agenda {
         requires { All (IsRowBelow graph.now.nodes) rows.now }
     {
         let mut chosen = first;
-        let mut newest = self.failures.record(first.position);
+        let mut newest = self.failures.records.record(first.position);
         let mut count = usize::MAX;
         let mut from = first.position;
         for _ in 0..rows.len() {
@@ -434,23 +402,25 @@ impl Agenda {
                 return chosen;
             };
             from = position.saturating_add(1);
-            let record = self.failures.record(position);
-            let is_newer = record.is_newer(newest);
+            let record = self.failures.records.record(position);
+            let is_newer = record.time > newest.time;
             // none has fewer than two open, since none is forced
-            if newest.is_newer(record) || (!is_newer && count <= 2 && !record.has_more(newest)) {
+            if record.time < newest.time
+                || (!is_newer && count <= 2 && record.count <= newest.count)
+            {
                 continue;
             }
             let standing = self.refresh(rows, graph, position);
             if !standing.is_open() {
                 continue;
             }
-            let negated = standing.is_negated();
+            let negated = standing.has(NEGATED);
             if is_newer {
                 count = usize::MAX;
             }
             let limit = count.saturating_add(1);
             let open = count_open(rows, graph, negated, position, limit, false);
-            if open < count || (open == count && record.has_more(newest)) {
+            if open < count || (open == count && record.count > newest.count) {
                 chosen = Place { negated, position };
                 newest = record;
                 count = open;

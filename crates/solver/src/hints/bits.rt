@@ -3,20 +3,7 @@ use std::alloc::Global;
 /// A set of numbers below a bound, as bits. It is asked for hints alone, and so no clause speaks of it.
 #[derive(Drop)]
 pub(crate) struct Bits {
-    words: Vec<u64>,
-}
-
-/// The lowest number of a word that is not 0, where the word is the one at `at`.
-fn lowest(word: u64, at: usize) -> usize {
-    at.wrapping_mul(64)
-        .wrapping_add(word.trailing_zeros() as usize)
-}
-
-/// The highest number of a word that is not 0, where the word is the one at `at`.
-fn highest(word: u64, at: usize) -> usize {
-    at.wrapping_mul(64)
-        .wrapping_add(63)
-        .wrapping_sub(word.leading_zeros() as usize)
+    pub(crate) words: Vec<u64>,
 }
 
 impl Bits {
@@ -58,11 +45,6 @@ impl Bits {
         }
     }
 
-    /// Puts the numbers of the other set in.
-    pub(crate) fn put_all(&mut self, other: &Bits) {
-        self.put_words(&other.words);
-    }
-
     pub(crate) fn has(&self, k: usize) -> bool {
         let at = k / 64;
         at < self.words.len() && self.words[at] >> (k % 64) & 1 == 1
@@ -74,7 +56,8 @@ impl Bits {
         for at in from / 64..self.words.len() {
             let word = self.words[at] & mask;
             if word != 0 {
-                return Some(lowest(word, at));
+                let lowest = word.trailing_zeros() as usize;
+                return Some(at.wrapping_mul(64).wrapping_add(lowest));
             }
             mask = u64::MAX;
         }
@@ -90,7 +73,8 @@ impl Bits {
             if at < self.words.len() {
                 let word = self.words[at] & mask;
                 if word != 0 {
-                    return Some(highest(word, at));
+                    let highest = 63usize.wrapping_sub(word.leading_zeros() as usize);
+                    return Some(at.wrapping_mul(64).wrapping_add(highest));
                 }
             }
             mask = u64::MAX;

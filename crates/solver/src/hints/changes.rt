@@ -156,15 +156,6 @@ impl Changes {
         self.seen = moment.literals;
     }
 
-    fn size(&self, node: u32) -> u64 {
-        let node = node as usize;
-        if node < self.sizes.len() {
-            self.sizes[node]
-        } else {
-            0
-        }
-    }
-
     fn set_size(&mut self, node: u32, size: u64) {
         let node = node as usize;
         if node < self.sizes.len() {
@@ -176,21 +167,6 @@ impl Changes {
     pub(crate) fn look(&mut self, nodes: u32, graph: &OrderGraph)
         requires { nodes ≡ graph.now.nodes }
     {
-        self.clear();
-        let known = self.denials.len();
-        for k in self.seen..graph.len() {
-            self.note(literal_of(graph, k), nodes, graph);
-        }
-        self.seen = graph.len();
-        self.closing.put_all(&self.reached);
-        for k in 0..known {
-            self.note_known(k, nodes, graph);
-        }
-        self.touched.put_all(&self.grown);
-        self.touched.put_all(&self.starting);
-    }
-
-    fn clear(&mut self) {
         self.grown.clear();
         self.reached.clear();
         self.closing.clear();
@@ -198,22 +174,36 @@ impl Changes {
         self.named.clear();
         self.denied.clear();
         self.touched.clear();
+        let known = self.denials.len();
+        for k in self.seen..graph.len() {
+            self.note(literal_of(graph, k), nodes, graph);
+        }
+        self.seen = graph.len();
+        self.closing.put_words(&self.reached.words);
+        for k in 0..known {
+            self.note_known(k, nodes, graph);
+        }
+        self.touched.put_words(&self.grown.words);
+        self.touched.put_words(&self.starting.words);
     }
 
     /// Notes whether the node reaches more than at the last look.
     fn note_size(&mut self, node: u32, graph: &OrderGraph)
         requires { node < graph.now.nodes }
     {
-        let (before, size) = (self.size(node), size_of(graph.descendants(node)));
-        if before == size {
+        let (k, size) = (node as usize, size_of(graph.descendants(node)));
+        if k >= self.sizes.len() || self.sizes[k] == size {
             return;
         }
-        self.grown.put(node as usize, true);
-        self.set_size(node, size);
         if !self.moments.is_empty() {
-            let before = Before { node, size: before };
+            let before = Before {
+                node,
+                size: self.sizes[k],
+            };
             self.is_refused |= self.befores.push(before).is_err();
         }
+        self.set_size(node, size);
+        self.grown.put(k, true);
     }
 
     /// Finds the nodes that reach more by an edge from `a`: where `a` does, all that reach it may.
@@ -288,7 +278,7 @@ impl Changes {
             self.closing.put(from as usize, true);
         }
         if self.grown.has(from as usize) {
-            self.starting.put_all(&self.reached);
+            self.starting.put_words(&self.reached.words);
         }
     }
 

@@ -40,9 +40,9 @@ impl ConflictSets {
         level < self.stamps.len() && self.stamps[level] == self.number
     }
 
-    /// Puts the level into the set at hand.
+    /// Puts the level into the set at hand. Level 0, the whole tree, takes part in each failure, and is not put there.
     pub(crate) fn put(&mut self, level: usize) {
-        if self.has(level) {
+        if level == 0 || self.has(level) {
             return;
         }
         if level >= self.stamps.len() {

@@ -1,13 +1,12 @@
 use super::changes::literal_of;
 use super::conflict_sets::ConflictSets;
 use super::levels::{Levels, Said};
-use super::records::{Record, Records};
+use super::records::Records;
 use crate::tree::place::Place;
 use order_graph::{Clash, OrderGraph};
 use pc_ground::Literal;
 use refutation::Cut;
 use std::alloc::Global;
-use std::mem;
 
 /// How a part of the search failed: by a split of this Or, and then on each side by what its script says. Where a side
 /// has none, a leaf closed it.
@@ -67,7 +66,7 @@ pub(crate) struct Failures {
     levels: Vec<usize>,
     /// The conflict set of the failure at hand, and those of left sides.
     conflicts: ConflictSets,
-    records: Records,
+    pub(crate) records: Records,
     /// The scripts of what failed, with the splits alone that took part. Each names only scripts before it, by number.
     scripts: Vec<Script>,
     /// The script of the failure at hand, and the one that the next split is to follow.
@@ -76,7 +75,7 @@ pub(crate) struct Failures {
     /// Where the steps end that close the side at hand.
     end: usize,
     /// Which steps are not needed.
-    cuts: Vec<Cut>,
+    pub(crate) cuts: Vec<Cut>,
     /// Whether memory was refused to the forks, the levels, the scripts or the cuts.
     is_refused: bool,
 }
@@ -109,27 +108,12 @@ impl Failures {
         }
     }
 
-    /// Hands out which steps are not needed.
-    pub(crate) fn take_cuts(&mut self, alloc: Global) -> Vec<Cut> {
-        mem::replace(&mut self.cuts, Vec::new(alloc))
-    }
-
     /// Whether memory was refused to any of them.
     pub(crate) fn is_refused(&self) -> bool {
         self.is_refused
             | self.literals.is_refused
             | self.conflicts.is_refused
             | self.records.is_refused
-    }
-
-    /// Whether nothing failed so far.
-    pub(crate) fn is_empty(&self) -> bool {
-        self.records.is_empty()
-    }
-
-    /// In which failures the splits of the Or took part.
-    pub(crate) fn record(&self, position: usize) -> Record {
-        self.records.record(position)
     }
 
     /// The Or is asserted on the side at hand.
@@ -201,21 +185,13 @@ impl Failures {
         self.note_literals(graph);
         self.conflicts.clear();
         self.add_clash(clash, graph);
-        let level = self.forks.len();
-        self.add(level);
+        self.conflicts.put(self.forks.len());
         self.record_conflict();
         self.found = None;
         for _ in 0..self.forks.len() {
             if self.go_up(graph) {
                 return;
             }
-        }
-    }
-
-    /// Puts the level into the conflict set at hand. Level 0, the whole tree, is in each and is not put there.
-    fn add(&mut self, level: usize) {
-        if level > 0 {
-            self.conflicts.put(level);
         }
     }
 
@@ -228,8 +204,7 @@ impl Failures {
 
     /// Puts the level at which this was said into the conflict set.
     fn add_said(&mut self, said: Said) {
-        let level = self.literals.level_of(said);
-        self.add(level);
+        self.conflicts.put(self.literals.level_of(said));
     }
 
     /// Puts the level into it at which a literal first said of the node that it is there, or that it is not.
@@ -239,7 +214,7 @@ impl Failures {
             let end = self.forks[level].literals;
             for k in from..end {
                 if k < graph.len() && names(literal_of(graph, k), node) {
-                    self.add(level);
+                    self.conflicts.put(level);
                     return;
                 }
             }
@@ -275,7 +250,7 @@ impl Failures {
 
     /// Each Or whose split is in the conflict set at hand gets a record of it.
     fn record_conflict(&mut self) {
-        self.records.count_failure();
+        self.records.failures = self.records.failures.saturating_add(1);
         for k in 0..self.conflicts.len() {
             let level = self.conflicts.level(k);
             if 0 < level && level <= self.forks.len() {
@@ -378,6 +353,6 @@ impl Failures {
         };
         self.found = Some(self.scripts.len());
         self.is_refused |= self.scripts.push(script).is_err();
-        self.add(fork.origin);
+        self.conflicts.put(fork.origin);
     }
 }

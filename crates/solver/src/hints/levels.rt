@@ -11,9 +11,12 @@ pub(crate) enum Said {
     NoEdge(u32, u32),
 }
 
-/// The edge or the denied edge that the literal is.
-fn said_by(literal: Literal<u32>) -> Option<Said> {
-    match literal {
+/// The edge or the denied edge that the graph's literal at `k` is.
+fn said_at(graph: &OrderGraph, k: usize) -> Option<Said> {
+    if k >= graph.len() {
+        return None;
+    }
+    match literal_of(graph, k) {
         Literal::Edge(a, b) => Some(Said::Edge(a, b)),
         Literal::NoEdge(a, b) => Some(Said::NoEdge(a, b)),
         Literal::Node(_) | Literal::NoNode(_) => None,
@@ -52,31 +55,25 @@ impl Levels {
     /// Notes the graph's literals up to the first `end`, which end this level: they are of it where they are not noted.
     pub(crate) fn note(&mut self, graph: &OrderGraph, end: usize, level: usize) {
         for k in self.known..end {
-            if k < graph.len() {
-                if let Some(said) = said_by(literal_of(graph, k)) {
-                    self.put(said, level);
-                }
+            let Some(said) = said_at(graph, k) else {
+                continue;
+            };
+            if !self.levels.contains_key(&said) {
+                self.is_refused |= self.levels.insert(said, level).is_err();
             }
         }
         self.known = self.known.max(end);
         self.noted = level.saturating_add(1);
     }
 
-    fn put(&mut self, said: Said, level: usize) {
-        if !self.levels.contains_key(&said) {
-            self.is_refused |= self.levels.insert(said, level).is_err();
-        }
-    }
-
     /// Forgets the literals after the first `count`, which are of this level or of later ones, while the graph has them.
     pub(crate) fn cut(&mut self, graph: &OrderGraph, count: usize, level: usize) {
         for k in count..self.known {
-            if k < graph.len() {
-                if let Some(said) = said_by(literal_of(graph, k)) {
-                    if self.level_of(said) >= level {
-                        self.levels.remove(&said);
-                    }
-                }
+            let Some(said) = said_at(graph, k) else {
+                continue;
+            };
+            if self.level_of(said) >= level {
+                self.levels.remove(&said);
             }
         }
         self.known = self.known.min(count);

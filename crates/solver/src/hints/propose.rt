@@ -6,7 +6,7 @@ ghost use Rattle.solver.specs.Opens.{IsFurther, IsSame, IsMarked};
 
 use super::agenda::Agenda;
 use super::alternatives::side_is_closed;
-use super::standing::Standing;
+use super::standing::{CLOSED, LEFT_CLOSED, NEGATED, RIGHT_CLOSED, SETTLED, SIDES_STALE, Standing};
 use super::walk::SideWalk;
 use crate::tree::numbered_tree::NumberedTree;
 use crate::tree::ors::{is_or, sides};
@@ -97,14 +97,14 @@ fn with_sides<L: Ledger>(
         return Ok(standing.asked(false, false, false));
     }
     let (left, right) = sides(tree, version, place);
-    let is_known = standing.is_left_closed();
+    let is_known = standing.has(LEFT_CLOSED);
     let left_closed = ask_side(is_known, has_failed, tree, left, mark, graph, steps)?;
     if left_closed {
         if let Version::One = version {
             return Ok(standing.asked(true, false, true));
         }
     }
-    let is_known = standing.is_right_closed();
+    let is_known = standing.has(RIGHT_CLOSED);
     let right_closed = ask_side(is_known, has_failed, tree, right, mark, graph, steps)?;
     let settled = match version {
         Version::One => right_closed,
@@ -128,12 +128,12 @@ fn ask<L: Ledger>(
     ensures graph { IfOk result (λ _. IsSame graph.old graph.new) }
 {
     let standing = agenda.look(tree.rows(), graph, position);
-    if !standing.needs_asking() {
+    if standing.has(SETTLED) || !standing.is_open_with(SIDES_STALE) {
         agenda.change(position, standing);
         return Ok(standing);
     }
     let place = Place {
-        negated: standing.is_negated(),
+        negated: standing.has(NEGATED),
         position,
     };
     let has_failed = agenda.has_failed();
@@ -161,18 +161,18 @@ fn first_closed<L: Ledger>(
     let mut from = 0;
     let mut one_sided = None;
     for _turn in 0..tree.len() {
-        let Some(position) = agenda.next_ready(from) else {
+        let Some(position) = agenda.ready.first_from(from) else {
             return Ok(one_sided);
         };
         let standing = ask(tree, version, position, mark, graph, agenda, steps)?;
         let place = Place {
-            negated: standing.is_negated(),
+            negated: standing.has(NEGATED),
             position,
         };
-        if standing.is_settled() {
+        if standing.is_open_with(SETTLED) {
             return Ok(Some(place));
         }
-        if standing.is_closed() && one_sided.is_none() {
+        if standing.is_open_with(CLOSED) && one_sided.is_none() {
             one_sided = Some(place);
         }
         from = position.saturating_add(1);

@@ -8,26 +8,12 @@ const PERIOD: u64 = 64;
 /// how many.
 #[derive(Clone, Copy)]
 pub(crate) struct Record {
-    time: u64,
-    count: u64,
+    pub(crate) time: u64,
+    pub(crate) count: u64,
 }
 
-impl Record {
-    /// That of an Or whose splits took part in no failure.
-    fn empty() -> Record {
-        Record { time: 0, count: 0 }
-    }
-
-    /// Whether its last failure is of a later time than that of the other.
-    pub(crate) fn is_newer(self, other: Record) -> bool {
-        self.time > other.time
-    }
-
-    /// Whether there were more failures than those of the other.
-    pub(crate) fn has_more(self, other: Record) -> bool {
-        self.count > other.count
-    }
-}
+/// That of an Or whose splits took part in no failure.
+const EMPTY: Record = Record { time: 0, count: 0 };
 
 /// The records of all Ors. To split what took part in the last conflict comes from Lecoutre and others (2009), to
 /// count the conflicts and to let the older ones weigh less from Moskewicz and others (2001).
@@ -37,7 +23,7 @@ pub(crate) struct Records {
     positions: usize,
     records: Vec<Record>,
     /// How many failures there were.
-    failures: u64,
+    pub(crate) failures: u64,
     /// Whether memory was refused to the list.
     pub(crate) is_refused: bool,
 }
@@ -53,23 +39,10 @@ impl Records {
         }
     }
 
-    /// Whether nothing failed so far.
-    pub(crate) fn is_empty(&self) -> bool {
-        self.failures == 0
-    }
-
-    /// Counts one failure more.
-    pub(crate) fn count_failure(&mut self) {
-        self.failures = self.failures.saturating_add(1);
-    }
-
     /// A split of the Or took part in the last failure.
     pub(crate) fn put(&mut self, position: usize) {
         if self.records.is_empty() {
-            self.is_refused |= self
-                .records
-                .resize(self.positions, Record::empty())
-                .is_err();
+            self.is_refused |= self.records.resize(self.positions, EMPTY).is_err();
         }
         if position < self.records.len() {
             let time = (self.failures / PERIOD).saturating_add(1);
@@ -83,7 +56,7 @@ impl Records {
         if position < self.records.len() {
             self.records[position]
         } else {
-            Record::empty()
+            EMPTY
         }
     }
 }

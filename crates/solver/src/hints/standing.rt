@@ -1,34 +1,43 @@
 /// It is an asserted Or that no split has taken, and that is not true for good on this branch.
-const PENDING: u16 = 1;
+pub(crate) const PENDING: u16 = 1;
 
 /// The Or is one of the tree's negation.
-const NEGATED: u16 = 2;
+pub(crate) const NEGATED: u16 = 2;
 
 /// It is true now.
 const HOLDS: u16 = 4;
 
 /// Whether it is true now may have changed since it was asked.
-const TRUTH_STALE: u16 = 8;
+pub(crate) const TRUTH_STALE: u16 = 8;
 
 /// Its left side is closed at once, which it stays on this branch.
-const LEFT_CLOSED: u16 = 16;
+pub(crate) const LEFT_CLOSED: u16 = 16;
 
 /// So is its right side.
-const RIGHT_CLOSED: u16 = 128;
+pub(crate) const RIGHT_CLOSED: u16 = 128;
 
 /// The search need not ask again, since enough of its sides are closed: one in version 1, both in version 2.
-const SETTLED: u16 = 32;
+pub(crate) const SETTLED: u16 = 32;
 
 /// That may have come about since it was asked.
-const SIDES_STALE: u16 = 64;
+pub(crate) const SIDES_STALE: u16 = 64;
 
 /// Of its alternatives one is left, or none: the others are as good as closed.
-const ONE_LEFT: u16 = 256;
+pub(crate) const ONE_LEFT: u16 = 256;
 
-const NONE_LEFT: u16 = 512;
+pub(crate) const NONE_LEFT: u16 = 512;
 
 /// How many are left may have changed since they were counted.
-const COUNT_STALE: u16 = 1024;
+pub(crate) const COUNT_STALE: u16 = 1024;
+
+/// One of its sides is closed at once.
+pub(crate) const CLOSED: u16 = LEFT_CLOSED | RIGHT_CLOSED;
+
+/// One of its sides is closed at once, or may be.
+pub(crate) const READY: u16 = CLOSED | SIDES_STALE;
+
+/// At most one of its alternatives is left, or may be.
+pub(crate) const FORCED: u16 = ONE_LEFT | NONE_LEFT | COUNT_STALE;
 
 /// The state of a position as a choice: whether it is a pending Or of the first open branch, whether it is true now,
 /// and which of its sides are closed at once. It is a hint, and tested before a split.
@@ -53,8 +62,9 @@ impl Standing {
         .with(NEGATED, negated)
     }
 
-    fn has(self, property: u16) -> bool {
-        self.bits & property != 0
+    /// Whether one of these properties holds.
+    pub(crate) fn has(self, properties: u16) -> bool {
+        self.bits & properties != 0
     }
 
     /// The same, with the properties or without them.
@@ -75,8 +85,8 @@ impl Standing {
 
     /// The same, where all of what is known of its sides is to be asked again in another way.
     pub(crate) fn renewed(self) -> Standing {
-        self.with(LEFT_CLOSED | RIGHT_CLOSED | SETTLED, false)
-            .with(SIDES_STALE, self.is_pending())
+        self.with(CLOSED | SETTLED, false)
+            .with(SIDES_STALE, self.has(PENDING))
     }
 
     /// The same, with whether it is true now.
@@ -99,27 +109,6 @@ impl Standing {
             .with(NONE_LEFT, left == 0)
     }
 
-    pub(crate) fn is_pending(self) -> bool {
-        self.has(PENDING)
-    }
-
-    pub(crate) fn is_negated(self) -> bool {
-        self.has(NEGATED)
-    }
-
-    /// Whether its truth has to be asked, since it may have changed.
-    pub(crate) fn is_truth_stale(self) -> bool {
-        self.has(TRUTH_STALE)
-    }
-
-    pub(crate) fn is_left_closed(self) -> bool {
-        self.has(LEFT_CLOSED)
-    }
-
-    pub(crate) fn is_right_closed(self) -> bool {
-        self.has(RIGHT_CLOSED)
-    }
-
     pub(crate) fn is_same(self, other: Standing) -> bool {
         self.bits == other.bits
     }
@@ -129,43 +118,8 @@ impl Standing {
         self.has(PENDING) & (self.has(TRUTH_STALE) | !self.has(HOLDS))
     }
 
-    /// Whether it may be a choice with a side that is closed at once, as far as is known.
-    pub(crate) fn is_ready(self) -> bool {
-        self.is_open() & self.has(SIDES_STALE | LEFT_CLOSED | RIGHT_CLOSED)
-    }
-
-    /// Whether its sides have to be asked, since it may be a choice and what is known of them may have changed.
-    pub(crate) fn needs_asking(self) -> bool {
-        self.is_open() & self.has(SIDES_STALE) & !self.has(SETTLED)
-    }
-
-    /// Whether it may be a choice with a side that is closed at once.
-    pub(crate) fn is_closed(self) -> bool {
-        self.is_open() & self.has(LEFT_CLOSED | RIGHT_CLOSED)
-    }
-
-    /// Whether it may be a choice with so many sides closed at once that no other is looked for.
-    pub(crate) fn is_settled(self) -> bool {
-        self.is_open() & self.has(SETTLED)
-    }
-
-    /// Whether it may be a choice with at most one alternative left.
-    pub(crate) fn may_be_forced(self) -> bool {
-        self.is_open() & self.has(COUNT_STALE | ONE_LEFT | NONE_LEFT)
-    }
-
-    /// Whether its alternatives have to be counted, since it may be a choice and how many are left may have changed.
-    pub(crate) fn needs_counting(self) -> bool {
-        self.is_open() & self.has(COUNT_STALE)
-    }
-
-    /// Whether it may be a choice with one alternative left.
-    pub(crate) fn has_one_left(self) -> bool {
-        self.is_open() & self.has(ONE_LEFT)
-    }
-
-    /// Whether it may be a choice with no alternative left.
-    pub(crate) fn has_none_left(self) -> bool {
-        self.is_open() & self.has(NONE_LEFT)
+    /// Whether it may be a choice of which one of these properties holds.
+    pub(crate) fn is_open_with(self, properties: u16) -> bool {
+        self.is_open() & self.has(properties)
     }
 }

@@ -52,16 +52,6 @@ fn row_holds(rows: &[Row<u32>], graph: &OrderGraph, truths: &[bool], p: usize) -
     }
 }
 
-/// Tells of the position.
-fn tell(rows: &[Row<u32>], graph: &OrderGraph, truths: &mut [bool], p: usize)
-    requires { All (IsRowBelow graph.now.nodes) rows.now }
-{
-    let holds = row_holds(rows, graph, truths, p);
-    if p < truths.len() {
-        truths[p] = holds;
-    }
-}
-
 /// Whether the tree at `root` is true now: one loop over its rows, from the last one to its root.
 fn tree_holds(rows: &[Row<u32>], graph: &OrderGraph, truths: &mut [bool], root: usize) -> bool
     requires { All (IsRowBelow graph.now.nodes) rows.now }
@@ -69,7 +59,10 @@ fn tree_holds(rows: &[Row<u32>], graph: &OrderGraph, truths: &mut [bool], root: 
     let count = skip_at(rows, root);
     for k in 0..count {
         let p = root.saturating_add(count - 1 - k);
-        tell(rows, graph, truths, p);
+        let holds = row_holds(rows, graph, truths, p);
+        if p < truths.len() {
+            truths[p] = holds;
+        }
     }
     told(truths, root)
 }

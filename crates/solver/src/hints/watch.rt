@@ -14,20 +14,8 @@ pub(crate) struct Watched {
     pub(crate) other: u32,
     /// The position of its literal, and that of the outermost Or around it: half a word each, since rows past that would take
     /// 96 GiB.
-    position: u32,
-    outer: u32,
-}
-
-impl Watched {
-    /// The position of its literal.
-    pub(crate) fn position(self) -> usize {
-        self.position as usize
-    }
-
-    /// The position of the outermost Or around its literal.
-    pub(crate) fn outer(self) -> usize {
-        self.outer as usize
-    }
+    pub(crate) position: u32,
+    pub(crate) outer: u32,
 }
 
 /// What the Ors depend on, by node, as a solver's watch lists have literals. Each node has four lists: the pairs that begin
@@ -49,28 +37,21 @@ pub(crate) struct Watch {
 /// How many lists a node has.
 const LISTS: u32 = 4;
 
-fn list_of(node: u32, kind: u32) -> u32 {
-    node.saturating_mul(LISTS).saturating_add(kind)
-}
+/// Which of them has the pairs that begin in the node.
+pub(crate) const STARTS: u32 = 0;
 
-/// The list of the pairs that begin in a node.
-pub(crate) fn starts_of(node: u32) -> u32 {
-    list_of(node, 0)
-}
+/// Which has the pairs that end in it.
+pub(crate) const ENDS: u32 = 1;
 
-/// The list of the pairs that end in a node.
-pub(crate) fn ends_of(node: u32) -> u32 {
-    list_of(node, 1)
-}
+/// Which has the literals on the node itself.
+pub(crate) const OWN: u32 = 2;
 
-/// The list of a node's own literals.
-pub(crate) fn own_of(node: u32) -> u32 {
-    list_of(node, 2)
-}
+/// Which has the literals with the node that others stand beside in a larger Or.
+pub(crate) const JOINT: u32 = 3;
 
-/// The list of the literals with a node that others stand beside in a larger Or.
-pub(crate) fn joint_of(node: u32) -> u32 {
-    list_of(node, 3)
+/// One of the lists of a node.
+pub(crate) fn list_of(node: u32, which: u32) -> u32 {
+    node.saturating_mul(LISTS).saturating_add(which)
 }
 
 /// Where an Or ends that stands at this position, or 0 where none does.
@@ -124,19 +105,19 @@ impl Watching {
 
     fn put_pair(&mut self, a: u32, b: u32, position: usize) {
         if a != b {
-            self.put(starts_of(a), b, position);
-            self.put(ends_of(b), a, position);
+            self.put(list_of(a, STARTS), b, position);
+            self.put(list_of(b, ENDS), a, position);
         }
     }
 
     /// Watches an edge or a denied edge. In version 1 it has others beside it only under an And.
     fn put_edge(&mut self, a: u32, b: u32, position: usize) {
-        self.put(starts_of(a), b, position);
-        self.put(ends_of(b), a, position);
+        self.put(list_of(a, STARTS), b, position);
+        self.put(list_of(b, ENDS), a, position);
         let is_alone = matches!(self.version, Version::One) && position >= self.and_end;
         if !self.is_small && !is_alone {
-            self.put(joint_of(a), b, position);
-            self.put(joint_of(b), a, position);
+            self.put(list_of(a, JOINT), b, position);
+            self.put(list_of(b, JOINT), a, position);
         }
     }
 
@@ -166,7 +147,7 @@ impl Watching {
     fn put_row(&mut self, rows: &[Row<u32>], row: Row<u32>, position: usize) {
         match row.kind {
             RowKind::Lit(Literal::Node(a) | Literal::NoNode(a)) => {
-                self.put(own_of(a), a, position);
+                self.put(list_of(a, OWN), a, position);
             }
             RowKind::Lit(Literal::Edge(a, b) | Literal::NoEdge(a, b)) => {
                 self.put_edge(a, b, position);
