@@ -142,15 +142,6 @@ def lift(which: str = "") -> bool:
     return True
 
 
-EITHER = '''StageName 0 "S".
-StageName 1 "T".
-Axiom "either": forall microops "i", forall microops "j", ProgramOrder i j =>
-  AddEdge ((i, S), (j, S), "") \\/ AddEdge ((j, S), (i, S), "").
-Axiom "late": forall microops "i", forall microops "j", ProgramOrder i j =>
-  ~EdgeExists ((i, S), (j, S), "") /\\ AddEdge ((i, S), (i, T), "")
-  /\\ ~EdgeExists ((j, S), (i, T), "").
-'''
-TWO_WRITES = test_of([(0, [access("Write", 0, value)]) for value in (1, 2)], "Forbidden.\n")
 # a model that names all stages, and asks for one edge
 ALL_STAGES = "".join(f'StageName {k} "S{k}".\n' for k in range(64))
 ONE_EDGE = ALL_STAGES + 'Axiom "one": exists microop "i", EdgeExists ((i, (0, S0)), (i, (0, S1))).\n'
@@ -184,7 +175,7 @@ def verify() -> bool:
                  ("models/tso-buffer.uspec", "tests/IRIW.test"), ("models/sc-ooo.uspec", "tests/3.SB.test")):
         show_over_check(" and ".join(pair), 1.0, of_examples(*pair))
     show_over_check("a random question of 120 choices", 0.1, saved(choices(120, 2), ONE_WRITE))
-    files = saved(EITHER, TWO_WRITES)
+    files = of_examples("either.uspec", "two-forbidden.test")
     half, whole = (judged(files, HEAD + AGAIN * (lines // 2) + LAST) for lines in (500_000, 1_000_000))
     show("a certificate of a million lines over half of it", whole / half, 2.2)
     full = HEAD + AGAIN * ((64 * MIB - len(HEAD) - len(LAST)) // len(AGAIN)) + LAST

@@ -36,14 +36,7 @@ MOST_OF_A_FILE = 1_048_576
 S = 'StageName 0 "S".\n'
 
 # a refutation with a choice: each side of the Or at position 1 is denied
-EITHER = """StageName 0 "S".
-StageName 1 "T".
-Axiom "either": forall microops "i", forall microops "j", ProgramOrder i j =>
-  AddEdge ((i, S), (j, S), "") \\/ AddEdge ((j, S), (i, S), "").
-Axiom "late": forall microops "i", forall microops "j", ProgramOrder i j =>
-  ~EdgeExists ((i, S), (j, S), "") /\\ AddEdge ((i, S), (i, T), "")
-  /\\ ~EdgeExists ((j, S), (i, T), "").
-"""
+EITHER = read("examples/either.uspec")
 HEADER = "unobservable\ntest forbidden: ok\n"
 AGAIN = "split 1\npath 0.0@0:S 1.0@0:S\n"
 LAST = "path 1.0@0:S 0.0@0:S 0.0@0:T\nend\n"
