@@ -21,11 +21,11 @@ import tempfile
 import textwrap
 import threading
 import time
-import traceback
 import unittest
 from concurrent.futures import ThreadPoolExecutor
 from dataclasses import dataclass
 from hashlib import sha256
+from multiprocessing import get_context
 from typing import Any, Callable, Iterator, Mapping, Sequence
 
 from tools.__main__ import TOOLS, called
@@ -153,44 +153,28 @@ def call(
     with tempfile.TemporaryFile() as given, tempfile.TemporaryFile() as out, tempfile.TemporaryFile() as err:
         given.write(stdin)
         given.seek(0)
-        sys.stdout.flush()
-        sys.stderr.flush()
-        child = os.fork()
-        if child == 0:
-            _become(entry, list(words), cwd, environment(env), [given.fileno(), out.fileno(), err.fileno()])
-        _, status = os.waitpid(child, 0)
+        files = [given.fileno(), out.fileno(), err.fileno()]
+        child = get_context("fork").Process(target=_become, args=(entry, list(words), cwd, environment(env), files))
+        child.start()
+        child.join()
         out.seek(0)
         err.seek(0)
-        return Done(status_of(os.waitstatus_to_exitcode(status)), text_of(out.read()), text_of(err.read()))
+        return Done(status_of(child.exitcode or 0), text_of(out.read()), text_of(err.read()))
 
 
 def _become(entry: Callable[[], object], words: list[str], cwd: str, env: dict[str, str], files: list[int]) -> None:
-    """The child of `call`: it never returns."""
-    status = 1
-    try:
-        for number, file in enumerate(files):
-            os.dup2(file, number)
-        sys.stdin = open(0, encoding="utf-8", errors="surrogateescape", closefd=False)
-        sys.stdout = open(1, "w", encoding="utf-8", closefd=False)
-        sys.stderr = open(2, "w", encoding="utf-8", errors="backslashreplace", closefd=False)
-        os.environ.clear()
-        os.environ.update(env)
-        os.chdir(cwd)
-        sys.argv = words
-        try:
-            found = entry()
-            status = found if isinstance(found, int) else 0
-        except SystemExit as end:
-            status = end.code if isinstance(end.code, int) else 0 if end.code is None else 1
-            if isinstance(end.code, str):
-                print(end.code, file=sys.stderr)
-        except BaseException:  # pylint: disable=broad-exception-caught
-            traceback.print_exc()
-        with contextlib.suppress(OSError, ValueError):
-            sys.stdout.flush()
-            sys.stderr.flush()
-    finally:
-        os._exit(status)
+    """The child of `call`."""
+    for number, file in enumerate(files):
+        os.dup2(file, number)
+    sys.stdin = open(0, encoding="utf-8", errors="surrogateescape", closefd=False)
+    sys.stdout = open(1, "w", encoding="utf-8", closefd=False)
+    sys.stderr = open(2, "w", encoding="utf-8", errors="backslashreplace", closefd=False)
+    os.environ.clear()
+    os.environ.update(env)
+    os.chdir(cwd)
+    sys.argv = words
+    found = entry()
+    sys.exit(found if isinstance(found, int) else 0)
 
 
 def tool(word: str, folder: str = TOP) -> list[str]:
