@@ -17,10 +17,10 @@ import signal
 import subprocess
 import sys
 import tempfile
-import traceback
 import unittest
-from contextlib import suppress
-from typing import IO, Any
+from multiprocessing import get_context
+from multiprocessing.connection import wait
+from typing import Any
 
 from tests import cases
 
@@ -121,65 +121,60 @@ def unread(family: str, fault: BaseException) -> Class:
     return Unread
 
 
-def begin(its: Class) -> tuple[int, IO[bytes]]:
-    """Begins to run a class of cases, by a process that is forked from this one: what it imports is there already. Returns the
-    process, and the file that it writes to."""
-    file = tempfile.TemporaryFile()
-    process = os.fork()
-    if process == 0:
-        status = 1
-        try:
-            for it in SIGNALS.received:
-                signal.signal(it, signal.SIG_DFL)
-            sys.setrecursionlimit(DEPTHS.get(its.__module__, sys.getrecursionlimit()))
-            os.dup2(file.fileno(), 1)
-            with open(1, "w", encoding="utf-8", errors="surrogateescape") as sys.stdout:
-                unittest.defaultTestLoader.loadTestsFromTestCase(its).run(Lines())
-            status = AT_ITS_END
-        except BaseException:  # pylint: disable=broad-exception-caught
-            traceback.print_exc()
-        finally:
-            os._exit(status)
-    return process, file
+class Running:
+    """A class of cases that a process runs which is forked from this one: what it imports is there already."""
 
+    def __init__(self, its: Class) -> None:
+        self.its, self.file = its, tempfile.TemporaryFile()
+        self.process = get_context("fork").Process(target=self.run)
+        self.process.start()
 
-def lines_of(its: Class, file: IO[bytes], status: int) -> list[str]:
-    """The lines of a class that has ended."""
-    with file:
-        file.seek(0)
-        lines = cases.text_of(file.read()).splitlines()
-    if status != AT_ITS_END:
-        lines.append(f"FAILED  {its.__module__}.{its.__name__} came to no end: status {cases.status_of(status)}")
-    return lines
+    def run(self) -> None:
+        """What the process does. The lines go to the file."""
+        for it in SIGNALS.received:
+            signal.signal(it, signal.SIG_DFL)
+        sys.setrecursionlimit(DEPTHS.get(self.its.__module__, sys.getrecursionlimit()))
+        os.dup2(self.file.fileno(), 1)
+        with open(1, "w", encoding="utf-8", errors="surrogateescape") as sys.stdout:
+            unittest.defaultTestLoader.loadTestsFromTestCase(self.its).run(Lines())
+        sys.exit(AT_ITS_END)
+
+    def lines(self) -> list[bytes]:
+        """The lines, once the process has ended."""
+        self.process.join()
+        with self.file:
+            self.file.seek(0)
+            lines = self.file.read().splitlines()
+        status = self.process.exitcode or 0
+        if status != AT_ITS_END:
+            name = f"{self.its.__module__}.{self.its.__name__}"
+            lines.append(f"FAILED  {name} came to no end: status {cases.status_of(status)}".encode())
+        return lines
 
 
 def run_all(waiting: list[Class]) -> int:
     """Runs these classes on all processors. Prints their lines, and how many cases passed."""
     counts = dict.fromkeys(HEADS, 0)
-    running: dict[int, tuple[Class, IO[bytes]]] = {}
+    running: list[Running] = []
     try:
         while waiting or running:
             # one more than there are processors, since some wait
             while waiting and len(running) <= len(os.sched_getaffinity(0)):
                 with SIGNALS.held():
-                    process, file = begin(waiting[0])
-                    running[process] = waiting.pop(0), file
-            process, status = os.wait()
-            # another one is of a shell that this process took the place of, or was left behind, where this is the first of all
-            if process not in running:
-                continue
-            for line in lines_of(*running.pop(process), os.waitstatus_to_exitcode(status)):
-                sys.stdout.buffer.write(line.encode("utf-8", "surrogateescape") + b"\n")
-                for how, head in HEADS.items():
-                    counts[how] += line.startswith(head.rstrip() + " ")
+                    running.append(Running(waiting.pop(0)))
+            ended = wait([it.process.sentinel for it in running])
+            for it in [it for it in running if it.process.sentinel in ended]:
+                running.remove(it)
+                for line in it.lines():
+                    sys.stdout.buffer.write(line + b"\n")
+                    for how, head in HEADS.items():
+                        counts[how] += line.startswith(head.encode())
             sys.stdout.flush()
     finally:
-        for process, (its, _) in running.items():
-            print(f"tests: {its.__module__}.{its.__name__} is ended", file=sys.stderr)
-            # one may have ended when the signal came
-            with suppress(ProcessLookupError, ChildProcessError):
-                os.kill(process, signal.SIGKILL)
-                os.waitpid(process, 0)
+        for left in running:
+            print(f"tests: {left.its.__module__}.{left.its.__name__} is ended", file=sys.stderr)
+            left.process.kill()
+            left.process.join()
     by = "" if cases.is_proved() else cases.BY_THAT_PROGRAM
     print(f"{counts['ok']} passed, {counts['failed']} failed, {counts['skipped']} skipped{by}")
     return 0 if counts["ok"] and not counts["failed"] else 1
