@@ -8,7 +8,7 @@ from itertools import product
 
 from tests.cases import (
     NO_MODEL, NO_TEST, UNWRITTEN, USAGE, Cases, Done, command_forms, meant, missing, pipecheck, program, read, run, told,
-    unread, within, write
+    tool, unread, within, write
 )
 
 PO, REVERSE = "examples/po.uspec", "examples/po-and-reverse.uspec"
@@ -542,6 +542,12 @@ class Faults(Answers):
     StageName 0 "S".?Axiom "a": True.?Axiom "b": Bad.
 {' ' * 49}^
 """, "check", old, TWO)
+
+        # of no other file does the system say that it is there and then refuse each read
+        gone = "/proc/self/mem"
+        self.gives("a refused file that cannot be read any more is told in one line",
+                   [*tool("telling"), "refusal", "refused model syntax at 1:1", "check", gone, TWO], 0,
+                   f"pipecheck: {gone}: Input/output error\n")
 
     def test_bytes(self) -> None:
         """Hostile ones: each byte there is, from 0xFF down to 0."""

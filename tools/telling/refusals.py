@@ -5,7 +5,7 @@ from typing import Iterator, NamedTuple
 
 from tools.telling.files import row, sentence
 from tools.telling.forms import Forms
-from tools.texts.contents import contents
+from tools.texts.contents import Unreadable, contents
 from tools.texts.expecting import sentence_of, syntax_fault
 from tools.texts.quoting import line_and_column, shown
 
@@ -53,8 +53,9 @@ def marked_line(data: bytes, line: int, column: int) -> Iterator[str]:
 
 def place_of(top: str, path: str, refusal: Refusal) -> Iterator[str]:
     """The place in the form that editors jump to, the fault's sentence and the line."""
+    data = contents(path)
     yield f"{shown(path)}:{refusal.place}: {refusal.word}: {sentence(top, refusal.kind, refusal.word)}"
-    yield from marked_line(contents(path), refusal.line, refusal.column)
+    yield from marked_line(data, refusal.line, refusal.column)
 
 
 def begins_with(words: bytes, data: bytes) -> bool:
@@ -142,7 +143,15 @@ def left_out_word(data: bytes, refusal: Refusal) -> str:
 
 
 def told(top: str, said: str, words: list[str]) -> Iterator[str]:
-    """Where the file that the program refuses by this line has its fault."""
+    """Where the file that the program refuses by this line has its fault. It may have gone meanwhile, or be no more to be read."""
+    try:
+        yield from lines_of(top, said, words)
+    except Unreadable as gone:
+        yield f"pipecheck: {gone}"
+
+
+def lines_of(top: str, said: str, words: list[str]) -> Iterator[str]:
+    """The same of a file that is there."""
     refusal = refusal_of(said)
     kinds, asked = Forms(top).kinds_of(words), refusal.kind
     if asked == "test":
