@@ -16,21 +16,22 @@
   How the heap grows with the rows alone is asked on a model to which values are all the same, of 64 rows and of 4,096.
 - A *lift* may take three times the instructions of `verify` of the refutation, and 3,000 for each line that it writes; the
   greatest share of that which one took is shown, and the bytes of the lifted texts over those of the refutations.
-- `verify-lifted` is asked of a refutation of 40 lines whose ground tree would have some 66 million positions, beside the test
-  without micro-ops; and of a text of lines of many kinds, of which one in seven adds a fact for good.
+- `verify-lifted` is asked of what `lift` makes of a refutation for two micro-ops, beside a test of 64, with which the ground tree
+  would have some 66 million positions, and beside one of none; and of a refutation that splits one choice again and again.
 
 Instructions and the heap are counted by valgrind, and are the same in each run, whatever else the machine does. The exit status
 is 1 where the verdict of a row of a sweep differs from that of its check or something could not be counted, 2 where the words
 are others, and else 0.
 """
+import math
 import re
 from collections.abc import Callable
 from itertools import product
 from pathlib import Path
 
 from counting import (
-    MIB, TOP, Misused, at_once, call, chosen, counted, heap_peak, instructions, names_of, peak_bytes, saved, shipped, show,
-    show_all
+    MIB, TOP, Misused, at_once, call, chosen, counted, heap_peak, instructions, names_of, peak_bytes, program, saved, shipped,
+    show, show_all, timed
 )
 from questions import ONE_WRITE, RING, access, choices, fences_apart, ring, test_of
 
@@ -190,7 +191,7 @@ def verify() -> bool:
     return True
 
 
-LINES, MANY = 40, 1_000_000
+MANY = 1_000_000
 # for all four, no edge can be the second one where k is l: so each i is before each other j
 FOUR = """StageName 0 "S".
 Axiom "four": forall microops "i", forall microops "j", forall microops "k", forall microops "l",
@@ -198,92 +199,30 @@ Axiom "four": forall microops "i", forall microops "j", forall microops "k", for
 """
 
 
-class Lifted:
-    """A lifted refutation that is being written. It counts the facts of the branch that is open."""
-
-    def __init__(self, second: str, facts: int) -> None:
-        self.lines = ["unobservable", second, "lifted"]
-        self.facts = facts
-
-    def adds(self, *words: str | int) -> int:
-        """A line that adds a fact, whose number is answered."""
-        self.says(*words)
-        self.facts += 1
-        return self.facts - 1
-
-    def says(self, *words: str | int) -> None:
-        """A line that adds none."""
-        self.lines.append(" ".join(map(str, words)))
-
-    def text(self) -> str:
-        return "\n".join([*self.lines, "end", ""])
-
-    def edge_of_four(self, i: int, j: int) -> tuple[int, int]:
-        """Both branches that the axiom of four leaves at i, j and twice 0.0: on the left one the edge from i to j. Answers its
-        number and that of the right side, which is closed later."""
-        fact = 0
-        for op in (i, j, 0, 0):
-            fact = self.adds("inst", fact, f"{op}.0")
-        premise = self.adds("split", fact)
-        self.says("not", premise)
-        self.says("false", premise + 1)
-        # the right branch has the conclusion in place of the premise
-        side = self.adds("split", premise)
-        return self.adds("member", side, 0), side
-
-    def back_and_forth(self, edge: int) -> None:
-        """Closes the branch by this edge and its reverse."""
-        reverse = self.adds("inst", self.adds("inst", 1, "0.0"), "1.0")
-        side = self.adds("split", reverse)
-        self.says("false", side)
-        self.says("cycle", edge, self.adds("member", side, 0))
-
-
-def four_text() -> str:
-    """A cycle of three edges, each of which the axiom has a second choice beside; lines without use fill it up."""
-    text = Lifted("test unstated", 1)
-    while len(text.lines) < LINES - 35:
-        text.adds("inst", 0, "0.0")
-    found = [text.edge_of_four(k, (k + 1) % 3) for k in range(3)]
-    text.says("cycle", *(edge for edge, _ in found))
-    for _, side in reversed(found):
-        # the edge from 0.0 to itself, on the right branch
-        text.facts = side + 1
-        text.says("cycle", text.adds("member", side, 0))
-    return text.text()
-
-
-def long_text(count: int) -> str:
-    """About so many lines on a shipped pair: the axiom is split again and again, and each left branch is closed by a cycle with
-    the other axiom."""
-    text = Lifted("test forbidden: ok", 2)
-    order = text.adds("inst", text.adds("inst", 0, "0.0"), "1.0")
-    text.says("false", text.adds("split", order))
-    edge = text.adds("member", order + 1, 0)
-    while len(text.lines) < count:
-        kept = text.adds("split", order)
-        text.back_and_forth(edge)
-        # the right branch has one fact more
-        text.facts = kept + 1
-    text.back_and_forth(edge)
-    return text.text()
+def written(*words: str) -> str:
+    """The path of a file with what the program writes."""
+    [path] = saved("")
+    timed(math.inf, path, program(), *words)
+    return path
 
 
 def verify_lifted() -> bool:
-    says, four = "verified unobservable\n", four_text()
-    assert four.count("\n") == LINES
-    full = heap_peak("verify-lifted", *saved(FOUR, fences_apart(64), four), says=says)
+    says = "verified unobservable\n"
+    model, two, all_ops, none = saved(FOUR, *map(fences_apart, (2, 64, 0)))
+    # its lines name two micro-ops, whatever others there are
+    text = written("lift", model, two, written("check", model, two))
+    full = heap_peak("verify-lifted", model, all_ops, text, says=says)
     # without micro-ops the axiom is true, and the first line that asks for one is refused
-    empty = heap_peak("verify-lifted", *saved(FOUR, fences_apart(0), four), says="certificate refused at line 4\n")
-    show(f"MiB of heap for 64 micro-ops, four quantifiers, {LINES} lines, above those of no micro-op", (full - empty) / MIB, 8)
-    texts = [long_text(MANY // 2), long_text(MANY)]
-    pair = of_examples("po-and-reverse.uspec", "two-forbidden.test")
-    words = [["verify-lifted", *pair, path] for path in saved(*texts)]
-    half, whole = (instructions(*it, says=says) for it in words)
+    empty = heap_peak("verify-lifted", model, none, text, says="certificate refused at line 4\n")
+    lines = Path(text).read_text("ascii").count("\n")
+    show(f"MiB of heap for 64 micro-ops, four quantifiers, {lines} lines, above those of no micro-op", (full - empty) / MIB, 8)
+    pair = of_examples("either.uspec", "two-forbidden.test")
+    # four lines for each split, of which two add a fact to the branch that stays open
+    texts = [written("lift", *pair, *saved(HEAD + AGAIN * (count // 4) + LAST)) for count in (MANY // 2, MANY)]
+    half, whole = (instructions("verify-lifted", *pair, it, says=says) for it in texts)
     show("a text of a million lines over half of it", whole / half, 2.2, f"   {whole / MANY:.0f} instructions for each line")
-    half, whole = (heap_peak(*it, says=says) for it in words)
-    facts = (texts[1].count("\n") - texts[0].count("\n")) / 7
-    print(f"bytes of heap for each fact of the open branches: {(whole - half) / facts:.0f}")
+    half, whole = (heap_peak("verify-lifted", *pair, it, says=says) for it in texts)
+    print(f"bytes of heap for each fact of the open branches: {(whole - half) / (MANY // 4):.0f}")
     return True
 
 
