@@ -78,16 +78,6 @@ ONE = lines('Litmus "o".', op(0, "Write", 0, 1))
 LISTING = read("examples/x86/SB.litmus")
 
 
-def open_read(number: int, address: int) -> str:
-    """An open read of the page of this tag."""
-    return op(number, "Read", address, "Any")
-
-
-def stored(number: int, value: object) -> str:
-    """A write of page 0."""
-    return op(number, "Write", 0, value)
-
-
 def macros(count: int, body: str, before: str = "") -> str:
     """Macro m0 is True, each next one has this body with the name of the one before it in place of @, and an axiom expands the
     last."""
@@ -489,8 +479,8 @@ class Listings(Answers):
         return "sweep", self.file("empty.uspec", ""), self.file("open.pattern", lines('Litmus "p".', *ops))
 
     def test_rows(self) -> None:
-        reads = [open_read(number, 0) for number in range(1, 14)]
-        done = run([program(), *self.opens(stored(0, 1), *reads[:12])])
+        reads = [op(number, "Read", 0, "Any") for number in range(1, 14)]
+        done = run([program(), *self.opens(op(0, "Write", 0, 1), *reads[:12])])
         text = done.out.splitlines()
         rows = text[1:4097]
         with self.case("4,096 rows"):
@@ -500,12 +490,12 @@ class Listings(Answers):
             self.assertEqual(rows[-1], "row 1 1 1 1 1 1 1 1 1 1 1 1 observable")
         self.same("... each once", len(set(rows)), 4096)
         self.same("... and in order", rows, sorted(rows))
-        words = self.opens(stored(0, 1), *reads)
+        words = self.opens(op(0, "Write", 0, 1), *reads)
         said = "too-many-rows: of a pattern: with this open read there are more than 4,096 rows"
         self.tells("one open read too many", "test", words[2], "15:48", said, *words)
 
     def test_what_may_not_be_open(self) -> None:
-        words = self.opens(open_read(0, 0), stored(1, "Any"))
+        words = self.opens(op(0, "Read", 0, "Any"), op(1, "Write", 0, "Any"))
         self.tells("a write that is open", "test", words[2], "3:48", NO_TEST, *words, due="a number")
         pattern = self.file("mp.pattern", lines(*(it for it in read(MP_PATTERN).splitlines() if not it.startswith("%"))))
         for word in ("check", "check2"):
