@@ -324,9 +324,8 @@ class Cases(unittest.TestCase):
 
     def finds(self, name: str, pattern: str, text: str) -> None:
         """This stands in a text, where `^` and `$` are of each line."""
-        if self.is_wanted(name):
-            with self.case(name):
-                self.assertRegex(text, re.compile(pattern, re.M))
+        with self.case(name):
+            self.assertRegex(text, re.compile(pattern, re.M))
 
     def skips(self, name: str, why: str) -> None:
         """A case that cannot run here, which is said and is no passed one."""
@@ -335,9 +334,8 @@ class Cases(unittest.TestCase):
 
     def same(self, name: str, found: object, wanted: object = True) -> None:
         """What is found is what is wanted, which may be that something holds."""
-        if self.is_wanted(name):
-            with self.case(name):
-                self.assertEqual(found, wanted)
+        with self.case(name):
+            self.assertEqual(found, wanted)
 
 
 def forms_of(word: str | None = None) -> str:
