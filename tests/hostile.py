@@ -38,10 +38,11 @@ from typing import Any, Callable, Iterable
 
 from tests import cases, random_texts
 from tools import TOP
-from tools.agree.litmus import read_test
+from tools.agree.litmus import test_of_text
 from tools.second.cases import read_case
 from tools.second.lifted import LiftedJudge
 from tools.second.main import run
+from tools.second.patterns import ENDING as PATTERN
 from tools.second.scopes import read_model
 from tools.standing import tested
 from tools.telling.files import rows_of
@@ -284,14 +285,16 @@ class Runs:
         text = random_texts.machine_test(self.random)
         self.write("model", model_text)
         test_path = self.write("test", text)
-        test = read_test(test_path)
+        test = test_of_text(test_path, text)
         outcomes = within(import_module(f"tools.agree.machines.{name}").outcomes, test, seconds=SECONDS_OF_A_CALL)
         allowed = bool(test.rows_shown_by(outcomes))
         status, answer = self.call(["check", self.path("model"), test_path])
         if status != (0 if allowed else 1):
             raise Wrong(f"{path}: status {status}, {answer[:80]!r}; the machine {name} {'allows' if allowed else 'forbids'} it")
         # the same with some of the reads open
-        test = read_test(self.write("pattern", random_texts.opened(self.random, text)))
+        opened = random_texts.opened(self.random, text)
+        self.write("pattern", opened)
+        test = test_of_text(PATTERN, opened)
         wanted = {" ".join(map(str, row)) for row in test.rows_shown_by(outcomes)}
         status, answer = self.call(["sweep", self.path("model"), self.path("pattern")])
         lines = [line.split(" ") for line in answer.decode().splitlines() if line.startswith("row")]

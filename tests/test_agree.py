@@ -20,11 +20,10 @@ from tests.cases import (
 # what is imported here is there in each process that is forked from this one
 from tools import ending
 from tools.agree import comments, comparing_programs, table, working
-from tools.agree.listing import read_file
+from tools.agree.machines import tso
 from tools.agree.programs import Program
 from tools.agree.small_programs import Family, Shape, shapes_of
-from tools.agree.verdicts import is_alike
-from tools.second.listings import read_file_items
+from tools.agree.verdicts import lines_of
 
 AGREE = tool("agree", apart())
 BUFFER, DRAIN = "examples/models/tso-buffer.uspec", "examples/models/tso-drain.uspec"
@@ -48,7 +47,6 @@ FILES = {
     "none.uspec": '% Memory model: none-such\nAxiom "a": forall microops "i", IsAnyRead i.\n',
     "fault.test": "nothing\n",
     "fault.litmus": "X86 a\n{ x=0; }\n P0 ;\n MFENCE ;\nexists (0:EAX=1)\n",
-    "layout.test": f'Litmus "a".\nMicroop 0 0 0 0 (Read (VA 0 0) (PA 0 0) (Data {7:05000})).\n',
     "locked.test": 'Litmus "a".\nMicroop 0 0 0 0 (Read Locked (VA 0 0) (PA 0 0) (Data 0)).\nMicroop 0 0 0 1 (Fence).\n',
 }
 NO_MACHINE = "there is no machine of the memory model {}; there are nmca, pc, pso, rvwmo, sc, tlb, tso, weak"
@@ -62,14 +60,20 @@ TOLD: tuple[tuple[str, int, str, list[str]], ...] = (
      [BUFFER, "WORK/fault.litmus"]),
     ("a file that is missing is told", 4, "WORK/no.test: No such file or directory", [BUFFER, "WORK/no.test"]),
     ("what is no file is told", 125, "/dev/null is no file, and each one is read more than once", [BUFFER, "/dev/null"]),
-    ("a test that no machine reads is told", 125, "WORK/layout.test: the machines cannot read this layout",
-     [BUFFER, "WORK/layout.test"]),
     ("that no machine runs the test is no agreement", 125,
      "nothing is compared: no model here takes one of these tests with a machine that runs it", [DRAIN, LOCKED]),
     ("a memory model that has no machine is told", 125, NO_MACHINE.format("none-such"), ["WORK/none.uspec", MP]),
     ("a module that is no machine is none", 125, NO_MACHINE.format("os"), ["--as", "os", BUFFER, MP]),
     ("no random programs are made for page tables", 125, f"{PAGES}: no programs are made for a machine with page tables",
      ["--random", "1", "6", PAGES]),
+)
+ONE_READ = "Microop 1 0 0 0 (Read (VA 0 0) (PA 0 0) (Data 1))."
+ONE_WRITE = "Microop 0 0 0 0 (Write (VA 0 0) (PA 0 0) (Data 1))."
+LAYOUTS = (
+    ("a number of 5,000 digits", f'Litmus "a".\n{ONE_WRITE}\n{ONE_READ.replace("1)", f"{1:05000})")}\n'),
+    ("words of comments in its title", f'Litmus "(* % //". Init (PA 0 0) 1.\n{ONE_READ}\n'),
+    ("comments between its words", f'Litmus % "b".\n"a" (* . *). Init (PA % 1\n0 0) // 0\n1 .{ONE_READ.replace(" ", " (**) ")}\n'),
+    ("a read that stands before an earlier write", f'Litmus "a".\n{ONE_READ}\n{ONE_WRITE}\n'),
 )
 FEW = [f"examples/patterns/{it}.pattern" for it in ("CoRR", "CoWRR", "MP", "MP+own+read", "R", "SB", "SB+fences")]
 ANY_READ, OLDEST_READ = (f"examples/buggy/tso-lines-{it}-read.uspec" for it in ("any", "oldest"))
@@ -258,17 +262,12 @@ $'c\\u009b.uspec' MP.pattern: shown though tso does not allow it: 1 0
 {SWEPT}0 agree, 1 differ
 """, env=env)
 
-    def test_readings(self) -> None:
-        """machines run a test only as it is read here, too"""
-        path = f"{TOP}/examples/tests/MP+po+addr.test"
-        text = read(path)
-        for name, old, new in (
-            ("no change", "", ""), ("another address", "(PA 0 0) (Data 0)", "(PA 2 0) (Data 0)"), ("another end", "addr 2 0", "addr 1 0"),
-        ):
-            with self.case(f"a reading with {name}"):
-                self.assertIn(old, text)
-                case = read_file_items(path, text.replace(old, new).encode())[0]
-                self.assertEqual(is_alike(read_file(path), case), not old)
+    def test_layouts(self) -> None:
+        """Whatever the layout of a test, the machines run what the program reads of it: its outcome comes up."""
+        for name, text in LAYOUTS:
+            path = write(f"{self.work}/layout.test", text)
+            self.agrees(f"a test with {name} is compared", 0, "1 agree, 0 differ\n", "", BUFFER, path)
+            self.same(f"a test with {name} is run", lines_of(tso, path), ["yes"])
 
     def test_caches(self) -> None:
         for name, said, words in CACHES:

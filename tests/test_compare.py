@@ -22,7 +22,9 @@ from tests.cases import (
 
 from tools.agree.machines import tso
 from tools.listings import compare
-from tools.agree.listing import BODY, LOAD, read_listing
+from tools.agree.litmus import address_of, read_file
+from tools.second.cases import OpItem
+from tools.second.listings import read_file_items
 from tools.second.scopes import read_model
 
 BUFFERS = f"{TOP}/examples/models/tso-buffer.uspec"
@@ -370,20 +372,14 @@ HERD = [
 def log_of_tso(path: str) -> str:
     """What herd would write of a shipped listing, whose states have all registers and locations, as the machine of x86-TSO
     finds them."""
-    found = BODY.search(read(path))
-    assert found is not None
-    _, *rows = ([cell.strip() for cell in row.split("|")] for row in found["rows"].split(";"))
-    columns = enumerate(zip(*rows))
-    loads = [f"{core}:{load[1]}" for core, column in columns for cell in column if (load := LOAD.match(cell))]
-    test = read_listing(path)
-    # read_listing counts the locations as they come column by column, and then those of the condition
-    cells = [cell for column in zip(*rows) for cell in column]
-    names = list(dict.fromkeys(name for cell in cells for name in re.findall(r"\[(\w+)\]", cell)))
+    text = read(path)
+    ops = [it for it in read_file_items(path, text.encode())[1] if isinstance(it, OpItem)]
+    loads = [f"{it.op.core}:{load[1]}" for it in ops if (load := re.compile(r"MOV *(\w+)").match(text, it.at))]
+    names = {address_of(it.op.pa): it.op.pa for it in ops if it.op.pa is not None}
     states = set()
-    for reads, memory in tso.outcomes(test):
-        values = {address[0]: value for address, value in memory}
+    for reads, memory in tso.outcomes(read_file(path)):
         parts = [f"{load}={value};" for load, value in zip(loads, reads)]
-        states.add(" ".join([*parts, *(f"[{name}]={values[number]};" for number, name in enumerate(names))]))
+        states.add(" ".join([*parts, *(f"[{names[address]}]={value};" for address, value in memory)]))
     title = os.path.basename(path).removesuffix(".litmus")
     lines = "".join(f"{state}\n" for state in sorted(states))
     return f"Test {title} Allowed\nStates {len(states)}\n{lines}Witnesses\nObservation {title} Sometimes 1 1\n\n"

@@ -283,19 +283,17 @@ Final (PA 9 0) 0.
 """)
         self.rows("a final value of an address that no micro-op names", 0, ["WORK/untouched.pattern", SC], "untouched.pattern ok",
                   "WORK/untouched.pattern:4:1: nobody's: no micro-op is at PA 9 0, so that no axiom can see this")
-        # the machines take the rest of the first line for a comment, as of the longer test below, whose reads then get what
-        # nothing writes; nothing is said of that
         self.put("percent.test", """\
 Litmus "100%". Init (PA 0 0) 5.
 Microop 0 0 0 0 (Read (VA 0 0) (PA 0 0) (Data 5)).
 Permitted.
 """)
-        self.rows("a value at the start that the machines do not read", 0, ["WORK/percent.test", SC], "percent ok")
+        self.rows("a value at the start behind the sign of a comment in the title", 0, ["WORK/percent.test", SC], "percent ok")
         self.put("large.test", """\
 Litmus "100%". Microop 0 0 0 0 (Write (VA 0 0) (PA 0 0) (Data 1)). Microop 1 0 0 0 (Write (VA 1 0) (PA 1 0) (Data 1)).
 Microop 2 1 1 0 (Read (VA 1 0) (PA 1 0) (Data 1)). Microop 3 1 1 0 (Read (VA 0 0) (PA 0 0) (Data 1)). Permitted.
 """)
-        self.rows("a test that the machines read otherwise than the program", 0, ["WORK/large.test", EARLY], "large ok")
+        self.rows("micro-ops behind the sign of a comment in the title", 0, ["WORK/large.test", EARLY], "large ok")
         self.put("table.tsv", "mine\tMP\tno\n")
         self.put("mine.uspec", "% Memory model: mine\n" + without_first_line(EARLY))
         pattern = "examples/patterns/MP.pattern"

@@ -8,9 +8,8 @@ from types import ModuleType
 from typing import Callable, Collection, NamedTuple
 
 from tools import TOP
-from tools.agree.listing import read_file
-from tools.agree.litmus import Reads, Test, Value, test_of_text
-from tools.agree.verdicts import is_alike, runs, value_of, words_of
+from tools.agree.litmus import Reads, Test, Value, test_of_text, value_of
+from tools.agree.verdicts import runs, words_of
 from tools.agree.working import Unusable
 from tools.lint.asked import Asked
 from tools.second.cases import Case
@@ -26,7 +25,7 @@ from tools.suite.allowing import MACHINE, Machines
 from tools.suite.programs import command_of, held
 from tools.suite.telling import Refusal
 from tools.telling.files import sentence
-from tools.texts.contents import Read, Unreadable, contents, read_within
+from tools.texts.contents import Read, contents, read_within
 from tools.texts.memory_models import memory_model_of
 from tools.texts.quoting import line_of, shown
 
@@ -71,7 +70,7 @@ class Other(NamedTuple):
     def rows_of(self, pattern: str, by_program: bool) -> set[Reads]:
         if self.is_model:
             return rows_shown(self.name, pattern.encode("ascii"), by_program)
-        test = test_of_text(pattern)
+        test = test_of_text(PATTERN, pattern.encode("ascii"))
         return test.rows_shown_by(machine_of(self.name).outcomes(test))
 
 
@@ -122,18 +121,8 @@ def case_of(path: str) -> Case:
 
 @lru_cache(None)
 def test_of(path: str) -> Test:
-    """The test of a file, as the machines read it. They are made for usual layouts, and have to read the same micro-ops
-    as the second implementation, which reads all."""
-    case = case_of(path)
-    try:
-        test = read_file(path)
-    except OSError as error:
-        raise Unreadable(f"{shown(path)}: {error.strerror}") from error
-    except (ArithmeticError, LookupError, ValueError) as error:
-        raise Unusable(f"{shown(path)}: the machines cannot read this layout") from error
-    if not is_alike(test, case):
-        raise Unusable(f"{shown(path)}: the machines cannot read this layout")
-    return test
+    """The test of a file, as the machines run it."""
+    return judged("test", path, contents(path), lambda text: test_of_text(path, text))
 
 
 @lru_cache(None)

@@ -1,26 +1,18 @@
-"""Litmus tests as the machines run them: each core's micro-ops in program order, and the stated outcome.
-
-This reads the files of examples/ by a few regular expressions, in both formats, and patterns, whose reads may be open. It is
-made for files that are well-formed, and shares no code with the program or with the second implementation.
+"""Litmus tests as the machines run them: each core's micro-ops in program order, and the stated outcome. A listing and a pattern, whose
+reads may be open, are tests too. What a file says is read by the second implementation, and judged by nothing of it.
 """
-import re
 from typing import Callable, Hashable, Iterable, Iterator, NamedTuple, TypeVar
+
+from tools.second.cases import Address as Place
+from tools.second.cases import Entry, OpItem, Page
+from tools.second.cases import Value as Datum
+from tools.second.listings import ENDING as LISTING
+from tools.second.listings import read_file_items
+from tools.second.tokens import tokens
+from tools.texts.contents import contents
 
 # the types of a full fence: that of tests, and that of herd's X86 listings
 FULL = frozenset({"Full", "MFENCE"})
-
-FORMAT_2 = re.compile(r"\s*Litmus2\b")
-COMMENT = re.compile(r"\(\*.*?\*\)|%[^\n]*|//[^\n]*", re.DOTALL)
-MICROOP = re.compile(
-    r"""Microop \s+ (\d+) \s+ (\d+) \s+ (\d+) \s+ (\d+) \s* \( \s*
-        (Read|Write|Fence) \b ([^()]*)
-        (?: \( \s* VA \s+ (\d+) \s+ (\d+) \s* \) \s* \( \s* ((?:PA|Entry) [^()]*) \) \s* \( \s* ((?:Data|Maps) [^()]*) \) )?
-        \s* \) \s* \.""",
-    re.VERBOSE,
-)
-DEPENDENCY = re.compile(r"Relationship\s+(\w+)\s+(\d+)\s+(\d+)\s*->\s*(\d+)\s+(\d+)\s*\.")
-OPEN = re.compile(r"\bAny\b")
-VALUE = re.compile(r"(Init|Final)\s*\(\s*((?:PA|Entry)[^()]*)\)\s*(\d+|\(\s*Maps[^()]*\))\s*\.")
 
 # a tag and an index, or the virtual tag of a page-table entry
 Address = tuple[int, ...]
@@ -112,47 +104,35 @@ class Test(NamedTuple):
         }
 
 
-def read_test(path: str) -> Test:
-    # a comment may have any bytes, and ends with its line by LF alone
-    with open(path, encoding="latin-1", newline="\n") as file:
-        return test_of_text(file.read())
+def read_file(path: str) -> Test:
+    """The test of a file, which is a listing or a pattern where its name says so."""
+    return test_of_text(path, contents(path))
 
 
-def test_of_text(whole: str) -> Test:
-    text = COMMENT.sub(" ", whole)
-    found = MICROOP.findall(text)
-    threads = sorted({(int(core), int(thread)) for _, core, thread, *_ in found})
-    lines: list[list[tuple[int, int, Op]]] = [[] for _ in threads]
-    names: dict[tuple[int, int], int] = {}
-    for place, (g, core, thread, n, kind, types, tag, index, address, value) in enumerate(found):
-        here = threads.index((int(core), int(thread)))
-        names[int(g), int(n)] = place
-        op = Op(place, here, kind, frozenset(types.split()), instruction=int(g))
-        if address:
-            virtual = int(tag), int(index)
-            is_open = OPEN.search(value) is not None
-            op = op._replace(address=numbers(address), virtual=virtual, is_open=is_open)
-            op = op if is_open else op._replace(value=value_of(value))
-        lines[here].append((int(g), int(n), op))
-    dependencies = {(kind, names[int(g), int(n)], names[int(h), int(m)]) for kind, g, n, h, m in DEPENDENCY.findall(text)}
-    values = {(word, numbers(address)): value_of(value) for word, address, value in VALUE.findall(text)}
-    return Test(
-        tuple(tuple(op for _, _, op in sorted(line, key=lambda entry: entry[:2])) for line in lines),
-        frozenset(dependencies),
-        {address: d for (word, address), d in values.items() if word == "Init"},
-        {address: d for (word, address), d in values.items() if word == "Final"},
-        FORMAT_2.match(text) is not None,
-    )
+def test_of_text(path: str, text: bytes) -> Test:
+    """The test of a text that stands in a file of this name."""
+    case, items = read_file_items(path, text)
+    open_places = [item.is_open for item in items if isinstance(item, OpItem)]
+    threads = sorted({(op.core, op.thread) for op in case.ops})
+    lines: dict[tuple[int, int], list[Op]] = {thread: [] for thread in threads}
+    for place, op in sorted(enumerate(case.ops), key=lambda placed: (placed[1].g, placed[1].n)):
+        here = Op(place, threads.index((op.core, op.thread)), op.access, op.types, instruction=op.g, is_open=open_places[place])
+        if op.pa is not None and op.va is not None:
+            here = here._replace(address=address_of(op.pa), virtual=address_of(op.va), value=value_of(op.value))
+        lines[op.core, op.thread].append(here)
+    initial, final = ({address_of(it): value_of(value) for it, value in values.items()} for values in (case.initial, case.final))
+    has_entries = not path.endswith(LISTING) and tokens(text)[0].piece == "Litmus2"
+    return Test(tuple(map(tuple, lines.values())), frozenset(case.dependencies), initial, final, has_entries)
 
 
-def numbers(words: str) -> tuple[int, ...]:
-    return tuple(map(int, re.findall(r"\b\d+\b", words)))
+def address_of(place: Place) -> Address:
+    """An address of the second implementation as the machines have it."""
+    return (place.tag, place.index) if isinstance(place, Page) else (place.tag,)
 
 
-def value_of(words: str) -> Value:
-    """A number, or the three parts of an entry."""
-    found = numbers(words)
-    return (found[0], found[1], found[2]) if len(found) == 3 else found[0]
+def value_of(value: Datum | None) -> Value:
+    """A value of the second implementation as the machines have it."""
+    return (value.tag, value.accessed, value.dirty) if isinstance(value, Entry) else value or 0
 
 
 def replaced(pairs: tuple[tuple[Key, Item], ...], key: Key, value: Item) -> tuple[tuple[Key, Item], ...]:

@@ -15,7 +15,7 @@ from importlib import import_module
 from typing import Iterator
 
 from tools import TOP
-from tools.agree.listing import read_file
+from tools.agree.litmus import read_file
 from tools.agree.verdicts import runs
 from tools.texts.contents import contents
 

@@ -4,9 +4,7 @@
     python3 tools verdicts MACHINE --within SECONDS
 
 Of a test it writes `yes` or `no`: whether the outcome comes up. Of a pattern it writes what its open reads get, a line
-`row ..` for each way, as a sweep does, and `end`. The status is 3 where the machine does not run such tests, or where the
-machines do not read them, or read other micro-ops than the second implementation, which takes each test that has no fault:
-they are made for usual layouts.
+`row ..` for each way, as a sweep does, and `end`. The status is 3 where the machine does not run such tests.
 
 The second form says it of one test after another: standard input has their paths, each with a NUL behind it, and after
 what is said of a test a NUL stands too; `not run` in place of status 3. Each may take so many seconds of a processor.
@@ -16,15 +14,10 @@ import resource
 import sys
 from importlib import import_module
 from types import ModuleType
-from typing import Iterator, Sequence
+from typing import Iterator
 
-from tools.agree.listing import read_file
-from tools.agree.litmus import NotRun, Reads, Test, Value
-from tools.second.cases import Case, Entry
-from tools.second.cases import Value as ReadValue
-from tools.second.listings import read_file_items
+from tools.agree.litmus import NotRun, Reads, Test, read_file
 from tools.second.patterns import ENDING as PATTERN
-from tools.texts.contents import contents
 
 NOT_RUN = 3
 
@@ -42,33 +35,10 @@ def words_of(row: Reads) -> list[str]:
     return ["Maps:" + ":".join(map(str, value)) if isinstance(value, tuple) else str(value) for value in row]
 
 
-def value_of(value: ReadValue | None) -> Value:
-    """A value of the second implementation as the machines have it."""
-    return (value.tag, value.accessed, value.dirty) if isinstance(value, Entry) else value or 0
-
-
-def firsts(addresses: Sequence[object]) -> list[int]:
-    """For each of these addresses the place of the first that is the same."""
-    return [addresses.index(it) for it in addresses]
-
-
-def is_alike(test: Test, case: Case) -> bool:
-    """Whether both readings have the same micro-ops and dependencies, addresses that are alike at the same places, and as many initial
-    and final values."""
-    here = [(op.instruction, op.kind, op.types, op.value) for op in test.ops]
-    there = [(op.g, op.access, op.types, value_of(op.value)) for op in case.ops]
-    same = firsts([op.address for op in test.ops if op.kind != "Fence"]) == firsts([op.pa for op in case.ops if op.pa is not None])
-    read = {*test.dependencies}, len(test.initial), len(test.final)
-    return here == there and same and read == (case.dependencies, len(case.initial), len(case.final))
-
-
 def lines_of(machine: ModuleType, path: str) -> list[str] | None:
-    """What a machine says of a test; None where it does not run such tests, or does not read this one."""
-    try:
-        test = read_file(path)
-    except (LookupError, ValueError):
-        return None
-    if not runs(machine, test) or not is_alike(test, read_file_items(path, contents(path))[0]):
+    """What a machine says of a test; None where it does not run such tests."""
+    test = read_file(path)
+    if not runs(machine, test):
         return None
     try:
         rows = test.rows_shown_by(machine.outcomes(test))
