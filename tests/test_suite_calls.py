@@ -5,7 +5,6 @@ import contextlib
 import fcntl
 import glob
 import io
-import json
 import os
 import pty
 import re
@@ -32,8 +31,8 @@ from tools.ending import SIGNALS as RECEIVED
 from tools.texts.memory_models import memory_model_of
 from tools.suite import keeping
 from tools.suite.calling import Calls, side_by_side
-from tools.suite.files import File, model_file, test_file
-from tools.suite.keeping import Folder, Kept, State, write_anew
+from tools.suite.files import model_file, test_file
+from tools.suite.keeping import Folder, Kept
 from tools.suite.pairs import Found
 from tools.suite.running import lint_lines
 from tools.suite.telling import table_of_models
@@ -373,12 +372,13 @@ class Folders(SuiteCases):
             "deep": lambda: write(place, 200_000 * "["),
             "pipe": lambda: os.mkfifo(place),
             "link": lambda: os.symlink(f"{TOP}/{MP}", place),
-            "folder": lambda: os.mkdir(place),
+            "link to a folder": lambda: os.symlink(f"{self.work}/tests", place),
         }
         for kind, make in kinds.items():
             make()
             said = "suite: WORK/kept/.state is spoilt: it is made anew\n"
             self.writes(f"what an interrupted suite has got is a {kind}", self.called(SC), 0, GOOD, said)
+        self.same("a link in the place of that folder is not followed", sorted(os.listdir(f"{self.work}/tests")), ["MP.test", "SB.test"])
 
     def test_at_once(self) -> None:
         """Of two suites in one folder at once one waits for the other."""
@@ -575,57 +575,35 @@ class Parts(SuiteCases):
             named = memory_model_of(text.encode("ascii"))
             self.same(f"a model with {text!r}", named.name or named.fault, wanted)
 
-    def test_states(self) -> None:
-        """A verdict of an interrupted suite stands for the same bytes alone."""
+    def test_stands(self) -> None:
+        """A verdict that is kept stands for the same bytes alone, and as it was kept."""
         model, test = model_file(f"{TOP}/{TUTORIAL}"), test_file(f"{TOP}/{MP}")
         listing = replace(test, path=test.path.removesuffix(".test") + ".litmus")
-        found = Found("unobservable", "forbidden")
-        folder = Folder(self.work)
-        folder.make_room(model)
-        state = State(folder, "the program")
-        place = folder.place(model, test)
-        certificate = b"unobservable\ntest forbidden: ok\nend\n"
-        for name, text, is_noted in (
-            ("with its certificate", certificate, True),
-            ("with a certificate of another verdict", b"observable\n", False),
-            ("without its certificate", None, False),
+        certificate, other = b"unobservable\ntest forbidden: ok\nend\n", "other bytes"
+        store = Kept(self.work, "the program", "a suite")
+        store.keep(model, test, io.BytesIO(certificate))
+        place = store.place(model, test)
+        entry = read(place).encode()
+        self.same("a verdict of the same bytes stands", store.found(model, test), (Found("unobservable", "forbidden"), certificate))
+        for name, program, of_model, of_test in (
+            ("another program", other, model, test),
+            ("a program whose bytes are not known", "", model, test),
+            ("another model", "the program", replace(model, digest=other), test),
+            ("another test", "the program", model, replace(test, digest=other)),
+            ("a test that another word checks", "the program", model, listing),
         ):
-            if text is not None:
-                write_anew(place, text)
-            else:
-                os.unlink(place)
-            state.pairs = {}
-            state.note(model, test, found)
-            self.same(f"a verdict {name} is noted" if is_noted else f"a verdict {name} is not noted", bool(state.pairs), is_noted)
-        write_anew(place, certificate)
-        state.note(model, test, found)
-        state.write()
-
-        def stands(program: str = "the program", of_model: File = model, of_test: File = test) -> Found | None:
-            other = State(folder, program)
-            # that it is spoilt is told
-            with contextlib.redirect_stderr(io.StringIO()):
-                other.read()
-            return other.found(of_model, of_test)
-
-        self.same("a verdict of the same bytes stands", stands(), found)
-        for name, other in (
-            ("another program", stands("another program")),
-            ("a program whose bytes are not known", stands("")),
-            ("another model", stands(of_model=replace(model, digest="other bytes"))),
-            ("another test", stands(of_test=replace(test, digest="other bytes"))),
-            ("a test that another word checks", stands(of_test=listing)),
+            self.same(f"a verdict of {name} does not stand", Kept(self.work, program, "a suite").found(of_model, of_test), None)
+        for name, text in (
+            ("with another certificate", entry + b"more"),
+            ("that its certificate does not say", entry.replace(b"unobservable", b"observable")),
+            ("without its certificate", entry.partition(b"\n")[0]),
+            *((f"kept as {spoilt!r}", spoilt) for spoilt in (b"", b"{", b"[]", b'{"verdict": 1}\n')),
         ):
-            self.same(f"a verdict of {name} does not stand", other, None)
-        write_anew(place, certificate + b"more")
-        self.same("a verdict with another certificate does not stand", stands(), None)
-        write_anew(place, certificate)
-        observable = json.dumps({"program": "the program", "pairs": state.pairs}).replace("unobservable", "observable")
-        write_anew(state.place, observable.encode("ascii"))
-        self.same("a verdict that its certificate does not say does not stand", stands(), None)
-        for spoilt in (b"", b"{", b"[]", b'{"program": "the program", "pairs": {"tutorial/MP.test": {"verdict": 1}}}'):
-            write_anew(state.place, spoilt)
-            self.same(f"a state of {spoilt!r} is none", stands(), None)
+            write(place, text)
+            self.same(f"a verdict {name} does not stand", store.found(model, test), None)
+        for name, text in (("of no verdict", b"observable\n"), ("that is empty", b"")):
+            store.keep(model, test, io.BytesIO(text))
+            self.same(f"a text {name} does not stand", store.found(model, test), None)
 
     def test_kept(self) -> None:
         """What was not taken for longest goes, where there is more than the limit; and nothing else in the folder does."""
@@ -635,9 +613,9 @@ class Parts(SuiteCases):
         store = f"{self.work}/store"
         for name in ("mine", "0" * 64 + ".part", "0" * 64 + "." + "0" * 32 + ".part"):
             os.utime(self.put(f"store/{name}", text), (0, 0))
-        verdicts = Kept(store, "the program")
+        verdicts = Kept(store, "the program", "a suite")
         for age, test in enumerate(tests):
-            verdicts.keep(model, test, found, io.BytesIO(text))
+            verdicts.keep(model, test, io.BytesIO(text))
             os.utime(verdicts.place(model, test), (1000 - age, 1000 - age))
         self.same("a verdict is taken", verdicts.found(model, tests[2]), (found, text))
         with replaced(keeping, "MOST_BYTES", 2500):

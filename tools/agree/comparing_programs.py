@@ -22,7 +22,7 @@ from tools.agree.small_programs import Family, Shape
 from tools.agree.working import Counts, Unusable, Workers, tell
 from tools.second.patterns import MOST_ROWS
 from tools.suite.files import digest_of
-from tools.suite.keeping import own_contents, write_anew
+from tools.suite.keeping import keep_whole, whole_text
 from tools.suite.telling import Progress as Meter
 from tools.texts.quoting import shown
 
@@ -51,19 +51,14 @@ class Kept:
         self.is_told = False
 
     def read(self) -> Progress:
-        """What a comparison has got; nothing where the file is none that was written of it, by the hash in its first line."""
-        with suppress(OSError):
-            head, _, text = own_contents(self.place, MOST_BYTES).partition(b"\n")
-            found = json.loads(text) if head == digest_of(text).encode("ascii") else {}
-            if found.get("origin") == self.origin:
-                return Progress(Counts(**found["counts"]), found["smallest"])
-        return Progress()
+        """What a comparison has got; nothing where the file is none that was written of it."""
+        found = json.loads(whole_text(self.place, MOST_BYTES) or b"{}")
+        return Progress(Counts(**found["counts"]), found["smallest"]) if found.get("origin") == self.origin else Progress()
 
     def write(self, progress: Progress) -> None:
         try:
             os.makedirs(self.folder, exist_ok=True)
-            text = json.dumps({"origin": self.origin, **asdict(progress)}).encode("ascii")
-            write_anew(self.place, digest_of(text).encode("ascii") + b"\n" + text)
+            keep_whole(self.place, json.dumps({"origin": self.origin, **asdict(progress)}).encode("ascii"))
         except OSError as error:
             if not self.is_told:
                 tell(f"{shown(self.folder)}: {error.strerror}: what is done is not kept")

@@ -40,7 +40,7 @@ def answers_of(
 
     def found(model: File, test: File) -> Found:
         place = os.path.join(folder, f"{model.name}.{test.base}")
-        found = checked(checker, kept, copies, model, test, place)
+        found = checked(checker, [kept], copies, model, test, place)
         with suppress(OSError):
             os.unlink(place)
         return found

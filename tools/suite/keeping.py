@@ -1,33 +1,32 @@
-"""The folder of a suite: certificates, the rows of the last table, and what an interrupted suite has got so far; reports; and the
-folder of verdicts that are kept over suites.
+"""The folder of a suite: certificates, the rows of the last table, and what an interrupted suite has got so far; reports; and
+folders of verdicts that are kept.
 
 Each file is written under another name first and then takes the place of the old one: so no link is followed, and what
 stood before stands until the new one is whole.
 """
-import json
 import os
 import re
+import shutil
 import stat
 from contextlib import contextmanager, suppress
 from typing import IO, Iterator, Mapping
 
 from tools.ending import SIGNALS
 from tools.suite.files import CELLS, PART, File, digest_of
-from tools.suite.pairs import BUG, GOOD, STRICTER, TIME, Found, found_in, verdict_found
+from tools.suite.pairs import BUG, GOOD, STRICTER, TIME, Found, found_in
 from tools.suite.telling import Refusal, tell
 from tools.texts.quoting import quoted, shown
 
 CERTIFICATE, ROWS, ANSWER = ".certificate", ".rows", ".answer"
 # other files of such a folder may end in .part, too
 PARTS = (CERTIFICATE + PART, ROWS + PART, ANSWER + PART)
-# no model has a name that begins with a dot
-LOCK = ".lock"
-STATE = ".state"
+# no model has a name that begins with a dot; the second is the folder of what an interrupted suite has got
+LOCK, STATE = ".lock", ".state"
 # how much stays of verdicts that are kept over suites
 MOST_BYTES = 1 << 30
 # what is written there; nothing else in that folder is touched
 ENTRY = re.compile(r"[0-9a-f]{64}(\.[0-9a-f]{32}\.part)?")
-FORMAT = "1"
+FORMAT = "2"
 # by the names of model and test
 Cells = Mapping[tuple[str, str], str]
 # how what is new is told, by these words first
@@ -79,6 +78,81 @@ def write_report(path: str, text: bytes) -> None:
             file.write(text)
 
 
+class Kept:
+    """Verdicts that are kept, in a folder that many suites may read and write at once. Without a path nothing is kept.
+
+    An entry is a file by the hash of all that a verdict comes from: program, model, test and the words of the call. It has what the
+    program wrote, and so the verdict. An entry that is spoilt is none, and is made anew.
+    """
+
+    def __init__(self, path: str, program: str, origin: str) -> None:
+        self.path = path
+        # the hash of the program; empty where its bytes are not known, and then nothing is kept
+        self.program = program
+        # what verdicts stand from, in a sentence
+        self.origin = origin
+        # the entries that this suite made, and those of others that pairs stand from
+        self.made: set[str] = set()
+        self.taken: list[str] = []
+
+    def knows(self, model: File, test: File) -> bool:
+        """Whether something is kept, and all bytes are known that a verdict comes from."""
+        return "" not in (self.path, self.program, model.digest, test.digest)
+
+    def place(self, model: File, test: File) -> str:
+        origin = (FORMAT, self.program, model.digest, test.digest, f"{test.kind.check} {test.kind.verify}")
+        return os.path.join(self.path, digest_of("\n".join(origin).encode("ascii")))
+
+    def found(self, model: File, test: File) -> tuple[Found, bytes] | None:
+        """The verdict of a pair with the program's text, where it is kept."""
+        place = self.place(model, test)
+        text = whole_text(place) if self.knows(model, test) else None
+        if text is None:
+            return None
+        found = found_in(test, text)
+        if not found.verdict:
+            return None
+        # what is taken stays longest
+        with suppress(OSError):
+            os.utime(place)
+        if place not in self.made:
+            self.taken.append(place)
+        return found, text
+
+    def keep(self, model: File, test: File, said: IO[bytes]) -> None:
+        """Keeps what the program said of a verdict. Where that fails the program is asked again the next time."""
+        if self.knows(model, test):
+            place = self.place(model, test)
+            self.made.add(place)
+            said.seek(0)
+            with suppress(OSError):
+                keep_whole(place, said.read(), f".{os.urandom(16).hex()}")
+
+    def tell_taken(self) -> None:
+        if self.taken:
+            tell(f"suite: {len(self.taken)} pairs stand from {self.origin}")
+
+    def shorten(self) -> None:
+        """Removes what was not taken for longest, until the rest is no more than so much."""
+        entries = sorted(self.entries())
+        length = sum(size for _, _, size in entries)
+        for _, path, size in entries:
+            if length <= MOST_BYTES:
+                return
+            with suppress(OSError):
+                os.unlink(path)
+            length -= size
+
+    def entries(self) -> Iterator[tuple[float, str, int]]:
+        """Of each entry, and of what a suite that was ended by force left of one: when it was last taken, its path and its size."""
+        with suppress(OSError), os.scandir(self.path) as entries:
+            for entry in entries:
+                if ENTRY.fullmatch(entry.name):
+                    with suppress(OSError):
+                        status = entry.stat(follow_symlinks=False)
+                        yield status.st_mtime, entry.path, status.st_size
+
+
 class Folder:
     """The folder that one suite at a time writes into."""
 
@@ -118,6 +192,20 @@ class Folder:
         """Where the certificate of a pair is kept, or the text of a sweep or of an answer."""
         ending = ROWS if test.is_pattern else ANSWER if test.is_query else CERTIFICATE
         return os.path.join(self.path, model.name, test.base + ending)
+
+    def state(self, program: str) -> Kept:
+        """What an interrupted suite has got. It stands for the same bytes of model, test and program alone."""
+        path = os.path.join(self.path, STATE)
+        if os.path.lexists(path) and (os.path.islink(path) or not os.path.isdir(path)):
+            tell(f"suite: {shown(path)} is spoilt: it is made anew")
+            os.unlink(path)
+        with suppress(OSError):
+            os.makedirs(path, exist_ok=True)
+        return Kept(path, program, "a suite that was interrupted")
+
+    def clear_state(self) -> None:
+        """A suite that is done leaves nothing to go on from."""
+        shutil.rmtree(os.path.join(self.path, STATE), ignore_errors=True)
 
     def write_cells(self, cells: Cells) -> None:
         """Keeps the rows of a table: model, test and cell."""
@@ -175,91 +263,9 @@ class Baseline:
             yield from (f"{kind} {name}" for name in dict.fromkeys(pair[place] for pair in self.cells) if name not in left)
 
 
-class State:
-    """What an interrupted suite has got: verdicts with the hashes of all that they come from. It holds for the same
-    bytes of model, test, program and certificate alone."""
-
-    def __init__(self, folder: Folder, program: str) -> None:
-        self.place = os.path.join(folder.path, STATE)
-        self.folder = folder
-        # the hash of the program; empty where its bytes are not known, and then nothing is kept
-        self.program = program
-        # by the places of their certificates
-        self.pairs: dict[str, dict[str, str]] = {}
-
-    def read(self) -> None:
-        """Takes in what an interrupted suite left."""
-        self.pairs = {}
-        try:
-            found = json.loads(own_contents(self.place))
-            pairs = found["pairs"] if found["program"] == self.program != "" else {}
-            self.pairs = {name: pair for name, pair in pairs.items() if isinstance(pair, dict)}
-        except FileNotFoundError:
-            pass
-        except (OSError, ValueError, KeyError, TypeError, AttributeError, RecursionError):
-            tell(f"suite: {shown(self.place)} is spoilt: it is made anew")
-
-    def found(self, model: File, test: File) -> Found | None:
-        """The verdict of a pair, where it is known for these bytes and the certificate of then is there."""
-        known = self.pairs.get(self.key(model, test))
-        if known is None or "" in (model.digest, test.digest) or self.pair(model, test) != known:
-            return None
-        return Found(known["verdict"], known["stated"]) if known["verdict"] else None
-
-    def note(self, model: File, test: File, found: Found) -> None:
-        """Notes a verdict whose certificate is kept."""
-        pair = self.pair(model, test)
-        if self.program != "" and pair["verdict"] == found.verdict != "":
-            self.pairs[self.key(model, test)] = pair
-
-    def key(self, model: File, test: File) -> str:
-        return f"{model.name}/{test.base}"
-
-    def pair(self, model: File, test: File) -> dict[str, str]:
-        """What the certificate of a pair says, with all that this comes from."""
-        certificate = None
-        with suppress(OSError):
-            certificate = own_contents(self.folder.place(model, test))
-        found = verdict_found(certificate or b"")
-        return {
-            "model": model.digest,
-            "test": test.digest,
-            "words": f"{test.kind.check} {test.kind.verify}",
-            "certificate": digest_of(certificate) if certificate is not None else "none",
-            "verdict": found.verdict,
-            "stated": found.stated,
-        }
-
-    def write(self) -> bool:
-        """Keeps what is noted, and answers whether there is something. Where that fails the next suite begins anew."""
-        if not self.pairs:
-            return False
-        try:
-            write_anew(self.place, json.dumps({"program": self.program, "pairs": self.pairs}).encode("ascii"))
-        except OSError:
-            return False
-        return True
-
-    def clear(self) -> None:
-        """A suite that is done leaves nothing to go on from."""
-        with suppress(OSError):
-            os.unlink(self.place)
-
-
-class Kept:
-    """Verdicts that are kept over suites, in a folder that many suites may read and write at once. Without a path nothing is kept.
-
-    An entry is a file by the hash of all that a verdict comes from: program, model, test and the words of the call. Its first line
-    has the hash of the rest, which is what the program wrote. An entry that is spoilt is none, and is made anew.
-    """
-
-    def __init__(self, path: str, program: str) -> None:
-        self.path = path
-        # the hash of the program; empty where its bytes are not known, and then nothing is kept
-        self.program = program if path else ""
-        self.taken: set[str] = set()
-        if not path:
-            return
+def kept_in(path: str, program: str) -> Kept:
+    """What is kept over suites in a folder, which is made where it is not there."""
+    if path:
         if not program:
             tell(f"suite: nothing is kept in {shown(path)}: PIPECHECK is not one binary")
         try:
@@ -268,74 +274,21 @@ class Kept:
             raise Refusal(f"the folder {shown(path)} cannot be made: {error.strerror}") from error
         if not os.access(path, os.R_OK | os.W_OK | os.X_OK):
             raise Refusal(f"the folder {shown(path)} cannot be written")
-
-    def knows(self, model: File, test: File) -> bool:
-        """Whether all bytes are known that a verdict comes from."""
-        return "" not in (self.program, model.digest, test.digest)
-
-    def place(self, model: File, test: File) -> str:
-        origin = (FORMAT, self.program, model.digest, test.digest, f"{test.kind.check} {test.kind.verify}")
-        return os.path.join(self.path, digest_of("\n".join(origin).encode("ascii")))
-
-    def found(self, model: File, test: File) -> tuple[Found, bytes] | None:
-        """The verdict of a pair with the program's text, where it is kept."""
-        if not self.knows(model, test):
-            return None
-        place = self.place(model, test)
-        try:
-            head, _, text = own_contents(place).partition(b"\n")
-            is_whole = json.loads(head)["digest"] == digest_of(text)
-        except (OSError, ValueError, KeyError, TypeError, RecursionError):
-            return None
-        found = found_in(test, text)
-        if not is_whole or not found.verdict:
-            return None
-        # what is taken stays longest
-        with suppress(OSError):
-            os.utime(place)
-        self.taken.add(place)
-        return found, text
-
-    def keep(self, model: File, test: File, found: Found, said: IO[bytes]) -> None:
-        """Keeps a verdict with what the program said. Where that fails the program is asked again the next time."""
-        if not self.knows(model, test):
-            return
-        said.seek(0)
-        text = said.read()
-        place = self.place(model, test)
-        head = json.dumps({"stated": found.stated, "digest": digest_of(text)}).encode("ascii")
-        with suppress(OSError):
-            write_anew(place, head + b"\n" + text, f".{os.urandom(16).hex()}")
-
-    def tell_taken(self) -> None:
-        if self.taken:
-            tell(f"suite: {len(self.taken)} pairs stand from {shown(self.path)}")
-
-    def shorten(self) -> None:
-        """Removes what was not taken for longest, until the rest is no more than so much."""
-        entries = sorted(self.entries())
-        length = sum(size for _, _, size in entries)
-        for _, path, size in entries:
-            if length <= MOST_BYTES:
-                return
-            with suppress(OSError):
-                os.unlink(path)
-            length -= size
-
-    def entries(self) -> Iterator[tuple[float, str, int]]:
-        """Of each entry, and of what a suite that was ended by force left of one: when it was last taken, its path and its size."""
-        with suppress(OSError), os.scandir(self.path) as entries:
-            for entry in entries:
-                if ENTRY.fullmatch(entry.name):
-                    with suppress(OSError):
-                        status = entry.stat(follow_symlinks=False)
-                        yield status.st_mtime, entry.path, status.st_size
+    return Kept(path, program, shown(path))
 
 
-def own_contents(place: str, most: int = -1) -> bytes:
-    """The bytes of a file of the suite's own, so many at most; no link is followed, and no pipe is waited for."""
-    handle = os.open(place, os.O_RDONLY | os.O_NOFOLLOW | os.O_NONBLOCK | os.O_CLOEXEC)
-    with os.fdopen(handle, "rb") as file:
-        if not stat.S_ISREG(os.fstat(handle).st_mode):
-            raise OSError(f"{place} is no file")
-        return file.read(most)
+def keep_whole(place: str, text: bytes, mark: str = "") -> None:
+    """Keeps a text of the suite's own behind a line with its hash."""
+    write_anew(place, digest_of(text).encode("ascii") + b"\n" + text, mark)
+
+
+def whole_text(place: str, most: int = -1) -> bytes | None:
+    """What is kept so in a file, of so many bytes at most; None where there is none, or it is spoilt. No link is followed, and no pipe
+    is waited for."""
+    with suppress(OSError):
+        handle = os.open(place, os.O_RDONLY | os.O_NOFOLLOW | os.O_NONBLOCK | os.O_CLOEXEC)
+        with os.fdopen(handle, "rb") as file:
+            head, _, text = file.read(most).partition(b"\n") if stat.S_ISREG(os.fstat(handle).st_mode) else (b"", b"", b"")
+        if head == digest_of(text).encode("ascii"):
+            return text
+    return None

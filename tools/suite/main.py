@@ -52,7 +52,7 @@ The table is of the bytes that the files have at the start. Each certificate is 
 judged again by `verify`, that of a listing by `verify86`; of a pattern MODEL/FILE.rows is what was swept, and of a
 query MODEL/FILE.answer what was answered, with its certificates. The rows of the last table stand beside them in
 `cells`: model, test and cell, with a tab between two. A suite that was interrupted goes on from what it has: a verdict
-stands where model, test, program and certificate have the same bytes.
+stands, with its certificate, where model, test and program have the same bytes.
 
 --axioms takes each axiom of a model out in turn, and says how many verdicts of the tests change by it, and the first of
 them. An axiom that changes none is untested or not needed. No certificate is kept but in SUITE_KEPT.
@@ -82,7 +82,7 @@ from tools.ending import SIGNALS
 from tools.suite.allowing import Rows
 from tools.suite.calling import ENDING, Calls
 from tools.suite.files import Copies
-from tools.suite.keeping import Baseline, Folder, Kept, State, judge_place, write_report
+from tools.suite.keeping import Baseline, Folder, judge_place, kept_in, write_report
 from tools.suite.pairs import BUG, NOT_TAKEN, OBSERVABLE, OK, STRICTER, SWEPT, TIME, UNOBSERVABLE, kind_of
 from tools.suite.programs import checker_of, program_digest
 from tools.suite.running import Suite
@@ -129,7 +129,7 @@ def suite(words: Sequence[str], environ: Mapping[str, str], top: str) -> int:
 
     with SIGNALS.temporary_folder() as folder:
         checker = checker_of(environ, top, seconds, Calls())
-        kept = Kept(environ.get("SUITE_KEPT", ""), program_digest(checker.command))
+        kept = kept_in(environ.get("SUITE_KEPT", ""), program_digest(checker.command))
         lines, status = run_axioms(asked.models[0], asked.tests, checker, kept, folder, jobs)
     put([*lines[:-1], lines[-1] + checker.said])
     return status
@@ -150,10 +150,8 @@ def pairs(asked: Words, environ: Mapping[str, str], top: str, seconds: float, jo
     with SIGNALS.temporary_folder() as place:
         checker = checker_of(environ, top, seconds, Calls())
         program = program_digest(checker.command)
-        state = State(folder, program)
-        state.read()
-        kept = Kept(environ.get("SUITE_KEPT", ""), program)
-        run = Suite(top, asked, Copies(place, [*asked.models, *asked.tests]), rows, checker, state, kept)
+        state, kept = folder.state(program), kept_in(environ.get("SUITE_KEPT", ""), program)
+        run = Suite(top, asked, Copies(place, [*asked.models, *asked.tests]), rows, checker, folder, state, kept)
         run.run(jobs, seconds)
     status = status_of(baseline.new(run.cells).values())
     writers = [(folder.cells, partial(folder.write_cells, run.cells))]
@@ -167,7 +165,7 @@ def pairs(asked: Words, environ: Mapping[str, str], top: str, seconds: float, jo
         except OSError as error:
             tell(f"suite: {shown(path)} cannot be written: {error.strerror}")
             status = NO_TABLE
-    state.clear()
+    folder.clear_state()
     kept.shorten()
     last = [f"certificates: {shown(folder.path)}", last_line(run.cells.values(), run.seconds) + checker.said]
     put([*run.table(width_of_terminal()), *run.below, *baseline.lines(run.cells), *last])

@@ -11,7 +11,7 @@ from typing import Iterator, Sequence
 from tools.suite.allowing import Answer, Judges, Machines, Rows, line_of_unnamed
 from tools.suite.calling import PYTHON, Calls, side_by_side
 from tools.suite.files import Copies, File, in_order
-from tools.suite.keeping import Kept, State, new_file, write_anew
+from tools.suite.keeping import Folder, Kept, new_file, write_anew
 from tools.suite.pairs import BUG, FAULT, FORBIDDEN, MACHINE, NOT_TAKEN, OBSERVABLE, OK, PERMITTED, SWEPT, TIME, UNNAMED
 from tools.suite.pairs import UNOBSERVABLE, UNSTATED, UNWRITTEN, Checker, Found, cell_of, cell_of_rows, takes
 from tools.suite.telling import table_of_models, tell
@@ -19,8 +19,6 @@ from tools.suite.words import Words
 from tools.texts.memory_models import memory_model_of
 from tools.texts.quoting import shown
 
-# how often it is kept what stands so far
-SECONDS_OF_STATE = 2.0
 # how the cell of a refused test begins; where a model is refused nothing is known of the test
 REFUSED = "test:"
 # how long lint may take, where a call may not take longer
@@ -31,20 +29,22 @@ LINTED = (0, 1, 3, 4)
 Pair = tuple[File, File]
 
 
-def checked(checker: Checker, kept: Kept, copies: Copies, model: File, test: File, place: str) -> Found:
+def checked(checker: Checker, stores: Sequence[Kept], copies: Copies, model: File, test: File, place: str) -> Found:
     """Checks a pair, or takes what is kept of it, and has its certificate at a place."""
-    known = kept.found(model, test)
     try:
-        if known is not None:
-            write_anew(place, known[1])
-            return known[0]
+        for store in stores:
+            known = store.found(model, test)
+            if known is not None:
+                write_anew(place, known[1])
+                return known[0]
         with new_file(place) as out:
             try:
                 found = checker.found(copies, model, test, out)
             except OSError:
                 found = Found(fault=FAULT)
             if found.verdict:
-                kept.keep(model, test, found, out)
+                for store in stores:
+                    store.keep(model, test, out)
                 os.replace(out.name, place)
             else:
                 with suppress(FileNotFoundError):
@@ -77,7 +77,9 @@ class Suite:
     copies: Copies
     rows: Rows
     checker: Checker
-    state: State
+    folder: Folder
+    # what an interrupted suite has got, and what is kept over suites
+    state: Kept
     kept: Kept
 
     def __post_init__(self) -> None:
@@ -108,33 +110,18 @@ class Suite:
     # what is found
 
     def check_pairs(self, jobs: int) -> None:
-        """Finds each pair that is not known yet."""
-        for pair in self.pairs:
-            known = self.state.found(*pair)
-            if known is not None:
-                self.found[pair] = known
-        if self.found:
-            tell(f"suite: {len(self.found)} pairs stand from a suite that was interrupted")
-        pairs = [pair for pair in self.pairs if pair not in self.found]
-        written = time.monotonic()
-
-        def step(place: int, found: Found) -> None:
-            nonlocal written
-            self.found[pairs[place]] = found
-            self.state.note(*pairs[place], found)
-            # an end by force says nothing before
-            if time.monotonic() - written >= SECONDS_OF_STATE:
-                self.state.write()
-                written = time.monotonic()
-
-        tasks = [partial(checked, self.checker, self.kept, self.copies, *pair, self.state.folder.place(*pair)) for pair in pairs]
+        """Finds each pair."""
+        stores = (self.state, self.kept)
+        tasks = [partial(checked, self.checker, stores, self.copies, *pair, self.folder.place(*pair)) for pair in self.pairs]
         try:
-            side_by_side(self.checker.calls, jobs, tasks, step, is_long=True)
+            self.found = dict(zip(self.pairs, side_by_side(self.checker.calls, jobs, tasks, is_long=True)))
         except BaseException:
-            if self.state.write():
-                tell(f"suite: {len(self.state.pairs)} pairs are kept, and the next suite goes on from there")
+            count = sum(1 for _ in self.state.entries())
+            if count:
+                tell(f"suite: {count} pairs are kept, and the next suite goes on from there")
             raise
-        self.kept.tell_taken()
+        for store in stores:
+            store.tell_taken()
 
     def ask_machines(self, jobs: int, seconds: float) -> None:
         """Asks the machines of patterns, each within the limit of a call, and of tests of one's own, all within it."""
