@@ -6,15 +6,14 @@
 Of a test it writes `yes` or `no`: whether the outcome comes up. Of a pattern it writes what its open reads get, a line
 `row ..` for each way, as a sweep does, and `end`. The status is 3 where the machine does not run such tests.
 
-The second form says it of one test after another: standard input has their paths, each with a NUL behind it, and after
-what is said of a test a NUL stands too; `not run` in place of status 3. Each may take so many seconds of a processor.
+The second form says it of one test after another: each line of standard input has a path, and each line that it writes a
+list of these lines, or null in place of status 3, both as JSON. Each test may take so many seconds of a processor.
 """
-import os
+import json
 import resource
 import sys
 from importlib import import_module
 from types import ModuleType
-from typing import Iterator
 
 from tools.agree.litmus import NotRun, Reads, Test, read_file
 from tools.second.patterns import ENDING as PATTERN
@@ -52,18 +51,9 @@ def lines_of(machine: ModuleType, path: str) -> list[str] | None:
 def say_all(machine: ModuleType, seconds: int) -> None:
     """Says it of each test that standard input names."""
     standing = resource.getrlimit(resource.RLIMIT_CPU)
-    for path in paths_asked():
+    for question in sys.stdin:
         limit_time(seconds, standing)
-        lines = lines_of(machine, path)
-        print(*(["not run"] if lines is None else lines), sep="\n", end="\0", flush=True)
-
-
-def paths_asked() -> Iterator[str]:
-    """The paths that standard input names, as they come."""
-    text = b""
-    while part := os.read(sys.stdin.fileno(), 65_536):
-        *whole, text = (text + part).split(b"\0")
-        yield from map(os.fsdecode, whole)
+        print(json.dumps(lines_of(machine, json.loads(question))), flush=True)
 
 
 def limit_time(seconds: int, standing: tuple[int, int]) -> None:

@@ -1,8 +1,8 @@
 """What memory models allow: the rows of a table, and the machines of tools/agree, of which a process runs one test after another."""
+import json
 import math
 import os
 import re
-import select
 import signal
 import subprocess
 import tempfile
@@ -22,11 +22,7 @@ from tools.texts.quoting import line_of, quoted, shown
 # a file of tools/agree/machines that is a machine
 MACHINE = re.compile(r"^def outcomes\(", re.MULTILINE)
 COLUMNS = ("memory model", "test", "allowed")
-# what ends a path, and an answer
-END = b"\0"
-NOT_RUN = "not run"
 VERDICTS = {"yes": True, "no": False}
-LARGEST_PART = 65_536
 
 
 class Rows:
@@ -111,7 +107,7 @@ class Answer(NamedTuple):
 
 
 class Machine:
-    """A process of the machine of one memory model, which has a limit of time of its own."""
+    """A process of the machine of one memory model, which has a limit of time of its own. It is asked a line at a time."""
 
     def __init__(self, name: str, command: list[str], calls: Calls) -> None:
         self.name = name
@@ -120,37 +116,30 @@ class Machine:
         under_limits = limited(command, memory_limit(""), None)
         self.process = calls.started(under_limits, subprocess.PIPE, self.said, signal.SIGKILL, subprocess.PIPE)
 
-    def answer(self, path: str, deadline: float) -> list[str]:
-        """The lines that it answers of a test. Where it gives none up to a moment of the clock that is a TimeoutError, and where it
-        ends a BrokenPipeError or an EOFError."""
+    def answer(self, path: str, seconds: float) -> list[str] | None:
+        """The lines that it answers of a test, or None where it does not run it. Where it ends in these seconds, or is ended after
+        them, that is a ValueError."""
         questions, answers = self.process.stdin, self.process.stdout
         assert questions is not None and answers is not None
-        questions.write(os.fsencode(path) + END)
-        questions.flush()
-        poll = select.poll()
-        poll.register(answers, select.POLLIN)
-        text = b""
-        while not text.endswith(END):
-            left = deadline - time.monotonic()
-            if left <= 0 or not poll.poll(left * 1000):
-                raise TimeoutError
-            part = os.read(answers.fileno(), LARGEST_PART)
-            if not part:
-                raise EOFError
-            text += part
-        return text.removesuffix(END).decode("ascii", "backslashreplace").splitlines()
+        with self.calls.limit(self.process, seconds):
+            with suppress(BrokenPipeError):
+                questions.write(json.dumps(path).encode("ascii") + b"\n")
+                questions.flush()
+            found: list[str] | None = json.loads(answers.readline())
+        return found
 
-    def end(self, seconds: float = 0) -> str:
-        """Ends the process, which has these seconds to end by itself, and answers what was wrong with it."""
-        status = self.calls.finished(self.process, seconds)
-        for pipe in (self.process.stdin, self.process.stdout):
-            if pipe is not None:
-                with suppress(BrokenPipeError):
-                    pipe.close()
+    def end(self) -> Answer:
+        """Ends the process, which has some time to end by itself, and answers what was wrong with it."""
+        assert self.process.stdin is not None and self.process.stdout is not None
+        with suppress(BrokenPipeError):
+            self.process.stdin.close()
+        status = self.calls.finished(self.process, GRACE)
+        self.process.stdout.close()
         with self.said as said:
             said.seek(0)
             lines = said.read().decode("ascii", "backslashreplace").splitlines()
-        return ": ".join([f"status {status}", *lines[-1:]]) if status else "its answer is none"
+        said_last = ": ".join([f"status {status}", *lines[-1:]])
+        return Answer(is_late=True) if status is None else Answer(fault=said_last if status else "its answer is none")
 
 
 @dataclass
@@ -166,9 +155,8 @@ class Judges:
 
     def answer(self, name: str, test: File, deadline: float | None) -> Answer:
         """What the machine of this name says of a test up to a moment of the clock, or within the limit of one test."""
-        if deadline is None:
-            deadline = time.monotonic() + self.seconds
-        if deadline <= time.monotonic():
+        seconds = self.seconds if deadline is None else deadline - time.monotonic()
+        if seconds <= 0:
             return Answer(is_late=True)
         machine = self.by_thread.pop(threading.get_ident(), None)
         if machine is not None and machine.name != name:
@@ -178,17 +166,10 @@ class Judges:
             command = self.machines.command(name, "--within", str(math.ceil(self.seconds) + 1))
             machine = Machine(name, command, self.calls)
         try:
-            lines = machine.answer(self.copies.path(test), deadline)
-        except TimeoutError:
-            machine.end()
-            return Answer(is_late=True)
-        except (BrokenPipeError, EOFError):
-            return Answer(fault=machine.end(GRACE))
+            lines = machine.answer(self.copies.path(test), seconds)
+        except ValueError:
+            return machine.end()
         self.by_thread[threading.get_ident()] = machine
-        if lines == [NOT_RUN]:
+        if lines is None:
             return Answer()
-        if test.is_pattern and lines[-1:] == ["end"]:
-            return Answer(rows=frozenset(lines[:-1]))
-        if not test.is_pattern and len(lines) == 1 and lines[0] in VERDICTS:
-            return Answer(VERDICTS[lines[0]])
-        return Answer(fault="its answer is none")
+        return Answer(rows=frozenset(lines[:-1])) if test.is_pattern else Answer(VERDICTS[lines[0]])

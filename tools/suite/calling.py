@@ -12,8 +12,8 @@ import subprocess
 import sys
 import tempfile
 import threading
-from contextlib import suppress
-from typing import IO, Callable, Sequence, TypeVar
+from contextlib import contextmanager, nullcontext, suppress
+from typing import IO, Callable, Iterator, Sequence, TypeVar
 
 from tools.ending import SIGNALS
 from tools.suite.telling import Progress, Refusal
@@ -102,14 +102,9 @@ class Calls:
 
     def finished(self, process: Process, seconds: float | None) -> int | None:
         """Waits until a call ends, or ends it. What it left behind in its group ends, too."""
-        timer = None if seconds is None else threading.Timer(seconds, self.end_late, [process])
-        if timer is not None:
-            timer.daemon = True
-            start([timer])
-        # it is not reaped yet, so that the number of its group stays its own
-        os.waitid(os.P_PID, process.pid, os.WEXITED | os.WNOWAIT)
-        if timer is not None:
-            timer.cancel()
+        with nullcontext() if seconds is None else self.limit(process, seconds):
+            # it is not reaped yet, so that the number of its group stays its own
+            os.waitid(os.P_PID, process.pid, os.WEXITED | os.WNOWAIT)
         with self.lock:
             del self.running[process]
             end_group(process, signal.SIGKILL)
@@ -119,6 +114,17 @@ class Calls:
             if self.is_stopped:
                 raise Stopped
         return None if is_late else status if status >= 0 else 128 - status
+
+    @contextmanager
+    def limit(self, process: Process, seconds: float) -> Iterator[None]:
+        """Ends a call, as one that is late, where this takes longer than so many seconds."""
+        timer = threading.Timer(seconds, self.end_late, [process])
+        timer.daemon = True
+        start([timer])
+        try:
+            yield
+        finally:
+            timer.cancel()
 
     def end_late(self, process: Process) -> None:
         with self.lock:
