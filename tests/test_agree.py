@@ -23,7 +23,7 @@ from tools.agree import comments, comparing_programs, table, working
 from tools.agree.machines import tso
 from tools.agree.programs import Program
 from tools.agree.small_programs import Family, Shape, shapes_of
-from tools.agree.verdicts import lines_of
+from tools.agree.verdicts import rows_of_file
 
 AGREE = tool("agree", apart())
 BUFFER, DRAIN = "examples/models/tso-buffer.uspec", "examples/models/tso-drain.uspec"
@@ -267,7 +267,7 @@ $'c\\u009b.uspec' MP.pattern: shown though tso does not allow it: 1 0
         for name, text in LAYOUTS:
             path = write(f"{self.work}/layout.test", text)
             self.agrees(f"a test with {name} is compared", 0, "1 agree, 0 differ\n", "", BUFFER, path)
-            self.same(f"a test with {name} is run", lines_of(tso, path), ["yes"])
+            self.same(f"a test with {name} is run", rows_of_file(tso, path), ["row"])
 
     def test_caches(self) -> None:
         for name, said, words in CACHES:

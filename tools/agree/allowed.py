@@ -10,7 +10,7 @@ import signal
 from importlib import import_module
 
 from tools import TOP
-from tools.agree.verdicts import lines_of
+from tools.agree.verdicts import rows_of_file
 from tools.texts.contents import contents
 from tools.texts.memory_models import memory_model_of
 
@@ -23,6 +23,6 @@ def main(model_path: str, test_path: str) -> int:
     signal.signal(signal.SIGALRM, signal.SIG_DFL)
     signal.alarm(SECONDS)
     if os.path.exists(os.path.join(TOP, "tools", "agree", "machines", f"{name}.py")):
-        if lines_of(import_module(f"tools.agree.machines.{name}"), test_path) == ["yes"]:
+        if rows_of_file(import_module(f"tools.agree.machines.{name}"), test_path):
             print(name)
     return 0

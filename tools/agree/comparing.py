@@ -5,23 +5,24 @@ import subprocess
 from functools import lru_cache
 from importlib import import_module
 from types import ModuleType
-from typing import Callable, Collection, NamedTuple
+from typing import Callable, NamedTuple
 
 from tools import TOP
-from tools.agree.litmus import Reads, Test, Value, test_of_text, value_of
-from tools.agree.verdicts import runs, words_of
+from tools.agree.litmus import NotRun, Test, test_of_text
+from tools.agree.verdicts import rows_in, runs
 from tools.agree.working import Unusable
 from tools.lint.asked import Asked
 from tools.second.cases import Case
 from tools.second.listings import read_file_items
 from tools.second.models import Model
 from tools.second.patterns import ENDING as PATTERN
-from tools.second.patterns import read_pattern, sweep
+from tools.second.patterns import read_pattern, sweep, sweep_text
 from tools.second.scopes import read_model
 from tools.second.searching import is_observable
 from tools.second.tokens import Fault
 from tools.standing import standing
-from tools.suite.allowing import MACHINE, Machines
+from tools.suite.allowing import Machines
+from tools.suite.pairs import rows_found, rows_told, words_beside
 from tools.suite.programs import command_of, held
 from tools.suite.telling import Refusal
 from tools.telling.files import sentence
@@ -33,7 +34,7 @@ READ = re.compile(rb"(\(\s*Read\b[^()]*(?:\([^()]*\)\s*){2})\(\s*(?:Data|Maps)[^
 OPEN = rb"\1(Data Any)"
 LOCKED = "Locked"
 # a module of the folder of machines, or of one in it
-NAME = re.compile(r"[a-z0-9_-]+(?:\.[a-z0-9_-]+)*")
+NAME = re.compile(r"[a-z0-9][a-z0-9_-]*(?:\.[a-z0-9][a-z0-9_-]*)*")
 
 
 class Refused(Exception):
@@ -65,13 +66,12 @@ class Other(NamedTuple):
         """What is said of rows that the model alone shows, and of those that the other alone has."""
         if self.is_model:
             return f"shown by {shown(model)} alone", f"shown by {shown(self.name)} alone"
-        return f"shown though {self.name} does not allow it", f"allowed by {self.name} and not shown"
+        return words_beside(self.name)
 
-    def rows_of(self, pattern: str, by_program: bool) -> set[Reads]:
+    def rows_of(self, pattern: bytes, by_program: bool) -> frozenset[str]:
         if self.is_model:
-            return rows_shown(self.name, pattern.encode("ascii"), by_program)
-        test = test_of_text(PATTERN, pattern.encode("ascii"))
-        return test.rows_shown_by(machine_of(self.name).outcomes(test))
+            return rows_shown(self.name, pattern, by_program)
+        return rows_in(machine_of(self.name), test_of_text(PATTERN, pattern))
 
 
 def judged(kind: str, path: str, text: bytes, read: Callable[[bytes], Read]) -> Read:
@@ -92,19 +92,10 @@ def named_memory_model(path: str) -> str:
 @lru_cache(None)
 def machine_of(name: str) -> ModuleType:
     machines = Machines(TOP)
-    if not is_machine(machines.folder, name):
+    if NAME.fullmatch(name) is None or not os.path.isfile(os.path.join(machines.folder, *name.split(".")) + ".py"):
         known = ", ".join(sorted(machines.names))
         raise Unusable(f"there is no machine of the memory model {shown(name)}; there are {known}")
     return import_module(f"tools.agree.machines.{name}")
-
-
-def is_machine(folder: str, name: str) -> bool:
-    """Whether a machine in the folder of machines has this name."""
-    path = os.path.join(folder, *name.split(".")) + ".py"
-    if NAME.fullmatch(name) is None or not os.path.isfile(path):
-        return False
-    with open(path, encoding="utf-8") as file:
-        return MACHINE.search(file.read()) is not None
 
 
 @lru_cache(None)
@@ -126,12 +117,12 @@ def test_of(path: str) -> Test:
 
 
 @lru_cache(None)
-def rows_allowed(name: str, path: str, is_opened: bool) -> frozenset[Reads]:
+def rows_allowed(name: str, path: str, is_opened: bool) -> frozenset[str]:
     """What the open reads get in the outcomes that come up on a machine. Each machine runs each test once."""
     test = test_of(path).opened if is_opened else test_of(path)
     try:
-        return frozenset(test.rows_shown_by(machine_of(name).outcomes(test)))
-    except ValueError as error:
+        return rows_in(machine_of(name), test)
+    except NotRun as error:
         raise Unusable(f"{shown(path)}: the machine {name} does not run it: {error}") from error
 
 
@@ -152,36 +143,21 @@ def pattern_of(path: str, is_opened: bool) -> bytes:
     return text
 
 
-def rows_shown(model: str, pattern: bytes, by_program: bool) -> set[Reads]:
+def rows_shown(model: str, pattern: bytes, by_program: bool) -> frozenset[str]:
     """The rows of a pattern that a sweep calls observable."""
-    if by_program:
-        return rows_of_program(model, pattern)
-    swept = sweep(model_of(model), read_pattern(pattern))
-    return {tuple(map(value_of, row)) for row, is_seen in swept if is_seen}
-
-
-def rows_of_program(model: str, pattern: bytes) -> set[Reads]:
-    """The rows that the built program calls observable."""
+    if not by_program:
+        return rows_found(sweep_text(sweep(model_of(model), read_pattern(pattern))).encode("ascii")).rows
     # in memory alone, so that nothing is left of it, however this process ends
     with open(os.memfd_create("pattern"), "wb") as file:
         file.write(pattern)
         file.flush()
         command = [*sweeper().words, "sweep", model, f"/proc/{os.getpid()}/fd/{file.fileno()}"]
-        done = subprocess.run(command, capture_output=True, text=True, errors="replace", check=False)
-    lines = done.stdout.splitlines()
-    if done.returncode != 0 or lines[-1:] != ["end"]:
-        said = f"status {done.returncode} {done.stdout[:100]!r}"
+        done = subprocess.run(command, capture_output=True, check=False)
+    found = rows_found(done.stdout)
+    if done.returncode != 0 or found.fault:
+        said = f"status {done.returncode} {done.stdout.decode('utf-8', 'replace')[:100]!r}"
         raise Unusable(f"{shown(model)}: the program swept no pattern: {said}")
-    rows = [line.split()[1:] for line in lines if line.startswith("row ")]
-    return {tuple(map(value_of_word, row[:-1])) for row in rows if row[-1] == "observable"}
-
-
-def value_of_word(word: str) -> Value:
-    """A value as a sweep writes it."""
-    if word.startswith("Maps:"):
-        tag, accessed, dirty = map(int, word.split(":")[1:])
-        return tag, accessed, dirty
-    return int(word)
+    return found.rows
 
 
 class Sweeper(NamedTuple):
@@ -217,20 +193,11 @@ def difference(pair: Pair) -> str:
     if pair.is_swept:
         seen = rows_shown(pair.model, pattern_of(pair.test, pair.is_opened), pair.by_program)
         wanted = rows_allowed(pair.machine, pair.test, pair.is_opened)
-        return difference_of_rows(Other(pair.machine).words(pair.model), seen, wanted)
+        return "; ".join(rows_told(words_beside(pair.machine), seen, wanted))
     is_seen = is_observable(model_of(pair.model), case_of(pair.test))
     is_wanted = is_allowed(pair.machine, pair.test)
     said = f"shown {'yes' if is_seen else 'no'}, {pair.machine} allows {'yes' if is_wanted else 'no'}"
     return "" if is_seen == is_wanted else said
-
-
-def difference_of_rows(words: tuple[str, str], seen: Collection[Reads], wanted: Collection[Reads]) -> str:
-    """The rows that only one of two has, each after its words; nothing where there are none."""
-    parts = []
-    for said, rows in zip(words, (set(seen) - set(wanted), set(wanted) - set(seen))):
-        texts = [" ".join(words_of(row)) or "the only row" for row in sorted(rows, key=repr)]
-        parts += [f"{said}: {', '.join(texts)}"] if texts else []
-    return "; ".join(parts)
 
 
 def types_asked(model: str) -> set[str]:

@@ -16,13 +16,14 @@ from random import Random
 from typing import Iterable, Iterator, NamedTuple
 
 from tools import TOP
-from tools.agree.comparing import Other, asks_for_locked, difference_of_rows, machine_of, rows_shown, sweeper, types_asked
+from tools.agree.comparing import Other, asks_for_locked, machine_of, rows_shown, sweeper, types_asked
 from tools.agree.programs import Program, named, random_program, smallest
 from tools.agree.small_programs import Family, Shape
 from tools.agree.working import Counts, Unusable, Workers, tell
 from tools.second.patterns import MOST_ROWS
 from tools.suite.files import digest_of
 from tools.suite.keeping import keep_whole, whole_text
+from tools.suite.pairs import rows_told
 from tools.suite.telling import Progress as Meter
 from tools.texts.quoting import shown
 
@@ -106,9 +107,9 @@ class Comparison(NamedTuple):
             return ""
         if program.rows > MOST_ROWS:
             raise Unusable(f"its reads may get values in {program.rows} ways, and a sweep takes {MOST_ROWS}")
-        wanted = self.other.rows_of(program.pattern, self.by_program)
-        seen = rows_shown(self.model, program.pattern.encode("ascii"), self.by_program)
-        return difference_of_rows(self.other.words(self.model), seen, wanted)
+        pattern = program.pattern.encode("ascii")
+        seen, wanted = rows_shown(self.model, pattern, self.by_program), self.other.rows_of(pattern, self.by_program)
+        return "; ".join(rows_told(self.other.words(self.model), seen, wanted))
 
     def answers(self, programs: Iterable[Program], counts: Counts) -> Iterator[tuple[Program, bool]]:
         """Of each program in its order whether the two differ, once it is counted."""

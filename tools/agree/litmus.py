@@ -4,8 +4,7 @@ reads may be open, are tests too. What a file says is read by the second impleme
 from typing import Callable, Hashable, Iterable, Iterator, NamedTuple, TypeVar
 
 from tools.second.cases import Address as Place
-from tools.second.cases import Entry, OpItem, Page
-from tools.second.cases import Value as Datum
+from tools.second.cases import Entry, OpItem, Page, Value
 from tools.second.listings import ENDING as LISTING
 from tools.second.listings import read_file_items
 from tools.second.tokens import tokens
@@ -16,8 +15,6 @@ FULL = frozenset({"Full", "MFENCE"})
 
 # a tag and an index, or the virtual tag of a page-table entry
 Address = tuple[int, ...]
-# a number, or what an entry holds: a physical tag, an accessed and a dirty mark
-Value = int | tuple[int, int, int]
 # the values of reads in test order
 Reads = tuple[Value, ...]
 # the value of each address
@@ -85,7 +82,7 @@ class Test(NamedTuple):
         """The memory at the start: each address in use with its value. One that only a final value names keeps its own.
         Without a line a page has 0, and an entry its own tag without marks."""
         addresses = sorted({*(op.address for op in self.ops if op.kind != "Fence"), *self.final})
-        return tuple((it, self.initial.get(it, 0 if len(it) == 2 else (it[0], 0, 0))) for it in addresses)
+        return tuple((it, self.initial.get(it, 0 if len(it) == 2 else Entry(it[0], 0, 0))) for it in addresses)
 
     @property
     def opened(self) -> "Test":
@@ -118,9 +115,9 @@ def test_of_text(path: str, text: bytes) -> Test:
     for place, op in sorted(enumerate(case.ops), key=lambda placed: (placed[1].g, placed[1].n)):
         here = Op(place, threads.index((op.core, op.thread)), op.access, op.types, instruction=op.g, is_open=open_places[place])
         if op.pa is not None and op.va is not None:
-            here = here._replace(address=address_of(op.pa), virtual=address_of(op.va), value=value_of(op.value))
+            here = here._replace(address=address_of(op.pa), virtual=address_of(op.va), value=op.value or 0)
         lines[op.core, op.thread].append(here)
-    initial, final = ({address_of(it): value_of(value) for it, value in values.items()} for values in (case.initial, case.final))
+    initial, final = ({address_of(it): value for it, value in values.items()} for values in (case.initial, case.final))
     has_entries = not path.endswith(LISTING) and tokens(text)[0].piece == "Litmus2"
     return Test(tuple(map(tuple, lines.values())), frozenset(case.dependencies), initial, final, has_entries)
 
@@ -128,11 +125,6 @@ def test_of_text(path: str, text: bytes) -> Test:
 def address_of(place: Place) -> Address:
     """An address of the second implementation as the machines have it."""
     return (place.tag, place.index) if isinstance(place, Page) else (place.tag,)
-
-
-def value_of(value: Datum | None) -> Value:
-    """A value of the second implementation as the machines have it."""
-    return (value.tag, value.accessed, value.dirty) if isinstance(value, Entry) else value or 0
 
 
 def replaced(pairs: tuple[tuple[Key, Item], ...], key: Key, value: Item) -> tuple[tuple[Key, Item], ...]:

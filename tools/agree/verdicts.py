@@ -7,7 +7,8 @@ Of a test it writes `yes` or `no`: whether the outcome comes up. Of a pattern it
 `row ..` for each way, as a sweep does, and `end`. The status is 3 where the machine does not run such tests.
 
 The second form says it of one test after another: each line of standard input has a path, and each line that it writes a
-list of these lines, or null in place of status 3, both as JSON. Each test may take so many seconds of a processor.
+list of rows, one without values where an outcome comes up, or null in place of status 3, all as JSON. Each test may take so
+many seconds of a processor.
 """
 import json
 import resource
@@ -15,8 +16,9 @@ import sys
 from importlib import import_module
 from types import ModuleType
 
-from tools.agree.litmus import NotRun, Reads, Test, read_file
+from tools.agree.litmus import NotRun, Test, read_file
 from tools.second.patterns import ENDING as PATTERN
+from tools.second.patterns import value_text
 
 NOT_RUN = 3
 
@@ -29,23 +31,19 @@ def runs(machine: ModuleType, test: Test) -> bool:
     return not test.has_locked or getattr(machine, "TAKES_LOCKED", False)
 
 
-def words_of(row: Reads) -> list[str]:
-    """A row as a sweep writes its values."""
-    return ["Maps:" + ":".join(map(str, value)) if isinstance(value, tuple) else str(value) for value in row]
+def rows_in(machine: ModuleType, test: Test) -> frozenset[str]:
+    """What the open reads get in the outcomes that come up on a machine, each row as a sweep writes it."""
+    return frozenset(" ".join(["row", *map(value_text, row)]) for row in test.rows_shown_by(machine.outcomes(test)))
 
 
-def lines_of(machine: ModuleType, path: str) -> list[str] | None:
-    """What a machine says of a test; None where it does not run such tests."""
+def rows_of_file(machine: ModuleType, path: str) -> list[str] | None:
+    """The rows of a test that come up on a machine; None where it does not run such tests. Of a test without open reads it is the row
+    of no values, if its outcome comes up."""
     test = read_file(path)
-    if not runs(machine, test):
-        return None
     try:
-        rows = test.rows_shown_by(machine.outcomes(test))
+        return sorted(rows_in(machine, test)) if runs(machine, test) else None
     except NotRun:
         return None
-    if path.endswith(PATTERN):
-        return [*sorted(" ".join(["row", *words_of(row)]) for row in rows), "end"]
-    return ["yes" if rows else "no"]
 
 
 def say_all(machine: ModuleType, seconds: int) -> None:
@@ -53,7 +51,7 @@ def say_all(machine: ModuleType, seconds: int) -> None:
     standing = resource.getrlimit(resource.RLIMIT_CPU)
     for question in sys.stdin:
         limit_time(seconds, standing)
-        print(json.dumps(lines_of(machine, json.loads(question))), flush=True)
+        print(json.dumps(rows_of_file(machine, json.loads(question))), flush=True)
 
 
 def limit_time(seconds: int, standing: tuple[int, int]) -> None:
@@ -71,8 +69,8 @@ def main(name: str, *words: str) -> int:
         say_all(machine, int(words[1]))
         return 0
     (path,) = words
-    lines = lines_of(machine, path)
-    if lines is None:
+    rows = rows_of_file(machine, path)
+    if rows is None:
         return NOT_RUN
-    print(*lines, sep="\n")
+    print(*([*rows, "end"] if path.endswith(PATTERN) else ["yes" if rows else "no"]), sep="\n")
     return 0

@@ -2,7 +2,6 @@
 import json
 import math
 import os
-import re
 import signal
 import subprocess
 import tempfile
@@ -19,10 +18,7 @@ from tools.suite.telling import Refusal
 from tools.texts.memory_models import FORM, memory_model_of
 from tools.texts.quoting import line_of, quoted, shown
 
-# a file of tools/agree/machines that is a machine
-MACHINE = re.compile(r"^def outcomes\(", re.MULTILINE)
 COLUMNS = ("memory model", "test", "allowed")
-VERDICTS = {"yes": True, "no": False}
 
 
 class Rows:
@@ -44,7 +40,7 @@ class Rows:
             raise Refusal(f"the table {shown(path)} has no column {missing[0]}")
         for cells in lines:
             row = dict(zip(head, cells))
-            lacking = "yes or no" if row.get("allowed") not in VERDICTS else next((it for it in COLUMNS if it not in row), "")
+            lacking = "yes or no" if row.get("allowed") not in ("yes", "no") else next((it for it in COLUMNS if it not in row), "")
             if lacking:
                 raise Refusal(f"the table {shown(path)} has a row without {lacking}: {quoted(chr(9).join(cells))}")
             name = row[COLUMNS[0]].lower(), row[COLUMNS[1]]
@@ -74,11 +70,7 @@ class Machines:
     def __init__(self, top: str) -> None:
         self.tools = os.path.join(top, "tools")
         self.folder = os.path.join(self.tools, "agree", "machines")
-        self.names: set[str] = set()
-        for file in glob("*.py", root_dir=self.folder):
-            with open(os.path.join(self.folder, file), encoding="utf-8") as source:
-                if MACHINE.search(source.read()):
-                    self.names.add(file.removesuffix(".py"))
+        self.names = {file.removesuffix(".py") for file in glob("[!_]*.py", root_dir=self.folder)}
 
     def command(self, name: str, *words: str) -> list[str]:
         """What says what the machine of this name allows of a test, which the word names."""
@@ -97,10 +89,9 @@ def line_of_unnamed(model: File, known: set[str]) -> str:
 
 
 class Answer(NamedTuple):
-    """What a machine says of a test: whether it comes up, or which rows of a pattern do. Nothing where it does not run
-    such tests; or it is late, or fails, and how."""
+    """What a machine says of a test: which rows come up, of a test without open reads the one without values, or none. Nothing where
+    it does not run such tests; or it is late, or fails, and how."""
 
-    is_allowed: bool | None = None
     rows: frozenset[str] | None = None
     is_late: bool = False
     fault: str = ""
@@ -117,8 +108,8 @@ class Machine:
         self.process = calls.started(under_limits, subprocess.PIPE, self.said, signal.SIGKILL, subprocess.PIPE)
 
     def answer(self, path: str, seconds: float) -> list[str] | None:
-        """The lines that it answers of a test, or None where it does not run it. Where it ends in these seconds, or is ended after
-        them, that is a ValueError."""
+        """The rows of a test, or None where it does not run it. Where it ends in these seconds, or is ended after them, that is a
+        ValueError."""
         questions, answers = self.process.stdin, self.process.stdout
         assert questions is not None and answers is not None
         with self.calls.limit(self.process, seconds):
@@ -166,10 +157,8 @@ class Judges:
             command = self.machines.command(name, "--within", str(math.ceil(self.seconds) + 1))
             machine = Machine(name, command, self.calls)
         try:
-            lines = machine.answer(self.copies.path(test), seconds)
+            rows = machine.answer(self.copies.path(test), seconds)
         except ValueError:
             return machine.end()
         self.by_thread[threading.get_ident()] = machine
-        if lines is None:
-            return Answer()
-        return Answer(rows=frozenset(lines[:-1])) if test.is_pattern else Answer(VERDICTS[lines[0]])
+        return Answer(None if rows is None else frozenset(rows))

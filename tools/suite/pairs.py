@@ -4,7 +4,7 @@ import re
 import tempfile
 from dataclasses import dataclass
 from functools import lru_cache
-from typing import IO, NamedTuple
+from typing import IO, Iterator, NamedTuple
 
 from tools.suite.calling import Calls
 from tools.suite.files import Copies, File
@@ -171,6 +171,18 @@ def cell_of(found: Found, is_allowed: bool | None) -> str:
 def cell_of_rows(found: Found, allowed: frozenset[str]) -> str:
     """What the table shows of a sweep, where a machine says which rows come up."""
     return BUG if found.rows - allowed else STRICTER if allowed - found.rows else OK
+
+
+def words_beside(machine: str) -> tuple[str, str]:
+    """What is said of rows that a model alone shows, and of those that its machine alone has."""
+    return f"shown though {machine} does not allow it", f"allowed by {machine} and not shown"
+
+
+def rows_told(words: tuple[str, str], seen: frozenset[str], wanted: frozenset[str]) -> Iterator[str]:
+    """The rows that only one of two has, those of each behind its words."""
+    for said, rows in zip(words, (seen - wanted, wanted - seen)):
+        if rows:
+            yield f"{said}: {', '.join(row.removeprefix('row').strip() or 'the only row' for row in sorted(rows))}"
 
 
 def kind_of(cell: str) -> str:

@@ -13,7 +13,7 @@ from tools.suite.calling import PYTHON, Calls, side_by_side
 from tools.suite.files import Copies, File, in_order
 from tools.suite.keeping import Folder, Kept, new_file, write_anew
 from tools.suite.pairs import BUG, FAULT, FORBIDDEN, MACHINE, NOT_TAKEN, OBSERVABLE, OK, PERMITTED, SWEPT, TIME, UNNAMED
-from tools.suite.pairs import UNOBSERVABLE, UNSTATED, UNWRITTEN, Checker, Found, cell_of, cell_of_rows, takes
+from tools.suite.pairs import UNOBSERVABLE, UNSTATED, UNWRITTEN, Checker, Found, cell_of, cell_of_rows, rows_told, takes, words_beside
 from tools.suite.telling import table_of_models, tell
 from tools.suite.words import Words
 from tools.texts.memory_models import memory_model_of
@@ -216,15 +216,11 @@ class Suite:
         if answer.fault:
             verdict = "" if test.is_pattern else f"{model.name} says {found.verdict}, and "
             yield f"{shown(test.path)}: {verdict}the machine of {name} failed: {answer.fault}"
+        elif answer.rows is not None and test.is_pattern:
+            for said in rows_told(words_beside(name), found.rows, answer.rows):
+                yield f"{shown(test.path)}: {model.name}: {said}"
         elif answer.rows is not None:
-            too_many = (f"shown though {name} does not allow it", found.rows - answer.rows)
-            too_few = (f"allowed by {name} and not shown", answer.rows - found.rows)
-            for sentence, rows in (too_many, too_few):
-                if rows:
-                    words = (row.removeprefix("row").strip() or "the only row" for row in sorted(rows))
-                    yield f"{shown(test.path)}: {model.name}: {sentence}: {', '.join(words)}"
-        elif answer.is_allowed is not None:
-            stated, verdict = (PERMITTED, OBSERVABLE) if answer.is_allowed else (FORBIDDEN, UNOBSERVABLE)
+            stated, verdict = (PERMITTED, OBSERVABLE) if answer.rows else (FORBIDDEN, UNOBSERVABLE)
             if found.stated not in (UNSTATED, stated):
                 yield f"{shown(test.path)}: the test says {found.stated}, and the machine of {name} {stated}"
             elif found.stated == UNSTATED and found.verdict != verdict:

@@ -8,9 +8,10 @@ write that its core has seen, of whichever core, is seen by all cores.
 """
 from typing import Iterator
 
-from tools.agree.litmus import Op, Outcome, Test, Value, with_item
+from tools.agree.litmus import Op, Outcome, Test, with_item
 from tools.agree.machines import weak
 from tools.agree.machines.weak import State
+from tools.second.cases import Value
 
 
 def outcomes(test: Test) -> set[Outcome]:

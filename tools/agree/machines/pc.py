@@ -14,7 +14,8 @@ Pellauer, Martonosi, TriCheck (ASPLOS 2017).
 """
 from typing import Iterator, NamedTuple
 
-from tools.agree.litmus import Address, Memory, Op, Outcome, ReadValues, Test, Value, ends, values_of, with_item, with_read
+from tools.agree.litmus import Address, Memory, Op, Outcome, ReadValues, Test, ends, values_of, with_item, with_read
+from tools.second.cases import Value
 
 
 class Core(NamedTuple):

@@ -23,7 +23,8 @@ have none. There is no pipeline here, and no queue.
 """
 from typing import Iterator, NamedTuple
 
-from tools.agree.litmus import Address, Op, Outcome, Test, Value, ends, replaced
+from tools.agree.litmus import Address, Op, Outcome, Test, ends, replaced
+from tools.second.cases import Value
 
 
 class State(NamedTuple):

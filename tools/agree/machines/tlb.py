@@ -24,6 +24,7 @@ where it sets a mark. A run that translates otherwise, or goes to another page, 
 from typing import Iterator, NamedTuple
 
 from tools.agree.litmus import Memory, NotRun, Op, Outcome, ReadValues, Test, ends, replaced, values_of, with_item, with_read
+from tools.second.cases import Entry
 
 # the machine runs tests of format 2, and no others
 TAKES_ENTRIES = True
@@ -35,7 +36,7 @@ class Core(NamedTuple):
 
     translated: int = 0
     done: int = 0
-    tlb: tuple[tuple[int, tuple[int, int, int]], ...] = ()
+    tlb: tuple[tuple[int, Entry], ...] = ()
     buffer: Memory = ()
 
 
@@ -121,9 +122,10 @@ def translates(state: State, k: int, core: Core, line: tuple[Instruction, ...]) 
         yield from walks(state, k, following, instruction, instruction.walk)
     else:
         tag, index = instruction.access.virtual
-        frame, _, dirty = dict(core.tlb).get(tag, (None, 0, 0))
-        if instruction.access.address == (frame, index) and (dirty or instruction.access.kind == "Read"):
-            yield with_core(state, k, following)
+        entry = dict(core.tlb).get(tag)
+        if entry is not None and instruction.access.address == (entry.tag, index):
+            if entry.dirty or instruction.access.kind == "Read":
+                yield with_core(state, k, following)
 
 
 def walks(state: State, k: int, core: Core, instruction: Instruction, walk: Op) -> Iterator[State]:
@@ -131,13 +133,12 @@ def walks(state: State, k: int, core: Core, instruction: Instruction, walk: Op) 
     entry = dict(state.memory)[walk.address]
     if isinstance(entry, int):
         return
-    frame, _, dirty = entry
-    marked = (frame, 1, 1 if instruction.access.kind == "Write" else dirty)
+    marked = Entry(entry.tag, 1, 1 if instruction.access.kind == "Write" else entry.dirty)
     mark = instruction.mark
     is_as_stated = mark is None if marked == entry else mark is not None and mark.value == marked
-    if is_as_stated and instruction.access.address == (frame, instruction.access.virtual[1]):
+    if is_as_stated and instruction.access.address == (entry.tag, instruction.access.virtual[1]):
         tlb = replaced(core.tlb, walk.address[0], marked)
-        after = with_core(state, k, core._replace(tlb=tuple(sorted(tlb))))
+        after = with_core(state, k, core._replace(tlb=tuple(sorted(tlb, key=lambda one: one[0]))))
         memory = replaced(state.memory, walk.address, marked)
         yield after._replace(memory=memory, reads=with_read(state.reads, walk, entry))
 

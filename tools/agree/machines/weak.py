@@ -15,7 +15,8 @@ memory, where all cores see it at the same moment.
 """
 from typing import Iterator, NamedTuple
 
-from tools.agree.litmus import Memory, Op, Outcome, ReadValues, Test, Value, ends, replaced, values_of, with_read
+from tools.agree.litmus import Memory, Op, Outcome, ReadValues, Test, ends, replaced, values_of, with_read
+from tools.second.cases import Value
 
 
 class State(NamedTuple):

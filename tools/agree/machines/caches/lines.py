@@ -15,8 +15,9 @@ a fence may have been (oldest_read.py).
 """
 from typing import Callable, Iterator, NamedTuple
 
-from tools.agree.litmus import Address, Memory, Op, Outcome, ReadValues, Test, Value, ends, replaced, values_of, with_item
+from tools.agree.litmus import Address, Memory, Op, Outcome, ReadValues, Test, ends, replaced, values_of, with_item
 from tools.agree.litmus import with_read
+from tools.second.cases import Value
 
 
 class Line(NamedTuple):
