@@ -268,6 +268,7 @@ $'c\\u009b.uspec' MP.pattern: shown though tso does not allow it: 1 0
             path = write(f"{self.work}/layout.test", text)
             self.agrees(f"a test with {name} is compared", 0, "1 agree, 0 differ\n", "", BUFFER, path)
             self.same(f"a test with {name} is run", rows_of_file(tso, path), ["row"])
+            self.agrees(f"a test with {name} is compared with open reads", 0, f"{SWEPT}1 agree, 0 differ\n", "", "--open", BUFFER, path)
 
     def test_caches(self) -> None:
         for name, said, words in CACHES:

@@ -27,7 +27,7 @@ from tools.suite.programs import command_of, held
 from tools.suite.telling import Refusal
 from tools.telling.files import sentence
 from tools.texts.contents import Read, contents, read_within
-from tools.texts.memory_models import memory_model_of
+from tools.texts.memory_models import comments, memory_model_of
 from tools.texts.quoting import line_of, shown
 
 READ = re.compile(rb"(\(\s*Read\b[^()]*(?:\([^()]*\)\s*){2})\(\s*(?:Data|Maps)[^()]*\)")
@@ -137,8 +137,12 @@ def take(model: str, machine: str, path: str) -> bool:
 
 
 def pattern_of(path: str, is_opened: bool) -> bytes:
-    """The text of a pattern; of a test whose reads are opened, the pattern that it is then."""
-    text = READ.sub(OPEN, contents(path)) if is_opened else contents(path)
+    """The text of a pattern; of a test whose reads are opened, the pattern that it is then, with blanks for its comments."""
+    text = contents(path)
+    if is_opened:
+        for at, comment in comments(text):
+            text = text[:at] + re.sub(rb"[^\n]", b" ", comment) + text[at + len(comment) :]
+        text = READ.sub(OPEN, text)
     judged("test", path, text, read_pattern)
     return text
 
