@@ -150,7 +150,8 @@ class Judges:
         if seconds <= 0:
             return Answer(is_late=True)
         machine = self.by_thread.pop(threading.get_ident(), None)
-        if machine is not None and machine.name != name:
+        # the limit may have come with the last answer
+        if machine is not None and (machine.name != name or machine.process in self.calls.late):
             machine.end()
             machine = None
         if machine is None:
