@@ -607,7 +607,7 @@ FORM = "lint MODEL [TEST..] [QUERY..]"
 # a case, the files, the status, and what is said on standard output and on standard error
 FILES = (
     ("a refused model", ["bad.uspec", "good.test"], 3,
-     "bad.uspec:2:12: arity: the predicate takes another number of arguments\n", ""),
+     "bad.uspec:2:12: arity: the predicate takes another number of arguments\n", "pipecheck: it takes IsAnyRead i\n"),
     ("a test in place of the model", ["good.test"], 3, "good.test:1:1: syntax: no model can continue with this token\n",
      "pipecheck: `StageName`, `Axiom` or `DefineMacro` is expected\n"
      f"pipecheck: good.test is a test, and stands for the model: {FORM}\n"),
@@ -652,6 +652,21 @@ EXPECTED = (
     ("a formula", "a formula is expected", 'Axiom "x": forall microops "i", .'),
     ("what goes on behind an argument", "a name, a number, `=>`, `\\/`, `/\\` or `.` is expected", 'Axiom "x": IsAnyRead i "j".'),
     ("a node", "`(` is expected", 'Axiom "x": NodeExists i.'),
+)
+# what may be meant: the last line beside a model
+MEANT = (
+    ("a stage", "Memry may be meant for Memory", 'Axiom "x": forall microops "i", NodeExists (i, Memry).'),
+    ("a predicate", "IsAnyLoad may be meant for IsAnyRead i", 'Axiom "x": forall microops "i", IsAnyLoad i.'),
+    ("a word", "foral may be meant for forall", 'Axiom "x": foral microops "i", True.'),
+    ("a sign", "& may be meant for /\\", 'Axiom "x": True & True.'),
+    ("a text", '" may be meant for a text of printable ASCII that ends in its line', 'Axiom "\u00b5": True.'),
+    ("a macro", "Read may be meant for ExpandMacro Reads i", 'Axiom "x": forall microops "i", ExpandMacro Read i.'),
+    ("a macro that is below", "a macro expands only those above it, and this one is below: ExpandMacro Reads i",
+     'DefineMacro "y" "i": ExpandMacro Reads i.'),
+    ("a macro's arguments", "it takes ExpandMacro Reads i", 'Axiom "x": ExpandMacro Reads.'),
+    ("a number of arguments", "it takes SameData i j", 'Axiom "x": forall microops "i", SameData i.'),
+    ("the order of arguments", "it takes AccessType t i", 'Axiom "x": forall microops "f", AccessType f Full.'),
+    ("a sort", "it takes OnCore c i", 'Axiom "x": forall microops "f", OnCore f 0.'),
 )
 SB_OF_OWN, MP_OF_OWN = (read(f"examples/tests/{it}.test").replace(f'Litmus "{it}"', 'Litmus "own"') for it in ("SB", "MP"))
 ALLOWED = "pipecheck: tso, the memory model that the model names, allows this outcome: BUG is by what the test says alone\n"
@@ -725,6 +740,13 @@ class Command(Cases):
                 refused = run([program(), "check", path, "good.test"], cwd=self.work)
                 lines = "\n".join(expected("model", path, refusal_of(refused.out)))
                 self.judge(f"expected: {name}", Done(refused.status, lines, refused.err), 3, f"pipecheck: {said}")
+
+    def test_meant(self) -> None:
+        for name, said, text in MEANT:
+            if self.is_wanted(f"meant: {name}"):
+                path = write(f"{self.work}/meant.uspec", f'StageName 0 "Memory".\n{text}\nDefineMacro "Reads" "i": IsAnyRead i.\n')
+                done = run([pipecheck(), "lint", path])
+                self.judge(f"meant: {name}", Done(done.status, "".join(done.err.splitlines()[-1:]), ""), 3, f"pipecheck: {said}")
 
     def test_forbidden(self) -> None:
         for name, said, model, text in FORBIDDEN:

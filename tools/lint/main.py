@@ -20,10 +20,11 @@ from tools.second.scopes import read_model
 from tools.second.standard_output import UNREAD
 from tools.second.tokens import Fault
 from tools.telling.files import sentence, unreadable
+from tools.telling.meant import meant
 from tools.telling.refusals import misplaced, reader
 from tools.texts.contents import Read, Unreadable, contents, read_within
 from tools.texts.expecting import sentence_of
-from tools.texts.quoting import line_of
+from tools.texts.quoting import line_and_column, line_of
 
 # how the name of a query ends; any other file is a test, a listing or a pattern
 QUERY = ".query"
@@ -55,11 +56,14 @@ class Files:
         """What could stand at a fault; and that the file is of another kind than its place and its name say, where it is."""
         if sentence_of(fault):
             yield f"pipecheck: {sentence_of(fault)}"
+        model, text = self.texts[self.model_path], self.texts[path]
+        if kind in ("model", "query"):
+            yield from meant(TOP, fault.word, text, line_and_column(text, fault.place), model)
         if (kind, path) != ("model", self.model_path):
             kind = KINDS.get(os.path.splitext(path)[1], "test")
         if fault.word in ("lexical", "syntax"):
-            yield from misplaced(kind, "lint MODEL [TEST..] [QUERY..]", path, self.texts[path])
-            yield from reader("lint", path, self.texts[path]) if kind == "test" else ()
+            yield from misplaced(kind, "lint MODEL [TEST..] [QUERY..]", path, text)
+            yield from reader("lint", path, text) if kind == "test" else ()
 
 
 def main(model_path: str, *paths: str) -> int:

@@ -5,6 +5,7 @@ from typing import Iterator, NamedTuple
 
 from tools.telling.files import row, sentence
 from tools.telling.forms import Forms
+from tools.telling.meant import meant
 from tools.texts.contents import Unreadable, contents
 from tools.texts.expecting import sentence_of, syntax_fault
 from tools.texts.quoting import line_and_column, shown
@@ -83,14 +84,6 @@ def misplaced(kind: str, form: str, path: str, data: bytes) -> Iterator[str]:
         yield f"pipecheck: {shown(path)} is a model, and stands for the test: {form}"
 
 
-def macro_of(path: str, model: str, refusal: Refusal) -> Iterator[str]:
-    """That a macro of the model has the name that no predicate has."""
-    line = contents(path).split(b"\n")[refusal.line - 1]
-    name = re.split(rb"[^A-Za-z0-9_']", line[refusal.column - 1:])[0]
-    if re.search(rb'DefineMacro\s+"%b"' % name, contents(model)):
-        yield f"pipecheck: a macro has this name: ExpandMacro {name.decode('ascii')}"
-
-
 def reader(word: str, path: str, data: bytes) -> Iterator[str]:
     """Which command reads the file, where it is a listing of herd's that a command for tests got, or a test that a command for
     listings got."""
@@ -163,8 +156,8 @@ def lines_of(top: str, said: str, words: list[str]) -> Iterator[str]:
                 yield from expected(asked, path, refusal)
             if refusal.word in ("lexical", "syntax"):
                 yield from misplaced(asked, " ".join([words[0], *kinds]), path, contents(path))
-            if refusal.word == "predicate-unknown":
-                yield from macro_of(path, words[1], refusal)
+            if refusal.kind != "test":
+                yield from meant(top, refusal.word, contents(path), refusal.place, contents(words[1]))
             if asked == "listing":
                 yield from left_out(top, path, refusal)
             if refusal.kind == "test":
