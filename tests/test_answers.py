@@ -518,7 +518,8 @@ class Faults(Answers):
             ("where a refused model has its fault", ("check", arity, no_item)),
             ("where a refused model has its fault, beside a certificate", ("verify", arity, TWO, MP_CERTIFICATE)),
         ):
-            self.tells(name, "model", arity, "3:2", "arity: the predicate takes another number of arguments", *words)
+            said = told(arity, "3:2", "arity: the predicate takes another number of arguments")
+            self.says(name, 3, "refused model arity at 3:2\n", f"{said}pipecheck: it takes IsAnyRead i\n", *words)
         long = self.file("long.uspec", 'Axiom "x": ' + "True /\\ " * 40 + "?\1\n")
         self.says(
             "a part of a long line, without bytes that no screen shows", 3, "refused model lexical at 1:332\n", f"""\

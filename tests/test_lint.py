@@ -681,7 +681,7 @@ FORBIDDEN = (
 UNTAKEN = (
     ("a full device", "full", ["good.uspec", "slip.test"], UNWRITTEN),
     ("a closed standard output", "closed", ["good.uspec", "slip.test"], UNWRITTEN),
-    ("a refused file, and a full device", "full", ["bad.uspec"], UNWRITTEN),
+    ("a refused file, and a full device", "full", ["bad.uspec"], f"pipecheck: it takes IsAnyRead i\n{UNWRITTEN}"),
     ("nothing to say, and a closed standard output", "closed", ["good.uspec"], UNWRITTEN),
     ("a pipe whose reader has enough", "unread", ["good.uspec", "slip.test"], ""),
 )
