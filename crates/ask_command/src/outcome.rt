@@ -11,7 +11,7 @@ pub struct Asked {
 }
 
 /// In which of the worlds that satisfy a model a formula holds.
-#[derive(Clone, Copy, Debug, PartialEq, Eq)]
+#[derive(Clone, Copy, PartialEq, Eq)]
 pub enum AskWord {
     /// In all, and there are some.
     Always,

@@ -20,12 +20,6 @@ use Rattle.cert_check.proofs.{StepNodes.{StepHas, runs_have, step_in}, Propers.{
 use Rattle.cert_check.proofs.Words.{one_verdict, no_end_node, no_end_edge, no_end_step, no_version_step, no_version_end, is_node_line, is_edge_line, no_end_graph}
 
 -- the first line
-pub start_stuck : (q : Question) (lines : List Line) (text : List ℕ) → lines ≡ [] → ((v : PlainVerdict) → text ≡ verdict_text v → ⊥) → IsStuck q lines text
-start_stuck q lines text none other l is begins =
-    let P : List Line → Type 0 = λ ls. BeginsWell q (ls ++ l ∷ []) in
-    let v = first_line q l [] (subst P none begins) in
-    other v.0 (is ∙ ap (line_words q.names) v.1)
-
 pub start_goes : (q : Question) (lines : List Line) (text : List ℕ) (v : PlainVerdict) (next : Stage) → lines ≡ [] → text ≡ verdict_text v
     → StandsAt q next (verdict v ∷ []) → GoesOn q lines text next
 start_goes q lines text v next none is stands = record {

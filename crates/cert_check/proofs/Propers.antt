@@ -10,8 +10,8 @@ use Rattle.pc_ground.specs.{declared.version.Version.TheVariants.{One, Two}, Num
 use Rattle.pc_ground.proofs.{FlatRows.{subtree_size, size_pos}, Turned.{size_turned}}
 use Rattle.refutation.specs.Steps.{IsLeafIn}
 use Rattle.graph_text.specs.Graphs.{graph_lines}
-use Rattle.cert_check.specs.Certificates.{Question, header, tree_lines, IsGraphCertificate, IsCertificate, BeginsWell, in_header, in_graph, in_tree, whole}
-use Rattle.cert_check.{specs.Proper.{IsAsked}, proofs.{Firsts.{all_front}, StepNodes.{StepHas, runs_have, step_in}}}
+use Rattle.cert_check.specs.Certificates.{Question, header, tree_lines, IsGraphCertificate, IsCertificate}
+use Rattle.cert_check.{specs.Proper.{IsAsked}, proofs.StepNodes.{StepHas, runs_have, step_in}}
 
 -- where it is a split, it is one of the tree
 abbrev pub IsWithin : {N : Type 0} → Tree N → Step N → Type 0
@@ -104,16 +104,3 @@ proper_certificate q asked unobservable ls (v, tree) =
     subst P (sym tree.lines_are)
     (All-append (IsProper q.names) (header q unobservable) _ (proper_header q.names q unobservable)
     (All-append (IsProper q.names) (tree_lines v tree.steps) (end ∷ []) (proper_steps q asked v tree.steps [] tree.refutes) (proper_end q.names)))
-
-pub begins_proper : (q : Question) → IsAsked q → (ls : List Line) → BeginsWell q ls → All (IsProper q.names) ls
-begins_proper q asked ls (in_header v more is) =
-    let P : List Line → Type 0 = λ xs. All (IsProper q.names) xs in all_front (IsProper q.names) ls more (subst P (sym is) (proper_header q.names q v))
-begins_proper q asked ls (in_graph nodes edges of_names ends is) =
-    let P : List Line → Type 0 = λ xs. All (IsProper q.names) xs in
-    subst P (sym is) (All-append (IsProper q.names) (header q observable) (graph_lines nodes edges) (proper_header q.names q observable)
-    (proper_graph q.names nodes edges of_names ends))
-begins_proper q asked ls (in_tree v steps opens run is) =
-    let P : List Line → Type 0 = λ xs. All (IsProper q.names) xs in
-    subst P (sym is) (All-append (IsProper q.names) (header q unobservable) (tree_lines v steps) (proper_header q.names q unobservable)
-    (proper_steps q asked v steps opens run))
-begins_proper q asked ls (whole v certificate) = proper_certificate q asked v ls certificate

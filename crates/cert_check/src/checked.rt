@@ -1,5 +1,5 @@
 /// What a text is: a certificate of a verdict, or a text that is refused.
-#[derive(Clone, Copy, Debug, PartialEq, Eq)]
+#[derive(Clone, Copy, PartialEq, Eq)]
 pub enum Checked {
     /// A graph whose world makes every axiom true.
     Observable,

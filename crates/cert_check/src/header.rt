@@ -7,7 +7,7 @@ ghost use Rattle.cert_check.specs.StepTexts.{header_text};
 use pc_case::Expect;
 
 /// What a certificate says of the outcome.
-#[derive(Clone, Copy, Debug, PartialEq, Eq)]
+#[derive(Clone, Copy, PartialEq, Eq)]
 pub enum Verdict {
     /// Some order of the events shows it.
     Observable,

@@ -4,7 +4,6 @@ ghost use Rattle.pc_common.specs.Steps.{Step as PlainStep};
 ghost use Rattle.pc_ground.specs.Tree.{Tree};
 ghost use Rattle.refutation.specs.Steps.{open_branches};
 ghost use Rattle.refutation.specs.Reading.{IsLineOf};
-ghost use Rattle.line_judge.specs.Texts.{IsLine, IsFirstLine};
 ghost use Rattle.cert_check.specs.Questions.{question_of};
 ghost use Rattle.cert_check.specs.Ones.{IsTreeText};
 ghost use Rattle.cert_check.specs.StepTexts.{IsAhead, HasRead};
@@ -12,19 +11,11 @@ ghost use Rattle.cert_check.specs.StepTexts.{IsAhead, HasRead};
 use super::header::behind_header;
 use super::next::{is_end, show_asked};
 use super::open_tree::room_for;
-use memchr::memchr;
+use line_judge::split_line;
 use pc_common::Memory;
 use pc_ground::{Front, NodeText};
 use refutation::{NodeRow, Refutation, read_line};
 use std::alloc::Global;
-
-/// The first line without its LF, and what stands after the LF. None where there is no LF.
-fn first_line(text: &[u8]) -> Option<(&[u8], &[u8])>
-    ensures { MatchOption result (IsLine text.now) (λ parts. IsFirstLine text.now parts.0.now parts.1.now) }
-{
-    let at = memchr(b'\n', text)?;
-    Some((&text[..at], &text[at + 1..]))
-}
 
 /// Puts the step last whose line this is.
 fn push_line(
@@ -62,7 +53,7 @@ fn take_step<'t>(
         (λ behind. HasRead names.now t refutation.old more refutation.new behind.now)) }
     ensures shorter { IfOk result (λ rest. IfSome rest (λ behind. length behind.now < length left.now)) }
 {
-    let Some((line, rest)) = first_line(left) else {
+    let Some((line, rest)) = split_line(left) else {
         return Ok(None);
     };
     if is_end(line) {

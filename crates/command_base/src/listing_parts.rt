@@ -1,36 +1,23 @@
 ghost use Rattle.std.specs.Prelude.{◌≡◌, ◌^◌, ◌<◌, length, IfOk, IfErr};
-ghost use Rattle.pc_common.specs.declared.fault.Which.TheVariants.{Test};
-ghost use Rattle.pc_front.specs.declared.model_front.FrontEnd.TheVariants.{Refused};
-ghost use Rattle.pc_front.specs.Front.{fault_at};
 ghost use Rattle.x86_litmus.specs.Answer.{CaseOf};
 ghost use Rattle.command_base.specs.Fronts.{front_of_parts};
 ghost use Rattle.command_base.specs.SecondFiles.{SaysFront, IsFrontEnd};
 ghost use Rattle.command_base.specs.Listings.{IsFirstListingFault, listing_end};
 
-use pc_common::{FaultKind, InputFault, Place, Which};
-use pc_front::{FrontEnd, parts_of, read_model};
+use pc_common::FaultKind;
+use pc_front::{FrontEnd, parts_of, read_model, test_refusal};
 use pc_ground::Parts;
 use std::alloc::Global;
 use x86_litmus::{X86Fault, read_x86};
-
-fn fault_of_listing(kind: FaultKind, place: Place) -> FrontEnd
-    ensures { result ≡ Refused (fault_at Test kind place) }
-{
-    FrontEnd::Refused(InputFault {
-        file: Which::Test,
-        place,
-        kind,
-    })
-}
 
 /// How the fault of a listing ends the reading.
 fn end_of(fault: X86Fault) -> FrontEnd
     ensures { result ≡ listing_end fault }
 {
     match fault {
-        X86Fault::Lexical(place) => fault_of_listing(FaultKind::Lexical, place),
-        X86Fault::Syntax(place) => fault_of_listing(FaultKind::Syntax, place),
-        X86Fault::Content(kind, place) => fault_of_listing(kind, place),
+        X86Fault::Lexical(place) => test_refusal(FaultKind::Lexical, place),
+        X86Fault::Syntax(place) => test_refusal(FaultKind::Syntax, place),
+        X86Fault::Content(kind, place) => test_refusal(kind, place),
         X86Fault::Memory => FrontEnd::Memory,
     }
 }

@@ -1,7 +1,6 @@
 ghost use Rattle.std.specs.Prelude.{◌≡◌, ◌≤◌, ◌++◌, All, codes, IfOk, OnOk};
 ghost use Rattle.std.specs.List.{flat_map};
 ghost use Rattle.pc_common.specs.Lines.{unobservable, second_text};
-ghost use Rattle.pc_case.specs.Plain.{expectation};
 ghost use Rattle.pc_ground.specs.NodeWords.{AreSmall};
 ghost use Rattle.pc_ground.specs.GroundTree.{closed_ground_tree};
 ghost use Rattle.pc_ground.specs.Stages.{plain_axioms};
@@ -14,23 +13,13 @@ ghost use Rattle.lift_command.specs.WrittenLines.{line_text, HasSmallCore};
 
 use super::lines::{put_line, show_line};
 use super::words::put;
+use cert_check::{Verdict, second_line};
 use lifter::{LiftedSteps, lift_steps};
-use pc_case::{Case, Expect, OpId};
+use pc_case::{Case, OpId};
 use pc_common::Memory;
 use pc_ground::Front;
 use refutation::Refutation;
 use std::alloc::Global;
-
-/// The second line, by what the test states, with its LF.
-fn second_line(expect: Expect) -> &'static [u8]
-    ensures { result.now ≡ second_text unobservable (expectation expect) ++ codes "\n" }
-{
-    match expect {
-        Expect::Permitted => b"test permitted: stricter\n",
-        Expect::Forbidden => b"test forbidden: ok\n",
-        Expect::Unstated => b"test unstated\n",
-    }
-}
 
 /// Puts the three lines of the header.
 fn put_header(text: &mut Vec<u8>, case: &Case) -> Result<(), Memory>
@@ -38,7 +27,7 @@ fn put_header(text: &mut Vec<u8>, case: &Case) -> Result<(), Memory>
         ++ ((second_text unobservable case.now.expectation ++ codes "\n") ++ codes "lifted\n"))) }
 {
     put(text, b"unobservable\n")?;
-    put(text, second_line(case.expect()))?;
+    put(text, second_line(Verdict::Unobservable, case.expect()))?;
     put(text, b"lifted\n")
 }
 

@@ -1,5 +1,5 @@
 /// What a text is: a lifted refutation, or a text that is refused.
-#[derive(Clone, Copy, Debug, PartialEq, Eq)]
+#[derive(Clone, Copy, PartialEq, Eq)]
 pub enum Lifted {
     /// A lifted refutation of the axioms.
     Unobservable,

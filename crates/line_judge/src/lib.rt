@@ -27,3 +27,4 @@ mod line;
 pub use feed::{Feed, Finished};
 pub use judge::Judge;
 pub use laws::{a_text_has_one_answer, no_text_is_whole_and_refused, one_line_is_refused};
+pub use line::split_line;

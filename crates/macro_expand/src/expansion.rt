@@ -56,16 +56,16 @@ impl<'a> Expander<'a> {
                 args,
                 body,
             } => { self.binding(earlier, *at, names, args, body) }
-            Formula::Static { .. } | Formula::Nodes(_) | Formula::Edges(_) => {
-                formula.copy(self.alloc)
-            }
+            Formula::Static { pred, args } => Formula::shared_static(pred, args),
+            Formula::Nodes(nodes) => nodes.share().map(Formula::Nodes),
+            Formula::Edges(edges) => edges.share().map(Formula::Edges),
             Formula::Expand { at, name, args } => {
                 match self.macros.callee(name.name.as_slice(), earlier) {
                     Some(callee) => {
                         let names = &self.names[callee.number];
                         self.binding(callee.number, *at, names, args, callee.body)
                     }
-                    None => formula.copy(self.alloc),
+                    None => Formula::shared_expand(*at, name, args),
                 }
             }
         }

@@ -120,7 +120,7 @@ pub(crate) fn model_refusal(kind: FaultKind, place: Place) -> FrontEnd
 }
 
 /// The first fault of a test.
-fn test_refusal(kind: FaultKind, place: Place) -> FrontEnd
+pub fn test_refusal(kind: FaultKind, place: Place) -> FrontEnd
     ensures { result ≡ Refused (fault_at Test kind place) }
 {
     FrontEnd::Refused(InputFault {

@@ -22,6 +22,7 @@ mod model_front;
 mod reading;
 mod two_files;
 
+pub use faults::test_refusal;
 pub use laws::{limits_are, model_or_fault, no_model_fault, one_model, one_model_fault};
 pub use limits::MAX_FILE;
 pub use model_front::{FrontEnd, ModelFront};

@@ -178,130 +178,26 @@ impl Formula {
         })
     }
 
-    /// A copy that shares its names and lists with its source, so that it takes memory for each formula
-    /// in it, whatever their lengths. It nests at most two calls for each level, where the drop nests
-    /// one. Memory leaves the source as it is.
-    #[cycle(copy)]
-    pub fn copy(&self, alloc: Global) -> Result<Formula, Memory>
-        ensures { IfOk result (λ f. written f ≡ written self.now) }
+    /// The same predicate of the same arguments, which share their names and lists with their source.
+    pub fn shared_static(pred: &Word, args: &Args) -> Result<Formula, Memory>
+        ensures { IfOk result (λ f. written f ≡ static_ pred.now args.now) }
     {
-        match self {
-            Formula::Not(body) => Formula::negation(alloc, body.copy(alloc)?),
-            Formula::And(left, right) => {
-                let both = copy_both(alloc, left, right)?;
-                Ok(Formula::And(both.0, both.1))
-            }
-            Formula::Or(left, right) => {
-                let both = copy_both(alloc, left, right)?;
-                Ok(Formula::Or(both.0, both.1))
-            }
-            Formula::Implies(left, right) => {
-                let both = copy_both(alloc, left, right)?;
-                Ok(Formula::Implies(both.0, both.1))
-            }
-            Formula::Forall {
-                at,
-                sort,
-                name,
-                body,
-            } => {
-                let (name, body) = copy_named(alloc, name, body)?;
-                Ok(Formula::Forall {
-                    at: *at,
-                    sort: *sort,
-                    name,
-                    body,
-                })
-            }
-            Formula::Exists {
-                at,
-                sort,
-                name,
-                body,
-            } => {
-                let (name, body) = copy_named(alloc, name, body)?;
-                Ok(Formula::Exists {
-                    at: *at,
-                    sort: *sort,
-                    name,
-                    body,
-                })
-            }
-            Formula::Static { pred, args } => shared_static(pred, args),
-            Formula::Nodes(nodes) => nodes.share().map(Formula::Nodes),
-            Formula::Edges(edges) => edges.share().map(Formula::Edges),
-            Formula::Expand { at, name, args } => shared_expand(*at, name, args),
-            Formula::Bind {
-                at,
-                names,
-                args,
-                body,
-            } => copy_bound(alloc, *at, names, args, body),
-        }
+        let pred = pred.share()?;
+        Ok(Formula::Static {
+            pred,
+            args: args.share()?,
+        })
     }
-}
 
-/// A copy of each of two formulas, in a box of its own.
-#[cycle(copy)]
-fn copy_both(
-    alloc: Global,
-    left: &Formula,
-    right: &Formula,
-) -> Result<(Box<Formula>, Box<Formula>), Memory>
-    ensures left { IfOk result (λ both. written both.0.value ≡ written left.now) }
-    ensures right { IfOk result (λ both. written both.1.value ≡ written right.now) }
-{
-    let left = left.copy(alloc)?;
-    boxes(alloc, left, right.copy(alloc)?)
-}
-
-/// A quantifier's name, shared, and a copy of its body in a box of its own.
-#[cycle(copy)]
-fn copy_named(alloc: Global, name: &Name, body: &Formula) -> Result<(Name, Box<Formula>), Memory>
-    ensures name { IfOk result (λ named. named.0 ≡ name.now) }
-    ensures body { IfOk result (λ named. written named.1.value ≡ written body.now) }
-{
-    let name = name.share()?;
-    let body = body.copy(alloc)?;
-    Ok((name, Box::new(alloc, body)?))
-}
-
-/// The same predicate of the same arguments.
-fn shared_static(pred: &Word, args: &Args) -> Result<Formula, Memory>
-    ensures { IfOk result (λ f. written f ≡ static_ pred.now args.now) }
-{
-    let pred = pred.share()?;
-    Ok(Formula::Static {
-        pred,
-        args: args.share()?,
-    })
-}
-
-/// The same macro at the same arguments.
-fn shared_expand(at: Place, name: &Word, args: &Args) -> Result<Formula, Memory>
-    ensures { IfOk result (λ f. written f ≡ expand_ at name.now args.now) }
-{
-    let name = name.share()?;
-    Ok(Formula::Expand {
-        at,
-        name,
-        args: args.share()?,
-    })
-}
-
-/// A binding's names and arguments, shared, over a copy of its body.
-#[cycle(copy)]
-fn copy_bound(
-    alloc: Global,
-    at: Place,
-    names: &Names,
-    args: &Args,
-    body: &Formula,
-) -> Result<Formula, Memory>
-    ensures { IfOk result (λ f. written f ≡ bind_ at names.now args.now (written body.now)) }
-{
-    let names = names.share()?;
-    let args = args.share()?;
-    let body = body.copy(alloc)?;
-    Formula::bind(alloc, at, names, args, body)
+    /// The same macro at the same arguments, which share their names and lists with their source.
+    pub fn shared_expand(at: Place, name: &Word, args: &Args) -> Result<Formula, Memory>
+        ensures { IfOk result (λ f. written f ≡ expand_ at name.now args.now) }
+    {
+        let name = name.share()?;
+        Ok(Formula::Expand {
+            at,
+            name,
+            args: args.share()?,
+        })
+    }
 }

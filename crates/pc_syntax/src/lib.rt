@@ -1,8 +1,8 @@
 //! The model as trees and lists: as written, with its macros expanded, and closed, that is with slots
 //! in place of names and numbers in place of stages.
 //!
-//! Clause: makers of formulas return the formula asked for, and `copy` an equal one (their clauses); a predicate is
-//! found by its name (`found`).
+//! Clause: makers of formulas return the formula asked for, and `copy` of a closed one an equal one (their clauses); a
+//! predicate is found by its name (`found`).
 //!
 //! ```rust
 //! use pc_syntax::{Pred, Takes};

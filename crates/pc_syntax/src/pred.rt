@@ -35,7 +35,7 @@ pub enum Pred {
 }
 
 /// What a predicate takes at a place: a micro-op, a core, or a name that isn't looked up.
-#[derive(Clone, Copy, Debug, PartialEq, Eq)]
+#[derive(Clone, Copy, PartialEq, Eq)]
 pub enum Takes {
     Op,
     Core,

@@ -8,7 +8,7 @@ pub type Name = Shared<u8>;
 pub type Names = Shared<Name>;
 
 /// What a quantifier ranges over: micro-ops in test order, or cores from 0 to the greatest in the test.
-#[derive(Clone, Copy, Debug, PartialEq, Eq)]
+#[derive(Clone, Copy, PartialEq, Eq)]
 pub enum Sort {
     Microop,
     Core,

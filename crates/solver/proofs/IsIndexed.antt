@@ -1,6 +1,6 @@
 -- A list of places with its index: what it finds, and one place more.
 use Rattle.std.proofs.Common.{◌≡◌, inl, inr, ℕ, ◌+◌, ◌*◌, Bool, true, false, List, [], ◌∷◌, ◌++◌, Some, length, refl, sym, ap, ◌∙◌, arith, length-append}
-use Rattle.std.{proofs.lemmas.{Bool.{cases_lt}, Option.{same_Some, slice_get_within, slice_get-get_or, get_or_from_slice_get}}, specs.Prelude.{slice_get, slice_index, Contains, if◌then◌else◌}}
+use Rattle.std.{proofs.lemmas.{Bool.{cases_lt}, Option.{same_Some, slice_get_within, get_or_from_slice_get}}, specs.Prelude.{slice_get, slice_index, Contains, if◌then◌else◌}}
 use Rattle.pc_common.proofs.Places.{slice_get-more, get_before, get_last}
 use Rattle.solver.specs.{declared.tree.place.Place.{Place}, Indexed.{slot_of, IsFound, IsIndexed, IsPut}}
 
@@ -20,9 +20,6 @@ one_slot a b e = (let same = parts a.negated b.negated a.position b.position e i
 
 pub has_at : {X : Type 0} (xs : List X) (k : ℕ) (x : X) → slice_get xs k ≡ Some x → Contains xs x
 has_at xs k x e = (k, slice_get_within xs k x e, get_or_from_slice_get xs k x x e)
-
-at_has : {X : Type 0} (xs : List X) (x : X) → Contains xs x → (k : ℕ) × (slice_get xs k ≡ Some x)
-at_has xs x (k, inside, e) = (k, slice_get-get_or xs k x inside ∙ ap Some e)
 
 -- what is found in a first part is found in all
 found_front : (items more : List Place) (index : List ℕ) (k : ℕ) (q : Place) → IsFound items index k q → IsFound (items ++ more) index k q

@@ -1,5 +1,5 @@
 use Rattle.std.proofs.{Common.{◌≡◌, ◌<◌, ◌+◌, ◌*◌, get_or, sym, ap, ◌∙◌, arith}, lemmas.Result.{IfOk-weaker}}
-use Rattle.pc_syntax.specs.{Written.{written, bind_}, Sizes.{expanded_height}, Expansion.{expansion_of}}
+use Rattle.pc_syntax.specs.{Written.{Written, written, bind_, expand_}, Sizes.{expanded_height}, Expansion.{expansion_of}}
 use Rattle.macro_expand.{specs.Tables.{callee_of, before, plain_macros, macro_at}, proofs.Expansions.{parameter_names_at, names_within}}
 use Rattle.macro_expand.proofs.MeasureLaws.{lower, expansion_found, expansion_not_found}
 use Rattle.macro_expand.proofs.expansion.Expander.+walk.Goals as goal
@@ -51,9 +51,9 @@ expansion-returns-in-Some t c =
 pub expansion-returns-in-None : goal.expansion-returns-in-None
 expansion-returns-in-None t c =
     let ms = before (plain_macros c.args.self.now.macros.now) c.args.earlier in
-    let same : written c.args.formula.now ≡ expansion_of ms (written c.args.formula.now) =
-    ap written c.in-Expand.is
-    ∙ sym (expansion_not_found c.in-Expand.at c.in-Expand.name c.in-Expand.args ms (ap (callee_of ms) (sym c.as_slice.ensures.value) ∙ c.in-None.ensures))
+    let here : Written = expand_ c.in-Expand.at c.in-Expand.name c.in-Expand.args in
+    let same : here ≡ expansion_of ms (written c.args.formula.now) =
+    sym (expansion_not_found c.in-Expand.at c.in-Expand.name c.in-Expand.args ms (ap (callee_of ms) (sym c.as_slice.ensures.value) ∙ c.in-None.ensures))
     ∙ ap (λ f. expansion_of ms (written f)) (sym c.in-Expand.is) in
-    IfOk-weaker c.copy.result (λ f. written f ≡ written c.args.formula.now) (λ f. written f ≡ expansion_of ms (written c.args.formula.now))
-    (λ f e. e ∙ same) c.copy.ensures
+    IfOk-weaker c.shared_expand.result (λ f. written f ≡ here) (λ f. written f ≡ expansion_of ms (written c.args.formula.now))
+    (λ f e. e ∙ same) c.shared_expand.ensures
