@@ -216,8 +216,8 @@ exec "{program()}" "$@"
         """A signal that Python does not see at once, while all processes that compare have long to do."""
 
         def work() -> None:
-            with working.Workers(time.sleep) as workers:
-                list(workers.answers([600]))
+            with contextlib.closing(working.answers(time.sleep, [600])) as found:
+                list(found)
 
         done = done_by_unseen(ending.SIGNALS, work)
         self.same("a signal that Python does not see at once ends agree", done.status, 128 + signal.SIGTERM)

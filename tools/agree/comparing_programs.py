@@ -7,8 +7,8 @@ alone, and the next comparison of that name takes its place.
 import json
 import os
 import time
-from contextlib import suppress
-from dataclasses import asdict, dataclass, field, replace
+from contextlib import closing, suppress
+from dataclasses import dataclass, field
 from glob import glob
 from itertools import islice
 from pathlib import Path
@@ -19,7 +19,7 @@ from tools import TOP
 from tools.agree.comparing import Other, asks_for_locked, machine_of, rows_shown, sweeper, types_asked
 from tools.agree.programs import Program, named, random_program, smallest
 from tools.agree.small_programs import Family, Shape
-from tools.agree.working import Counts, Unusable, Workers, tell
+from tools.agree.working import Counts, Unusable, answers, tell
 from tools.second.patterns import MOST_ROWS
 from tools.suite.files import digest_of
 from tools.suite.keeping import keep_whole, whole_text
@@ -54,12 +54,12 @@ class Kept:
     def read(self) -> Progress:
         """What a comparison has got; nothing where the file is none that was written of it."""
         found = json.loads(whole_text(self.place, MOST_BYTES) or b"{}")
-        return Progress(Counts(**found["counts"]), found["smallest"]) if found.get("origin") == self.origin else Progress()
+        return Progress(Counts(found["counts"]), found["smallest"]) if found.get("origin") == self.origin else Progress()
 
     def write(self, progress: Progress) -> None:
         try:
             os.makedirs(self.folder, exist_ok=True)
-            keep_whole(self.place, json.dumps({"origin": self.origin, **asdict(progress)}).encode("ascii"))
+            keep_whole(self.place, json.dumps({"origin": self.origin, **vars(progress)}).encode("ascii"))
         except OSError as error:
             if not self.is_told:
                 tell(f"{shown(self.folder)}: {error.strerror}: what is done is not kept")
@@ -113,8 +113,8 @@ class Comparison(NamedTuple):
 
     def answers(self, programs: Iterable[Program], counts: Counts) -> Iterator[tuple[Program, bool]]:
         """Of each program in its order whether the two differ, once it is counted."""
-        with Workers(self.difference) as workers:
-            for program, said in workers.answers(programs):
+        with closing(answers(self.difference, programs)) as found:
+            for program, said in found:
                 yield program, counts.enter(f"{self.name}: {named(program)}", said)
 
     def show_smallest(self, program: Program) -> None:
@@ -139,20 +139,20 @@ class Comparison(NamedTuple):
         which the two differ, if there is one."""
         count, kept = family.count, Kept(folder, repr((self, family)), self.origin)
         progress = kept.read()
-        before = f", {progress.counts.done} of them compared before" if progress.counts.done else ""
+        before = f", {progress.counts.total()} of them compared before" if progress.counts else ""
         print(f"{self.name}: {count} programs{before}", flush=True)
         programs = family.programs
         least: Program | None = None
-        for number, program in enumerate(islice(programs, progress.counts.done)):
+        for number, program in enumerate(islice(programs, progress.counts.total())):
             if number == progress.smallest:
                 least = program
-        counts, meter, moment = replace(progress.counts), Meter(count), time.monotonic()
-        meter.done = counts.done
+        counts, meter, moment = Counts(progress.counts), Meter(count), time.monotonic()
+        meter.done = counts.total()
         try:
             for program, differs in self.answers(programs, counts):
                 if differs and (least is None or len(program.ops) < len(least.ops)):
-                    least, progress.smallest = program, counts.done - 1
-                progress = Progress(replace(counts), progress.smallest)
+                    least, progress.smallest = program, counts.total() - 1
+                progress = Progress(Counts(counts), progress.smallest)
                 meter.step()
                 if time.monotonic() > moment + SECONDS:
                     moment = time.monotonic()

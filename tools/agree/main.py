@@ -18,6 +18,7 @@ program that differs is printed. With --between two models are compared. A compa
 import os
 import signal
 from argparse import ArgumentParser, ArgumentTypeError, Namespace, RawDescriptionHelpFormatter
+from contextlib import closing
 from glob import escape as glob_escape
 from glob import glob
 
@@ -31,7 +32,7 @@ from tools.agree.comparing import pattern_of, sweeper, take, test_of
 from tools.agree.comparing_programs import Comparison
 from tools.agree.small_programs import MOST_ACCESSES, MOST_LOCATIONS, Shape, shapes_of
 from tools.agree.table import TABLE, rows_of
-from tools.agree.working import ENDING, Counts, Unusable, Workers, tell
+from tools.agree.working import ENDING, Counts, Unusable, answers, tell
 from tools.ending import SIGNALS
 from tools.second.patterns import ENDING as PATTERN
 from tools.second.standard_output import FAILED, UNREAD
@@ -78,8 +79,8 @@ def pairs_of(models: list[tuple[str, str]], tests: list[str], options: Namespace
 
 def compare_files(pairs: list[Pair], counts: Counts) -> None:
     """Prints each pair that differs."""
-    with Workers(difference) as workers:
-        for pair, said in workers.answers(pairs):
+    with closing(answers(difference, pairs)) as found:
+        for pair, said in found:
             name = f"{shown(os.path.basename(pair.model))} {shown(os.path.basename(pair.test))}"
             if counts.enter(name, said):
                 print(f"{name}: {said}", flush=True)
@@ -121,10 +122,10 @@ def compare_programs(options: Namespace, by_program: bool, counts: Counts) -> No
     for comparison in comparisons:
         comparison.judge_usable()
         if options.random:
-            counts.add(comparison.random(*options.random))
+            counts.update(comparison.random(*options.random))
         else:
             family = comparison.family(options.all, options.locations or LOCATIONS, options.fences, options.locked)
-            counts.add(comparison.all_small(family, os.path.join(folder_of(os.environ, TOP), KEPT)))
+            counts.update(comparison.all_small(family, os.path.join(folder_of(os.environ, TOP), KEPT)))
 
 
 def compare(options: Namespace) -> int:
@@ -141,8 +142,8 @@ def compare(options: Namespace) -> int:
         pairs = pairs_of(models_of(options), tests, options, by_program)
         compare_files(pairs, counts)
         is_swept = any(pair.is_swept for pair in pairs)
-        counts.differ += 0 if given else compare_table()
-        if not counts.done:
+        counts["differ"] += 0 if given else compare_table()
+        if not counts.total():
             raise Unusable("nothing is compared: no model here takes one of these tests with a machine that runs it")
         left_out = sorted({*given} - {pair.test for pair in pairs})
         if left_out:

@@ -4,7 +4,7 @@ import os
 import signal
 import sys
 import traceback
-from collections import deque
+from collections import Counter, deque
 from concurrent.futures import Future, ProcessPoolExecutor
 from concurrent.futures import TimeoutError as NotYet
 from concurrent.futures.process import BrokenProcessPool
@@ -13,8 +13,7 @@ from dataclasses import dataclass
 from itertools import islice
 from multiprocessing import active_children, get_context, parent_process
 from threading import Thread
-from types import TracebackType
-from typing import Callable, Generic, Iterable, Iterator, NamedTuple, TypeVar
+from typing import Callable, Generator, Generic, Iterable, NamedTuple, TypeVar
 
 from tools.ending import SIGNALS
 from tools.second.standard_output import FAILED
@@ -44,41 +43,26 @@ def tell(sentence: str) -> None:
     print(f"agree: {sentence}", file=sys.stderr, flush=True)
 
 
-@dataclass
-class Counts:
-    """How many comparisons agree, differ and failed. Each that failed is told."""
-
-    agree: int = 0
-    differ: int = 0
-    failed: int = 0
+class Counts(Counter[str]):
+    """How many comparisons `agree`, `differ` and `failed`. Each that failed is told."""
 
     def enter(self, name: str, said: str | Failed) -> bool:
         """Takes in what a comparison said, and answers whether the two differ."""
         if isinstance(said, Failed):
-            self.failed += 1
+            self["failed"] += 1
             tell(f"{name}: {said.why}")
             return False
-        self.agree += not said
-        self.differ += bool(said)
-        return bool(said)
-
-    def add(self, other: "Counts") -> None:
-        self.agree += other.agree
-        self.differ += other.differ
-        self.failed += other.failed
-
-    @property
-    def done(self) -> int:
-        return self.agree + self.differ + self.failed
+        self["differ" if said else "agree"] += 1
+        return said != ""
 
     @property
     def status(self) -> int:
-        return FAILED if self.failed else DIFFER if self.differ else 0
+        return FAILED if self["failed"] else DIFFER if self["differ"] else 0
 
     @property
     def line(self) -> str:
-        failed = f", {self.failed} not compared" if self.failed else ""
-        return f"{self.agree} agree, {self.differ} differ{failed}"
+        failed = f", {self['failed']} not compared" if self["failed"] else ""
+        return f"{self['agree']} agree, {self['differ']} differ{failed}"
 
 
 @dataclass(frozen=True)
@@ -98,38 +82,29 @@ class Attempt(Generic[Task, Answer]):
             return Failed(traceback.format_exc().rstrip("\n").rpartition("\n")[2])
 
 
-class Workers(Generic[Task, Answer]):
-    """One process for each processor, each of which judges many tasks."""
-
-    def __init__(self, judge: Callable[[Task], Answer]) -> None:
-        self.attempt = Attempt(judge)
-        self.count = len(os.sched_getaffinity(0))
-        self.pool = ProcessPoolExecutor(self.count, get_context("fork"), begin_work)
-
-    def __enter__(self) -> "Workers[Task, Answer]":
-        return self
-
-    def __exit__(self, kind: type[BaseException] | None, _: BaseException | None, __: TracebackType | None) -> None:
-        if kind is not None:
-            end_workers()
-        self.pool.shutdown(cancel_futures=True)
-
-    def answers(self, tasks: Iterable[Task]) -> Iterator[tuple[Task, Answer | Failed]]:
-        """Each task with its answer, in their order. Few of them wait at a time."""
-        rest = iter(tasks)
-        begun: deque[tuple[Task, Future[Answer | Failed]]] = deque()
+def answers(judge: Callable[[Task], Answer], tasks: Iterable[Task]) -> Generator[tuple[Task, Answer | Failed], None, None]:
+    """Each task with its answer, in their order, of one process for each processor. Few of them wait at a time. Where this is closed
+    before its end the processes end at once."""
+    rest, count = iter(tasks), len(os.sched_getaffinity(0))
+    begun: deque[tuple[Task, Future[Answer | Failed]]] = deque()
+    pool = ProcessPoolExecutor(count, get_context("fork"), begin_work)
+    try:
         while True:
-            for task in islice(rest, self.count * WAITING - len(begun)):
+            for task in islice(rest, count * WAITING - len(begun)):
                 # it forks, and what a signal raises there is lost
                 with SIGNALS.held():
-                    begun.append((task, self.pool.submit(self.attempt, task)))
+                    begun.append((task, pool.submit(Attempt(judge), task)))
             if not begun:
                 return
             task, future = begun.popleft()
-            try:
-                yield task, SIGNALS.patient(future.result, NotYet)
-            except BrokenProcessPool as error:
-                raise Unusable("a process that compares was ended from outside, as where memory ends") from error
+            yield task, SIGNALS.patient(future.result, NotYet)
+    except BaseException as error:
+        end_workers()
+        if isinstance(error, BrokenProcessPool):
+            raise Unusable("a process that compares was ended from outside, as where memory ends") from error
+        raise
+    finally:
+        pool.shutdown(cancel_futures=True)
 
 
 def begin_work() -> None:
