@@ -12,8 +12,6 @@ from tools.agree.litmus import NotRun, Test, test_of_text
 from tools.agree.verdicts import rows_in, runs
 from tools.agree.working import Unusable
 from tools.lint.asked import Asked
-from tools.second.cases import Case
-from tools.second.listings import read_file_items
 from tools.second.models import Model
 from tools.second.patterns import ENDING as PATTERN
 from tools.second.patterns import read_pattern, sweep, sweep_text
@@ -105,12 +103,6 @@ def model_of(path: str) -> Model:
 
 
 @lru_cache(None)
-def case_of(path: str) -> Case:
-    """The case of a file, as the second implementation reads it."""
-    return judged("test", path, contents(path), lambda text: read_file_items(path, text)[0])
-
-
-@lru_cache(None)
 def test_of(path: str) -> Test:
     """The test of a file, as the machines run it."""
     return judged("test", path, contents(path), lambda text: test_of_text(path, text))
@@ -119,7 +111,7 @@ def test_of(path: str) -> Test:
 @lru_cache(None)
 def rows_allowed(name: str, path: str, is_opened: bool) -> frozenset[str]:
     """What the open reads get in the outcomes that come up on a machine. Each machine runs each test once."""
-    test = test_of(path).opened if is_opened else test_of(path)
+    test = test_of_text(PATTERN, pattern_of(path, True)) if is_opened else test_of(path)
     try:
         return rows_in(machine_of(name), test)
     except NotRun as error:
@@ -198,7 +190,7 @@ def difference(pair: Pair) -> str:
         seen = rows_shown(pair.model, pattern_of(pair.test, pair.is_opened), pair.by_program)
         wanted = rows_allowed(pair.machine, pair.test, pair.is_opened)
         return "; ".join(rows_told(words_beside(pair.machine), seen, wanted))
-    is_seen = is_observable(model_of(pair.model), case_of(pair.test))
+    is_seen = is_observable(model_of(pair.model), test_of(pair.test).case)
     is_wanted = is_allowed(pair.machine, pair.test)
     said = f"shown {'yes' if is_seen else 'no'}, {pair.machine} allows {'yes' if is_wanted else 'no'}"
     return "" if is_seen == is_wanted else said

@@ -1,10 +1,12 @@
 """Litmus tests as the machines run them: each core's micro-ops in program order, and the stated outcome. A listing and a pattern, whose
 reads may be open, are tests too. What a file says is read by the second implementation, and judged by nothing of it.
 """
+from dataclasses import dataclass
+from functools import cached_property
 from typing import Callable, Hashable, Iterable, Iterator, NamedTuple, TypeVar
 
 from tools.second.cases import Address as Place
-from tools.second.cases import Entry, OpItem, Page, Value
+from tools.second.cases import Case, OpItem, Page, Value
 from tools.second.listings import ENDING as LISTING
 from tools.second.listings import read_file_items
 from tools.second.tokens import tokens
@@ -57,15 +59,13 @@ class Op(NamedTuple):
         return self.kind != "Fence" and len(self.address) == 1
 
 
-class Test(NamedTuple):
-    """A test: its cores, its dependencies by places, and what it states."""
+@dataclass(frozen=True)
+class Test:
+    """A test: its cores, what else it says, and whether it may name page-table entries."""
 
     cores: tuple[tuple[Op, ...], ...]
-    dependencies: frozenset[tuple[str, int, int]]
-    initial: dict[Address, Value]
-    final: dict[Address, Value]
-    # whether it may name page-table entries
-    has_entries: bool = False
+    case: Case
+    has_entries: bool
 
     @property
     def ops(self) -> list[Op]:
@@ -73,31 +73,31 @@ class Test(NamedTuple):
         return sorted((op for core in self.cores for op in core), key=lambda op: op.place)
 
     @property
+    def dependencies(self) -> set[tuple[str, int, int]]:
+        """The kind and the places of each dependency."""
+        return self.case.dependencies
+
+    @property
     def has_locked(self) -> bool:
         """Whether an instruction has more than one micro-op, as a locked read-modify-write has."""
         return len({op.instruction for op in self.ops}) < len(self.ops)
 
-    @property
+    @cached_property
     def memory(self) -> Memory:
-        """The memory at the start: each address in use with its value. One that only a final value names keeps its own.
-        Without a line a page has 0, and an entry its own tag without marks."""
-        addresses = sorted({*(op.address for op in self.ops if op.kind != "Fence"), *self.final})
-        return tuple((it, self.initial.get(it, 0 if len(it) == 2 else Entry(it[0], 0, 0))) for it in addresses)
-
-    @property
-    def opened(self) -> "Test":
-        cores = tuple(tuple(op._replace(is_open=op.kind == "Read") for op in core) for core in self.cores)
-        return self._replace(cores=cores)
+        """The memory at the start: each address in use with its value. One that only a final value names keeps its own."""
+        places = [*(op.pa for op in self.case.ops if op.pa is not None), *self.case.final]
+        return tuple(sorted({address_of(it): self.case.initial_at(it) for it in places}.items()))
 
     def rows_shown_by(self, outcomes: Iterable[Outcome]) -> set[Reads]:
         """What the open reads get in those of the outcomes that are stated ones: by the values of the reads that are not open,
         and by the final values. Without open reads it is the one empty row, or none."""
         ops = [op for op in self.ops if op.kind == "Read"]
+        final = {address_of(it): value for it, value in self.case.final.items()}
         return {
             tuple(value for op, value in zip(ops, reads) if op.is_open)
             for reads, memory in outcomes
             if all(op.is_open or op.value == value for op, value in zip(ops, reads))
-            and self.final.items() <= dict(memory).items()
+            and final.items() <= dict(memory).items()
         }
 
 
@@ -117,9 +117,8 @@ def test_of_text(path: str, text: bytes) -> Test:
         if op.pa is not None and op.va is not None:
             here = here._replace(address=address_of(op.pa), virtual=address_of(op.va), value=op.value or 0)
         lines[op.core, op.thread].append(here)
-    initial, final = ({address_of(it): value for it, value in values.items()} for values in (case.initial, case.final))
     has_entries = not path.endswith(LISTING) and tokens(text)[0].piece == "Litmus2"
-    return Test(tuple(map(tuple, lines.values())), frozenset(case.dependencies), initial, final, has_entries)
+    return Test(tuple(map(tuple, lines.values())), case, has_entries)
 
 
 def address_of(place: Place) -> Address:
