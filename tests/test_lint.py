@@ -659,6 +659,7 @@ MEANT = (
     ("a predicate", "IsAnyLoad may be meant for IsAnyRead i", 'Axiom "x": forall microops "i", IsAnyLoad i.'),
     ("a word", "foral may be meant for forall", 'Axiom "x": foral microops "i", True.'),
     ("a sign", "& may be meant for /\\", 'Axiom "x": True & True.'),
+    ("a sign behind a name of 500,000 letters", "& may be meant for /\\", f'Axiom "x": {500_000 * "a"}& True.'),
     ("a text", '" may be meant for a text of printable ASCII that ends in its line', 'Axiom "\u00b5": True.'),
     ("a macro", "Read may be meant for ExpandMacro Reads i", 'Axiom "x": forall microops "i", ExpandMacro Read i.'),
     ("a macro that is below", "a macro expands only those above it, and this one is below: ExpandMacro Reads i",

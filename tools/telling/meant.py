@@ -9,6 +9,8 @@ from tools.telling.files import rows_of
 
 NAME = "[A-Za-z0-9_']+"
 NEAR = 0.75
+# what is longer is no slip of a word that there is
+LONGEST = 100
 SIGNS = {"&": "/\\", "|": "\\/", "!": "~", "#": "%", "'": '"', '"': "a text of printable ASCII that ends in its line"}
 # what is said of a name that there is
 SAID = {
@@ -35,13 +37,14 @@ def meant(top: str, word: str, data: bytes, place: str, model: bytes) -> Iterato
     """What may be meant where a fault of this word has this line and column; or how what has the name is written."""
     line, column = (int(it) for it in place.split(":"))
     text = [*data.decode("latin-1").split("\n"), ""][line - 1]
-    before = re.findall(rf"(?:{NAME}[ \t]+)*\Z", text[: column - 1])[0].split()
+    # in one pass, since a line may be as long as a file
+    before = re.split(r"[^A-Za-z0-9_' \t]", text[: column - 1])[-1].split()
     # a misspelt word of the language is read as a predicate, so that the fault is behind it; so are wrong arguments
     here = {"lexical": [text[column - 1 : column]], "syntax": before[-1:], "unbound": before[:1], "wrong-sort": before[:1]}
     for name in here.get(word, re.findall(rf"\A{NAME}", text[column - 1 :])):
         forms = forms_of(top, word, model)
         if name not in forms or word == "lexical":
-            near = get_close_matches(name, forms, 1, NEAR)
+            near = get_close_matches(name[:LONGEST], forms, 1, NEAR)
             yield from (f"pipecheck: {name} may be meant for {forms[it]}" for it in near)
         elif word != "syntax":
             yield f"pipecheck: {SAID.get(word, 'it takes')} {forms[name]}"
