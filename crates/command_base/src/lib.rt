@@ -41,9 +41,9 @@ mod feed_end;
 mod feeding;
 mod inputs;
 mod laws;
-mod line;
 mod listing_file;
 mod listing_parts;
+mod pieces;
 mod refusal;
 mod second_file;
 mod text_check;
@@ -59,8 +59,8 @@ pub use laws::{
     case_or_first_fault, listing_case_or_fault, no_first_fault, no_listing_fault, one_command,
     one_first_fault, one_listing_fault, one_model_and_case, one_model_and_listing,
 };
-pub use line::{LINE, join};
 pub use listing_file::ListingFile;
+pub use pieces::write_pieces;
 pub use refusal::{Refusal, place_fault};
 pub use second_file::{SecondFile, TestFile};
 pub use text_check::TextCheck;

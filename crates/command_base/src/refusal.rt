@@ -2,11 +2,10 @@ ghost use Rattle.std.specs.Prelude.{◌≡◌, ◌<◌, length};
 ghost use Rattle.pc_common.specs.Writes.{Writes};
 ghost use Rattle.command_base.specs.Endings.{IsPlaced, refusal_text};
 
-use super::line::{LINE, join};
+use super::pieces::write_pieces;
 use super::words::{fault_word, file_word};
-use arrayvec::ArrayVec;
 use itoa::Buffer;
-use pc_common::{Failed, InputFault, Place, Sink, line_col, write_all};
+use pc_common::{Failed, InputFault, Place, Sink, line_col};
 
 /// A fault of an input file with its line and column, both from 1.
 #[derive(Clone, Copy)]
@@ -36,15 +35,14 @@ pub fn place_fault(fault: InputFault, bytes: &[u8]) -> Refusal
     }
 }
 
-/// The line of a refusal, which always fits: 38 bytes of words at most, and two numbers of ten digits.
-fn refusal_line(refusal: &Refusal) -> ArrayVec<u8, LINE>
-    ensures { result.items ≡ refusal_text refusal.now }
+/// Writes the line of a refusal. Takes no memory.
+pub(crate) fn write_refusal<K: Sink>(out: &mut K, refusal: &Refusal) -> Result<(), Failed>
+    ensures { Writes K.view out.old out.new result (refusal_text refusal.now) }
 {
     let mut line = Buffer::new();
     let mut column = Buffer::new();
-    let mut text = ArrayVec::new();
-    join(
-        &mut text,
+    write_pieces(
+        out,
         &[
             b"refused ",
             file_word(refusal.fault.file),
@@ -56,13 +54,5 @@ fn refusal_line(refusal: &Refusal) -> ArrayVec<u8, LINE>
             column.format(refusal.column).as_bytes(),
             b"\n",
         ],
-    );
-    text
-}
-
-/// Writes the line of a refusal as one piece: the text of `refusal_line`, by one `write_all`.
-pub(crate) fn write_refusal<K: Sink>(out: &mut K, refusal: &Refusal) -> Result<(), Failed>
-    ensures { Writes K.view out.old out.new result (refusal_text refusal.now) }
-{
-    write_all(out, refusal_line(refusal).as_slice())
+    )
 }

@@ -1,4 +1,4 @@
-ghost use Rattle.std.specs.Prelude.{◌≡◌, ◌≤◌, length, map, All};
+ghost use Rattle.std.specs.Prelude.{◌≡◌, length, map, All};
 ghost use Rattle.std.specs.List.{flat_map};
 ghost use Rattle.pc_common.specs.Writes.{Writes};
 ghost use Rattle.pc_ground.specs.NodeForm.{names_of};
@@ -9,32 +9,20 @@ ghost use Rattle.core_command.specs.Found.{graph_text, tree_text, found_text, Is
 
 use super::certificates::{write_refuted, write_shown};
 use super::command::FoundCore;
-use arrayvec::ArrayVec;
 use axiom_core::{AxiomNumbers, Core, Shown};
-use command_base::{LINE, join};
+use command_base::write_pieces;
 use graph_text::Graph;
 use itoa::Buffer;
 use pc_common::{Failed, Sink, write_all};
 use pc_ground::Front;
 use refutation::Refutation;
 
-/// The line of a word and a number of twenty digits at most.
-fn line_of(word: &[u8], number: usize) -> ArrayVec<u8, LINE>
-    requires { length word.now ≤ 16 }
-    ensures { result.items ≡ numbered_line word.now number }
-{
-    let mut digits = Buffer::new();
-    let mut text = ArrayVec::new();
-    join(&mut text, &[word, digits.format(number).as_bytes(), b"\n"]);
-    text
-}
-
-/// Writes the line of a word and a number as one piece.
+/// Writes the line of a word and a number.
 fn write_line<K: Sink>(out: &mut K, word: &[u8], number: usize) -> Result<(), Failed>
-    requires { length word.now ≤ 16 }
     ensures { Writes K.view out.old out.new result (numbered_line word.now number) }
 {
-    write_all(out, line_of(word, number).as_slice())
+    let mut digits = Buffer::new();
+    write_pieces(out, &[word, digits.format(number).as_bytes(), b"\n"])
 }
 
 /// Writes the lines of the axioms.

@@ -2,7 +2,7 @@ ghost use Rattle.std.specs.Prelude.{◌≡◌, ◌↔◌, IsTrue, true, false};
 ghost use Rattle.lifter.specs.Kinds.{joined_kind, decider, neutral as neutral_of};
 
 /// Which constant a formula is in a test.
-#[derive(Clone, Copy, PartialEq, Eq)]
+#[derive(Clone, Copy)]
 pub enum FactKind {
     /// It is true in each world.
     True,

@@ -21,7 +21,7 @@ impl CaseLists {
         requires { AreLists self }
         ensures { IfOk result (λ c. c ≡ case_by self) }
     {
-        Case::full(
+        Case::new(
             alloc,
             self.ops,
             self.dependencies,

@@ -10,7 +10,7 @@ use pc_common::Memory;
 use std::alloc::Global;
 
 /// A fault of a list of tokens, at a token's place from 0.
-#[derive(Clone, Copy, Debug, PartialEq, Eq)]
+#[derive(Clone, Copy, PartialEq, Eq)]
 pub enum Fault {
     /// Some text begins with the tokens before this place, and none with those through it.
     /// The end of the tokens counts as one more token: there the place is their number.

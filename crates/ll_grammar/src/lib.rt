@@ -10,8 +10,8 @@
 //! ```rust
 //! // `Phrase` is the grammar of lists in brackets, over the tokens `Bracket`
 //! let classes = [Bracket::Open, Bracket::Word, Bracket::Close];
-//! assert_eq!(rt; first_fault(alloc, Phrase::Items, &classes)?, None);
-//! assert_eq!(rt; first_fault(alloc, Phrase::Items, &classes[..2])?, Some(Fault::Syntax(2)));
+//! assert!(rt; first_fault(alloc, Phrase::Items, &classes)?.is_none());
+//! assert!(rt; first_fault(alloc, Phrase::Items, &classes[..2])? == Some(Fault::Syntax(2)));
 //! ```
 //!
 //! The grammar is LL(1) (Lewis and Stearns, Syntax-Directed Transduction, 1968; Knuth, Top-Down Syntax

@@ -1,4 +1,4 @@
-ghost use Rattle.std.specs.Prelude.{◌≡◌, ◌<◌, ◌≤◌, [], ℕ, length, map, slice_get, IfOk, MatchOption};
+ghost use Rattle.std.specs.Prelude.{◌≡◌, ◌<◌, ◌≤◌, ℕ, length, map, slice_get, IfOk, MatchOption};
 ghost use Rattle.std.specs.Option.{option_map};
 ghost use Rattle.pc_common.specs.Case.{Case as PlainCase, cores_of};
 ghost use Rattle.pc_case.specs.Plain.{micro_op, dependency, stated_value, address_at, plain_value, expectation, case_of_parts};
@@ -19,7 +19,7 @@ use std::marker::Model;
 pub type Ops = Listed<Op>;
 
 /// What a test file says of its outcome.
-#[derive(Clone, Copy, Debug, PartialEq, Eq)]
+#[derive(Clone, Copy, PartialEq, Eq)]
 pub enum Expect {
     Permitted,
     Forbidden,
@@ -92,28 +92,9 @@ fn core_count(ops: &Ops) -> usize
 }
 
 impl Case {
-    /// The case of these micro-ops, in test order, with no dependency and no stated value.
-    /// Takes no memory.
-    pub fn new(ops: Ops, expect: Expect) -> Case
-        requires { AreMicroOps (map micro_op ops) }
-        ensures { result ≡ case_of_parts ops [] [] [] expect }
-    {
-        let cores = core_count(&ops);
-        let ops = ops.into_vec();
-        let alloc = *ops.allocator();
-        Case {
-            ops: Listed::from_vec(ops),
-            cores,
-            dependencies: DependencyTable::new(alloc),
-            initial: ValueTable::new(alloc),
-            final_values: ValueTable::new(alloc),
-            expect,
-        }
-    }
-
     /// The case of these micro-ops, dependencies, initial and final values, each in test order.
     /// The one error is that memory was refused.
-    pub fn full(
+    pub fn new(
         alloc: Global,
         ops: Ops,
         dependencies: Dependencies,

@@ -1,4 +1,4 @@
-ghost use Rattle.std.specs.Prelude.{◌≡◌, ◌||◌, false, List, [], IfOk, OnOk, ℕ, map, take};
+ghost use Rattle.std.specs.Prelude.{◌≡◌, ◌||◌, false, List, IfOk, OnOk, ℕ, map, take};
 ghost use Rattle.pc_case.specs.Plain.{dependency};
 ghost use Rattle.pc_common.specs.Dependencies.{depends_by};
 ghost use Rattle.pc_case.specs.Tables.{has_kind, goes_between};
@@ -113,16 +113,6 @@ fn copy_listed(alloc: Global, listed: &Dependencies) -> Result<Dependencies, Mem
 }
 
 impl DependencyTable {
-    /// No dependencies. Takes no memory.
-    pub(crate) fn new(alloc: Global) -> Self
-        ensures { result ≡ [] }
-    {
-        DependencyTable {
-            listed: Listed::new(alloc),
-            kinds: HashMap::new(alloc),
-        }
-    }
-
     /// The table of these dependencies.
     pub(crate) fn from_list(alloc: Global, listed: Dependencies) -> Result<DependencyTable, Memory>
         ensures { IfOk result (λ t. t ≡ map dependency listed) }

@@ -8,7 +8,9 @@
 //! let types = TypeNames::new(alloc);
 //! let mut ops = Ops::new(alloc);
 //! ops.push(Op { id, core: 1, thread: 0, types, access: Access::Fence, memop: None })?;
-//! let case = Case::new(ops, Expect::Permitted);
+//! let none = Dependencies::new(alloc);
+//! let (initial, last) = (StatedValues::new(alloc), StatedValues::new(alloc));
+//! let case = Case::new(alloc, ops, none, initial, last, Expect::Permitted)?;
 //! assert!(rt; case.find(id) == Some(0) && case.cores() == 2);
 //! ```
 //!

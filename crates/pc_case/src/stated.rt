@@ -1,4 +1,4 @@
-ghost use Rattle.std.specs.Prelude.{◌≡◌, ◌<◌, List, IfOk, OnOk, length, map, take, ◌++◌, ◌∷◌, [], slice_get, Some, None};
+ghost use Rattle.std.specs.Prelude.{◌≡◌, ◌<◌, List, IfOk, OnOk, length, map, take, ◌++◌, ◌∷◌, slice_get, Some, None};
 ghost use Rattle.std.specs.Option.{option_map};
 ghost use Rattle.pc_case.specs.Plain.{address_at, plain_value, stated_value};
 ghost use Rattle.pc_common.specs.Addresses.{stated_at};
@@ -50,16 +50,6 @@ impl Model for ValueTable {
 }
 
 impl ValueTable {
-    /// No values. Takes no memory.
-    pub(crate) fn new(alloc: Global) -> Self
-        ensures { result ≡ [] }
-    {
-        ValueTable {
-            listed: Listed::new(alloc),
-            by_address: HashMap::new(alloc),
-        }
-    }
-
     /// The table of these values.
     pub(crate) fn from_list(alloc: Global, listed: StatedValues) -> Result<ValueTable, Memory>
         requires { IsStatedOnce (map stated_value listed) }

@@ -1,3 +1,3 @@
 /// A call of the outside failed. The object that was called counted it.
-#[derive(Clone, Copy, Debug, PartialEq, Eq)]
+#[derive(Clone, Copy)]
 pub struct Failed;

@@ -2,7 +2,7 @@ use super::place::Place;
 use super::value::Value;
 
 /// Which of the input files a fault stands in.
-#[derive(Clone, Copy, Debug, PartialEq, Eq)]
+#[derive(Clone, Copy, PartialEq, Eq)]
 pub enum Which {
     Model,
     Test,

@@ -180,5 +180,5 @@ impl Pred {
 fn first_named(preds: &[Pred], name: &[u8]) -> Option<Pred>
     ensures { result ≡ find (λ p. same_name (pred_name p) name.now) preds.now }
 {
-    preds.iter().copied().find(|pred| pred.name() == name)
+    preds.iter().copied().find(|pred| pred.spelling() == name)
 }

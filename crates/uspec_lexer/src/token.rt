@@ -6,7 +6,7 @@ ghost use Rattle.uspec_lexer.specs.View.{plain};
 use pc_common::Place;
 
 /// What a token is.
-#[derive(Clone, Copy, Debug, PartialEq, Eq)]
+#[derive(Clone, Copy, PartialEq, Eq)]
 pub enum TokenKind {
     /// A letter, and then what the lexical grammar has in a name.
     Name,
@@ -19,7 +19,7 @@ pub enum TokenKind {
 }
 
 /// A token: its kind and its span, which begins at `at` and has the length of `piece`.
-#[derive(Clone, Copy, Debug)]
+#[derive(Clone, Copy)]
 pub struct Token<'a> {
     pub kind: TokenKind,
     pub at: Place,

@@ -180,7 +180,7 @@ pub(crate) fn case_of(alloc: Global, said: &Said<'_>) -> Result<Case, Memory>
     ensures { IfOk result (λ c. c ≡ case_of_spec (plain_said said.now)) }
 {
     let locations = Locations::from_said(alloc, said)?;
-    Case::full(
+    Case::new(
         alloc,
         ops(alloc, &locations, said)?,
         Listed::new(alloc),

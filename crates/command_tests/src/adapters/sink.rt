@@ -27,9 +27,9 @@ impl Write for Wire {
 }
 
 fn takes_four_bytes(sink: &mut RealSink<Wire>) -> bool {
-    sink.write(b"abc") == Ok(3)
-        && sink.write(b"de") == Ok(1)
-        && sink.write(b"") == Ok(0)
+    matches!(sink.write(b"abc"), Ok(3))
+        && matches!(sink.write(b"de"), Ok(1))
+        && matches!(sink.write(b""), Ok(0))
         && sink.write(b"e").is_err()
 }
 

@@ -492,9 +492,18 @@ fn has_no_core(case: &Case) -> bool {
 }
 
 #[test]
-fn a_case_without_micro_ops_uses_no_core(rt: HostRuntime) {
-    let case = Case::new(Ops::new(rt.alloc()), Expect::Permitted);
+fn a_case_without_micro_ops_uses_no_core(rt: HostRuntime) -> Result<(), Fail> {
+    let alloc = rt.alloc();
+    let case = Case::new(
+        alloc,
+        Ops::new(alloc),
+        Dependencies::new(alloc),
+        StatedValues::new(alloc),
+        StatedValues::new(alloc),
+        Expect::Permitted,
+    )?;
     assert!(rt; has_no_core(&case));
+    Ok(())
 }
 
 /// What the write of the case without a text touches.
@@ -635,14 +644,22 @@ const MADE_VALUES: &[Values] = &[
 
 #[test]
 fn a_case_of_micro_ops_alone_has_nothing_else(rt: HostRuntime) -> Result<(), Fail> {
-    let case = Case::new(made_ops(rt.alloc())?, Expect::Forbidden);
+    let alloc = rt.alloc();
+    let case = Case::new(
+        alloc,
+        made_ops(alloc)?,
+        Dependencies::new(alloc),
+        StatedValues::new(alloc),
+        StatedValues::new(alloc),
+        Expect::Forbidden,
+    )?;
     assert!(rt; is_of_made_ops(&case) && are_ends(&case, NO_ENDS) && are_values(&case, NO_VALUES));
     Ok(())
 }
 
 #[test]
 fn a_case_answers_what_it_is_made_of(rt: HostRuntime) -> Result<(), Fail> {
-    let case = Case::full(
+    let case = Case::new(
         rt.alloc(),
         made_ops(rt.alloc())?,
         made_dependencies(rt.alloc())?,

@@ -1,14 +1,14 @@
 use Rattle.x86_litmus.{specs.Plain.{plain_said}, proofs.CaseFacts.{are_micro_ops, initial_once, final_once}}
 use Rattle.x86_litmus.proofs.case_of.case_of.Goals as goal
 
-pub full-requires-clause-kept : goal.full-requires-clause-kept
-full-requires-clause-kept c =
+pub new-requires-2-clause-kept : goal.new-requires-2-clause-kept
+new-requires-2-clause-kept c =
     rw (c.in_ok-ops.ensures, c.in_ok-locations.ensures) (are_micro_ops (plain_said c.args.said.now) c.requires)
 
-pub full-requires-clause-initial_once : goal.full-requires-clause-initial_once
-full-requires-clause-initial_once c =
+pub new-requires-2-clause-initial_once : goal.new-requires-2-clause-initial_once
+new-requires-2-clause-initial_once c =
     rw (c.in_ok-stated_values.ensures, c.in_ok-locations.ensures) (initial_once (plain_said c.args.said.now) c.requires)
 
-pub full-requires-clause-final_once : goal.full-requires-clause-final_once
-full-requires-clause-final_once c =
+pub new-requires-2-clause-final_once : goal.new-requires-2-clause-final_once
+new-requires-2-clause-final_once c =
     rw (c.in_ok-stated_values-2.ensures, c.in_ok-locations.ensures) (final_once (plain_said c.args.said.now) c.requires)

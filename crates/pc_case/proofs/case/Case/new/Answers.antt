@@ -1,4 +1,4 @@
-use Rattle.pc_case.proofs.case.Case.full.Goals as goal
+use Rattle.pc_case.proofs.case.Case.new.Goals as goal
 
 pub invariant_of-result : goal.invariant_of-result
 invariant_of-result c = (
