@@ -7,7 +7,7 @@ from tools.lint.formulas import written
 from tools.second.cases import Case
 from tools.second.grounding import Literal
 from tools.second.lifted import ADDING, Fact, LiftedJudge, Said
-from tools.second.models import Binary, Edges, Expand, Formula, Model, NodeTerm, Nodes, Not, Number, Quantified, Static
+from tools.second.models import Atom, Atoms, Binary, Expand, Formula, Model, NodeTerm, Not, Number, Quantified, Static
 from tools.texts.naming import Fact as NamedFact
 from tools.texts.naming import Names
 from tools.texts.origins import Origin, Taken, first_place
@@ -199,9 +199,8 @@ class LiftedRefutation(Branches[Noted]):
         """A part of a fact: the member of a list at a place, the body of a quantifier at what has this name, or a side."""
         formula, origin, values = above.said.formula, above.origin, above.values
         if isinstance(part, Literal):
-            assert isinstance(formula, (Nodes, Edges))
-            label = getattr(formula.members[place], "label", "")
-            return above._replace(fact=part, origin=origin._replace(label=label))
+            assert isinstance(formula, Atoms)
+            return above._replace(fact=part, origin=origin._replace(label=formula.members[place].label))
         if isinstance(formula, Quantified):
             values = {**values, formula.name: name}
             taken = Taken(formula.name, formula.over_microops, part.env[formula.name])
@@ -259,6 +258,11 @@ class LiftedRefutation(Branches[Noted]):
             return self.names.node(self.rules.node(term, noted.said.env))
         return written(term, noted.values)
 
+    def atom(self, atom: Atom, noted: Noted) -> str:
+        """That a node is there, or that one is before another."""
+        start = self.term(atom.start, noted)
+        return f"{start} is there" if atom.end is None else f"{start} before {self.term(atom.end, noted)}"
+
     def formula(self, formula: Formula, noted: Noted, level: int = 0, is_last: bool = True) -> str:
         """A formula with the values of its variables in place of them, in brackets where something looser stands than may."""
         match formula:
@@ -275,11 +279,8 @@ class LiftedRefutation(Branches[Noted]):
                 return text if is_last else f"({text})"
             case Expand() | Static():
                 return written(formula, noted.values)
-            case Nodes(members):
-                parts = [f"{self.term(term, noted)} is there" for term in members[:MOST_MEMBERS]]
-            case Edges(members):
-                shown = members[:MOST_MEMBERS]
-                parts = [f"{self.term(edge.start, noted)} before {self.term(edge.end, noted)}" for edge in shown]
+            case Atoms(members):
+                parts = [self.atom(member, noted) for member in members[:MOST_MEMBERS]]
         more = [".."] if len(members) > MOST_MEMBERS else []
         return parts[0] if len(members) == 1 else f"[{'; '.join(parts + more)}]"
 

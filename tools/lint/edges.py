@@ -2,7 +2,7 @@
 from typing import Iterator, NamedTuple
 
 from tools.lint.slips import Slip, owner
-from tools.second.models import Binary, Edges, Expand, Formula, Model, Not, Quantified, Static, Word
+from tools.second.models import Atoms, Binary, Expand, Formula, Model, Not, Quantified, Static, Word
 from tools.second.scopes import below
 
 # the shipped test on which 'no write stands between' and 'each write is before or behind both' differ
@@ -31,7 +31,7 @@ def edge_slips(path: str, model: Model, query: Formula | None = None) -> Iterato
     lists = {one.edges for formula in asked for one in denials.of(formula, True)}
     for formula, name in texts:
         for part in below(formula):
-            if isinstance(part, Edges) and id(part) in lists:
+            if isinstance(part, Atoms) and id(part) in lists:
                 sentence = f"{ABSENCE}, {BETWEEN}" if id(part) in denials.between else ABSENCE
                 yield Slip(path, part.at, "no-order", name, sentence)
 
@@ -62,8 +62,9 @@ class Denials:
                 self.known[key] = self.of(macro.body, wanted)
             args = (arg.name if isinstance(arg, Word) else "" for arg in formula.args)
             return renamed(self.known[key], dict(zip((parameter.name for parameter in macro.parameters), args)))
-        if not wanted and isinstance(formula, Edges):
-            return frozenset(Denied(id(formula), edge.start.op.name, edge.end.op.name) for edge in formula.members)
+        if not wanted and isinstance(formula, Atoms):
+            edges = ((atom.start.op.name, atom.end.op.name) for atom in formula.members if atom.end is not None)
+            return frozenset(Denied(id(formula), start, end) for start, end in edges)
         if not wanted and isinstance(formula, Static) and formula.predicate.name == "IsAnyWrite":
             return frozenset(Denied(None, arg.name) for arg in formula.args if isinstance(arg, Word))
         return frozenset()

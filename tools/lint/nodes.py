@@ -12,7 +12,7 @@ from tools.lint.slips import Slip, TestFile
 from tools.lint.truth import OutOfSteps, Steps, Walk
 from tools.second.cases import Case, Op
 from tools.second.meaning import Environment, Guards, Node, value
-from tools.second.models import Axiom, Binary, EdgeTerm, Expand, Formula, Macro, Model, NodeTerm, Nodes, Not, Number
+from tools.second.models import Atom, Axiom, Binary, Expand, Formula, Macro, Model, NodeTerm, Not, Number
 from tools.second.models import Quantified, Static, Word
 from tools.second.scopes import nodes_of, parts
 from tools.texts.quoting import shown
@@ -230,15 +230,17 @@ class NodeUses(Walk):
             self.known[key] = self.use(*self.body_of(formula, env), wanted, in_premise)
         return self.known[key]
 
-    def use_of(self, member: NodeTerm | EdgeTerm, env: Environment, wanted: bool, in_premise: bool) -> Use:
+    def use_of(self, atom: Atom, env: Environment, wanted: bool, in_premise: bool) -> Use:
         """The use of one node, or of one edge, whose absence denies none of its nodes."""
-        if isinstance(member, EdgeTerm):
-            bits = self.bit_of(member.start, env) | self.bit_of(member.end, env)
-            return Use(given=bits, asked=bits) if wanted else Use(asked=bits, is_positive=False)
-        bit = self.bit_of(member, env)
+        bits = self.bit_of(atom.start, env)
+        if atom.end is not None:
+            bits |= self.bit_of(atom.end, env)
         if wanted:
-            return Use(given=bit, asked=bit)
-        return Use(asked=bit, bare=bit, is_positive=False) if in_premise else Use(asked=bit, denied=bit, is_positive=False)
+            return Use(given=bits, asked=bits)
+        missing = Use(asked=bits, is_positive=False)
+        if atom.end is not None:
+            return missing
+        return missing._replace(bare=bits) if in_premise else missing._replace(denied=bits)
 
     def bit_of(self, term: NodeTerm, env: Environment) -> int:
         """The bit of the node that a term names."""

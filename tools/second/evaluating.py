@@ -5,7 +5,7 @@ macros as bindings, and asks the world for nodes and order.
 """
 from tools.second.cases import Case
 from tools.second.meaning import Environment, Meaning, Node
-from tools.second.models import Binary, Edges, Expand, Formula, Model, Nodes, Not, Quantified, Static
+from tools.second.models import Atoms, Binary, Expand, Formula, Model, Not, Quantified, Static
 
 
 def false_axioms(model: Model, case: Case, nodes: list[Node], edges: list[tuple[Node, Node]]) -> list[str]:
@@ -46,9 +46,11 @@ class Evaluator(Meaning):
                 return all(truths) if formula.universal else any(truths)
             case Expand():
                 return self.holds(*self.body_of(formula, env))
-            case Nodes(members):
-                return all(self.node(term, env) in self.later for term in members)
-            case Edges(members):
-                return all(self.node(it.end, env) in self.later.get(self.node(it.start, env), ()) for it in members)
+            case Atoms(members):
+                return all(self.is_there(*self.ends(member, env)) for member in members)
             case Static():
                 return self.is_so(formula, env)
+
+    def is_there(self, start: Node, end: Node | None) -> bool:
+        """Whether the world has a node, or an edge."""
+        return start in self.later if end is None else end in self.later.get(start, ())

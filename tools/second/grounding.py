@@ -9,7 +9,7 @@ from typing import Callable, Union
 
 from tools.second.cases import Case
 from tools.second.meaning import Environment, Meaning, Node
-from tools.second.models import Binary, Edges, Expand, Formula, Model, Nodes, Not, Quantified, Static
+from tools.second.models import Binary, Expand, Formula, Model, Not, Quantified, Static
 
 
 @dataclass(frozen=True)
@@ -86,7 +86,7 @@ class Grounder(Meaning):
             return self.tree(*self.body_of(formula, env), wanted)
         if isinstance(formula, Static):
             return self.is_so(formula, env) is wanted
-        return self.join(wanted, [Literal(*ends, wanted) for ends in self.atoms(formula, env)])
+        return self.join(wanted, [Literal(*self.ends(member, env), wanted) for member in formula.members])
 
     def binary(self, formula: Binary, env: Environment, wanted: bool) -> Tree:
         """A connective; `p => q` is `~p \\/ q`."""
@@ -100,11 +100,6 @@ class Grounder(Meaning):
         """The body for each value of the variable."""
         members = [self.tree(formula.body, inside, wanted) for inside in self.open_values(formula, env)]
         return self.join(formula.universal is wanted, members)
-
-    def atoms(self, formula: Nodes | Edges, env: Environment) -> list[tuple[Node, Node | None]]:
-        if isinstance(formula, Nodes):
-            return [(self.node(term, env), None) for term in formula.members]
-        return [(self.node(term.start, env), self.node(term.end, env)) for term in formula.members]
 
 
 def nodes_of(tree: Tree) -> list[Node]:

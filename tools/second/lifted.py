@@ -12,7 +12,7 @@ from tools.second.cases import Case
 from tools.second.grounding import Literal
 from tools.second.judging import judge_lines, second_line
 from tools.second.meaning import Environment, Meaning, Node
-from tools.second.models import Binary, Edges, Expand, Formula, Model, Nodes, Not, Quantified, Static
+from tools.second.models import Atoms, Binary, Expand, Formula, Model, Not, Quantified, Static
 from tools.second.positions import is_decimal
 
 LIFTED = "lifted"
@@ -88,7 +88,7 @@ class LiftedJudge(Meaning):
             case "inst", is_so, Quantified(universal=universal) as formula if universal is is_so:
                 names = self.names(formula)
                 return self.member(fact, names.index(which)) if which in names else None
-            case "member", True, (Nodes(members) | Edges(members)):
+            case "member", True, Atoms(members):
                 return self.member(fact, int(which)) if is_decimal(which) and int(which) < len(members) else None
         return None
 
@@ -101,18 +101,15 @@ class LiftedJudge(Meaning):
         formula, env = fact.formula, fact.env
         if isinstance(formula, Quantified):
             return Said(fact.holds, formula.body, {**env, formula.name: place})
-        if isinstance(formula, Nodes):
-            return Literal(self.node(formula.members[place], env), None, fact.holds)
-        assert isinstance(formula, Edges)
-        edge = formula.members[place]
-        return Literal(self.node(edge.start, env), self.node(edge.end, env), fact.holds)
+        assert isinstance(formula, Atoms)
+        return Literal(*self.ends(formula.members[place], env), fact.holds)
 
     def members(self, fact: Said) -> int | None:
         """How many members there are where the fact is right if it is right of one; None where it says nothing such."""
         match fact.holds, fact.formula:
             case is_so, Quantified(universal=universal) as formula if universal is not is_so:
                 return len(self.values(formula))
-            case False, (Nodes(members) | Edges(members)):
+            case False, Atoms(members):
                 return len(members)
         return None
 

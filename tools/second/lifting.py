@@ -11,7 +11,7 @@ from tools.second.cases import Case
 from tools.second.grounding import Grounder, Literal, Tree, joined
 from tools.second.judging import second_line
 from tools.second.lifted import LIFTED, Fact, LiftedJudge, Said
-from tools.second.models import Binary, Edges, Expand, Model, Nodes, Not, Quantified, Static
+from tools.second.models import Atoms, Binary, Expand, Model, Not, Quantified, Static
 from tools.second.positions import Clash, Inner, Leaf, Positions
 
 
@@ -169,7 +169,7 @@ class Lifter:
                 ways = [("bind", "")]
             case Binary():
                 ways = [("left", ""), ("right", "")]
-            case Nodes(members) | Edges(members):
+            case Atoms(members):
                 ways = [("member", str(k)) for k in range(len(members))]
             case Quantified() as formula:
                 ways = [("inst", name) for name in self.rules.names(formula)]

@@ -7,7 +7,7 @@ a predicate with the value that decides all that stands below a quantifier.
 from typing import Iterator, NamedTuple
 
 from tools.second.cases import Case
-from tools.second.models import Arg, Binary, Expand, Formula, Model, NodeTerm, Not, Number, Quantified, Static, Word
+from tools.second.models import Arg, Atom, Binary, Expand, Formula, Model, NodeTerm, Not, Number, Quantified, Static, Word
 from tools.second.predicates import PLAIN, PREDICATES
 
 # a micro-op by its place in test order, a core, a stage number
@@ -104,3 +104,7 @@ class Meaning:
         op = env[term.op.name]
         core = self.case.ops[op].core if term.core is None else value(term.core, env)
         return op, core, self.stages[term.stage.name]
+
+    def ends(self, atom: Atom, env: Environment) -> tuple[Node, Node | None]:
+        """The node of an atom, with None, or both ends of its edge."""
+        return self.node(atom.start, env), None if atom.end is None else self.node(atom.end, env)

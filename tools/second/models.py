@@ -44,11 +44,11 @@ class NodeTerm(NamedTuple):
     stage: Word
 
 
-class EdgeTerm(NamedTuple):
-    """An edge from one node to another. Its label is kept for readers alone; colours are not kept."""
+class Atom(NamedTuple):
+    """That a node is there, or with an end that it happens before that. The label is kept for readers alone; colours are not kept."""
 
     start: NodeTerm
-    end: NodeTerm
+    end: NodeTerm | None = None
     label: str = ""
 
 
@@ -82,18 +82,10 @@ class Static:
 
 
 @dataclass(frozen=True)
-class Nodes:
-    """Each of these nodes is in the world; `at` is the place of the first word."""
+class Atoms:
+    """Each of these nodes is in the world, or each of these edges is; `at` is the place of the first word."""
 
-    members: tuple[NodeTerm, ...]
-    at: int = 0
-
-
-@dataclass(frozen=True)
-class Edges:
-    """Of each of these edges the start happens before the end; `at` is the place of the first word."""
-
-    members: tuple[EdgeTerm, ...]
+    members: tuple[Atom, ...]
     at: int = 0
 
 
@@ -104,7 +96,7 @@ class Expand:
     args: tuple[Arg, ...]
 
 
-Formula = Union[Not, Binary, Quantified, Static, Nodes, Edges, Expand]
+Formula = Union[Not, Binary, Quantified, Static, Atoms, Expand]
 
 
 class Stage(NamedTuple):
@@ -259,10 +251,9 @@ class ModelReader(Reader):
         first = self.take()
         if first.piece == "ExpandMacro":
             return Expand(first.at, self.name(), self.args())
+        read = self.node_atom if first.piece.startswith("Node") else self.edge_atom
         is_list = first.piece in ("AddEdges", "EdgesExist", "NodesExist")
-        if first.piece.startswith("Node"):
-            return Nodes(tuple(self.within("[", "]", self.node)) if is_list else (self.node(),), first.at)
-        return Edges(tuple(self.within("[", "]", self.edge)) if is_list else (self.edge(),), first.at)
+        return Atoms(tuple(self.within("[", "]", read)) if is_list else (read(),), first.at)
 
     def args(self) -> tuple[Arg, ...]:
         found = []
@@ -291,7 +282,10 @@ class ModelReader(Reader):
         self.expect(")")
         return NodeTerm(op, core, stage)
 
-    def edge(self) -> EdgeTerm:
+    def node_atom(self) -> Atom:
+        return Atom(self.node())
+
+    def edge_atom(self) -> Atom:
         """Two nodes, perhaps a label, perhaps a colour after it."""
         self.expect("(")
         start = self.node()
@@ -299,4 +293,4 @@ class ModelReader(Reader):
         end = self.node()
         texts = [self.expect_kind("text").content for _ in range(2) if self.passes(",")]
         self.expect(")")
-        return EdgeTerm(start, end, texts[0] if texts else "")
+        return Atom(start, end, texts[0] if texts else "")

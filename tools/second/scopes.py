@@ -6,7 +6,7 @@ is expanded. So names are judged in the axioms, with each macro followed into it
 from typing import Iterator
 
 from tools.second.cases import GREATEST_CORE
-from tools.second.models import Arg, Axiom, Binary, Edges, Expand, Formula, Macro, Model, ModelReader, NodeTerm, Nodes, Not
+from tools.second.models import Arg, Atoms, Axiom, Binary, Expand, Formula, Macro, Model, ModelReader, NodeTerm, Not
 from tools.second.models import Number, Quantified, Static
 from tools.second.predicates import CORE, MICROOP, PLAIN, PREDICATES
 from tools.second.tokens import Fault, tokens
@@ -70,9 +70,8 @@ def below(formula: Formula, macros: dict[str, Macro] | None = None, expanded: se
 
 def nodes_of(formula: Formula) -> list[NodeTerm]:
     """The nodes of a list, as they stand in it."""
-    if isinstance(formula, Edges):
-        return [node for edge in formula.members for node in (edge.start, edge.end)]
-    return list(formula.members) if isinstance(formula, Nodes) else []
+    members = formula.members if isinstance(formula, Atoms) else ()
+    return [node for atom in members for node in (atom.start, atom.end) if node is not None]
 
 
 def judge_macros(model: Model) -> None:
@@ -127,7 +126,7 @@ def measured(formula: Formula, known: dict[str, tuple[int, int]]) -> tuple[int, 
     """The size and the height of a formula, where those of the macros are known."""
     if isinstance(formula, Static):
         return 1, 0
-    if isinstance(formula, (Nodes, Edges)):
+    if isinstance(formula, Atoms):
         return 1 + len(formula.members), 0
     below = [known[formula.macro.name]] if isinstance(formula, Expand) else [measured(part, known) for part in parts(formula)]
     return 1 + sum(size for size, _ in below), 1 + max(height for _, height in below)

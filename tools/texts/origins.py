@@ -5,7 +5,7 @@ from typing import NamedTuple
 from tools.second.cases import Case
 from tools.second.grounding import Grounder, Group, Literal, Tree, nested
 from tools.second.meaning import Environment
-from tools.second.models import Axiom, Binary, Edges, Expand, Formula, Model, Nodes, Not, Quantified, Static
+from tools.second.models import Atoms, Axiom, Binary, Expand, Formula, Model, Not, Quantified, Static
 from tools.second.positions import Positions
 from tools.second.scopes import below
 
@@ -80,7 +80,7 @@ class TracingGrounder(Grounder):
 
     def tree(self, formula: Formula, env: Environment, wanted: bool) -> Tree:
         """The tree of a formula, or of its negation where it is not wanted."""
-        self.steps += STEPS_OF_LITERAL * len(formula.members) if isinstance(formula, (Nodes, Edges)) else 1
+        self.steps += STEPS_OF_LITERAL * len(formula.members) if isinstance(formula, Atoms) else 1
         if self.steps > MOST_STEPS:
             raise TooLarge("the axioms ask too much of so many micro-ops; guards in front of quantifiers make it less")
         if isinstance(formula, Expand):
@@ -88,10 +88,9 @@ class TracingGrounder(Grounder):
             found = super().tree(formula, env, wanted)
             self.expanded.pop()
             return found
-        if isinstance(formula, (Nodes, Edges)):
-            labels = [getattr(member, "label", "") for member in formula.members]
-            literals = [Literal(*ends, wanted) for ends in self.atoms(formula, env)]
-            return self.join(wanted, [self.note(one, formula, label) for one, label in zip(literals, labels)])
+        if isinstance(formula, Atoms):
+            members = [(Literal(*self.ends(member, env), wanted), member.label) for member in formula.members]
+            return self.join(wanted, [self.note(literal, formula, label) for literal, label in members])
         return self.note(super().tree(formula, env, wanted), formula)
 
     def quantified(self, formula: Quantified, env: Environment, wanted: bool) -> Tree:
