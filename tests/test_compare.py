@@ -23,8 +23,7 @@ from tests.cases import (
 from tools.agree.machines import tso
 from tools.listings import compare
 from tools.agree.litmus import address_of, read_file
-from tools.second.cases import OpItem
-from tools.second.listings import read_file_items
+from tools.second.listings import read_file_case
 from tools.second.scopes import read_model
 
 BUFFERS = f"{TOP}/examples/models/tso-buffer.uspec"
@@ -373,7 +372,7 @@ def log_of_tso(path: str) -> str:
     """What herd would write of a shipped listing, whose states have all registers and locations, as the machine of x86-TSO
     finds them."""
     text = read(path)
-    ops = [it for it in read_file_items(path, text.encode())[1] if isinstance(it, OpItem)]
+    ops = read_file_case(path, text.encode()).op_items
     loads = [f"{it.op.core}:{load[1]}" for it in ops if (load := re.compile(r"MOV *(\w+)").match(text, it.at))]
     names = {address_of(it.op.pa): it.op.pa for it in ops if it.op.pa is not None}
     states = set()

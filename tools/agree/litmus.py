@@ -6,9 +6,9 @@ from functools import cached_property
 from typing import Callable, Hashable, Iterable, Iterator, NamedTuple, TypeVar
 
 from tools.second.cases import Address as Place
-from tools.second.cases import Case, OpItem, Page, Value
+from tools.second.cases import Case, Page, Value
 from tools.second.listings import ENDING as LISTING
-from tools.second.listings import read_file_items
+from tools.second.listings import read_file_case
 from tools.second.tokens import tokens
 from tools.texts.contents import contents
 
@@ -108,8 +108,8 @@ def read_file(path: str) -> Test:
 
 def test_of_text(path: str, text: bytes) -> Test:
     """The test of a text that stands in a file of this name."""
-    case, items = read_file_items(path, text)
-    open_places = [item.is_open for item in items if isinstance(item, OpItem)]
+    case = read_file_case(path, text)
+    open_places = [item.is_open for item in case.op_items]
     threads = sorted({(op.core, op.thread) for op in case.ops})
     lines: dict[tuple[int, int], list[Op]] = {thread: [] for thread in threads}
     for place, op in sorted(enumerate(case.ops), key=lambda placed: (placed[1].g, placed[1].n)):

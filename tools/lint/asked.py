@@ -63,7 +63,7 @@ def not_asked(model_path: str, asked: Asked, test: TestFile) -> Iterator[Slip]:
     of_reads = {"SameData", "DataFromInitialStateAtPA"}
     of_entries = {"MapsTagOf", "MarkedAccessed", "MarkedDirty"}
     of_state = {"Init": "DataFromInitialStateAtPA", "Final": "DataFromFinalStateAtPA"}
-    for item in test.items:
+    for item in test.case.items:
         if isinstance(item, OpItem):
             for name, at in item.types_at:
                 if name not in asked.types:

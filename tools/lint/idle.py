@@ -45,7 +45,7 @@ class Idle:
 
     def false_slips(self, test: TestFile) -> Iterator[Slip]:
         """Axioms that are false of a test by what it says. A read that a pattern leaves open says nothing."""
-        if any(item.is_open for item in test.op_items):
+        if any(item.is_open for item in test.case.op_items):
             return
         truth = Truth(self.model, self.guards, test.case, self.steps[False])
         with suppress(OutOfSteps):

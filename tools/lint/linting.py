@@ -18,7 +18,7 @@ from tools.lint.parts import Parts
 from tools.lint.slips import QueryFile, Slip, TestFile, allowed, counted, grouped, unless_meant
 from tools.lint.stages import query_stage_slips, stage_slips
 from tools.lint.words import constant_slips, mixed_slips, swallowed_slips, title_slips, unexpanded_slips
-from tools.second.listings import read_file_items
+from tools.second.listings import read_file_case
 from tools.second.models import Axiom, Model
 from tools.second.queries import read_query
 from tools.second.tokens import tokens
@@ -26,7 +26,7 @@ from tools.second.tokens import tokens
 
 def read_test(path: str, text: bytes) -> TestFile:
     """The test of a text, which may raise a fault."""
-    return TestFile(path, text, *read_file_items(path, text))
+    return TestFile(path, text, read_file_case(path, text))
 
 
 def read_query_file(path: str, text: bytes, model: Model) -> QueryFile:

@@ -10,7 +10,7 @@ from tools.second.cases import Address, EntryAddress, OpItem, Page, Value, Value
 def order_slips(test: TestFile) -> Iterator[Slip]:
     """Micro-ops that stand behind a later one of their core and thread."""
     last: dict[tuple[int, int], int] = {}
-    for item in test.op_items:
+    for item in test.case.op_items:
         here = item.op.core, item.op.thread
         if item.op.g < last.get(here, 0):
             behind = f"instruction {item.op.g} stands behind instruction {last[here]} of its core"
@@ -24,7 +24,7 @@ def thread_slips(test: TestFile) -> Iterator[Slip]:
     threads: dict[int, dict[int, OpItem]] = {}
     # the cores with several, in the order in which their second threads stand
     several: dict[int, OpItem] = {}
-    for item in test.op_items:
+    for item in test.case.op_items:
         known = threads.setdefault(item.op.core, {})
         known.setdefault(item.op.thread, item)
         if len(known) == 2:
@@ -37,7 +37,7 @@ def thread_slips(test: TestFile) -> Iterator[Slip]:
 
 def fence_slips(test: TestFile) -> Iterator[Slip]:
     """Fences with no access before or behind them on their core."""
-    for item in test.op_items:
+    for item in test.case.op_items:
         if item.op.access == "Fence":
             accesses = [op.g for op in test.case.ops if op.access != "Fence" and op.core == item.op.core]
             sides = [] if any(g < item.op.g for g in accesses) else ["before"]
@@ -52,7 +52,7 @@ def value_slips(test: TestFile) -> Iterator[Slip]:
     writes = {(op.pa, op.value) for op in test.case.ops if op.access == "Write"}
     pages = {pa for pa, _ in writes}
     seen: set[tuple[Address, Value]] = set()
-    for item in test.items:
+    for item in test.case.items:
         if isinstance(item, OpItem) and item.op.pa is not None and item.op.value is not None:
             pa, value = item.op.pa, item.op.value
             if item.op.access == "Write":
@@ -73,7 +73,7 @@ def value_slips(test: TestFile) -> Iterator[Slip]:
 def initial_write_slips(test: TestFile) -> Iterator[Slip]:
     """Writes of the value at the start, where no earlier write of the core made it another one."""
     changed: set[tuple[Address, int, int]] = set()
-    for item in sorted(test.op_items, key=lambda one: (one.op.g, one.op.n)):
+    for item in sorted(test.case.op_items, key=lambda one: (one.op.g, one.op.n)):
         op = item.op
         if op.access != "Write" or op.pa is None:
             continue
@@ -87,7 +87,7 @@ def initial_write_slips(test: TestFile) -> Iterator[Slip]:
 def address_slips(test: TestFile) -> Iterator[Slip]:
     """Values that are stated of an address that no micro-op has. What `final-unwritten` says is not said again."""
     addresses = {op.pa for op in test.case.ops}
-    for item in test.items:
+    for item in test.case.items:
         if isinstance(item, ValueItem) and item.pa not in addresses:
             if item.word == "Init" or test.case.initial_at(item.pa) == item.value:
                 yield Slip(test.path, item.at, "nobody's", "", f"no micro-op is at {item.pa}, so that no axiom can see this")
@@ -97,7 +97,7 @@ def page_slips(test: TestFile) -> Iterator[Slip]:
     """One virtual address with two physical ones, where the test does not speak of the page-table entry of its tag."""
     first: dict[Page, Page] = {}
     spoken = {*test.case.initial, *(op.pa for op in test.case.ops)}
-    for item in test.op_items:
+    for item in test.case.op_items:
         if item.op.va is not None and isinstance(item.op.pa, Page):
             known = first.setdefault(item.op.va, item.op.pa)
             if known != item.op.pa and EntryAddress(item.op.va.tag) not in spoken:

@@ -3,7 +3,7 @@ import re
 from dataclasses import replace
 from typing import Callable, Iterable, Iterator, NamedTuple
 
-from tools.second.cases import Case, Item, OpItem
+from tools.second.cases import Case
 from tools.second.models import Axiom, Formula, Macro
 
 ALLOWS = re.compile(rb"(?:%|//|\(\*)[ \t]*Lint allows:[ \t]*([a-z'-]+)([^\r\n*]*)", re.IGNORECASE)
@@ -30,12 +30,6 @@ class TestFile(NamedTuple):
     path: str
     text: bytes
     case: Case
-    items: list[Item]
-
-    @property
-    def op_items(self) -> list[OpItem]:
-        """The micro-ops as they are written."""
-        return [item for item in self.items if isinstance(item, OpItem)]
 
 
 class QueryFile(NamedTuple):

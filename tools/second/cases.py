@@ -81,6 +81,11 @@ class Case:
     items: "list[Item]" = field(default_factory=list, compare=False, repr=False)
 
     @property
+    def op_items(self) -> "list[OpItem]":
+        """The micro-ops as they are written."""
+        return [item for item in self.items if isinstance(item, OpItem)]
+
+    @property
     def cores(self) -> range:
         """The cores from 0 to the greatest one in use."""
         return range(1 + max((op.core for op in self.ops), default=-1))

@@ -67,13 +67,11 @@ class Listing(NamedTuple):
         return [(column, one) for column, cells in columns for one in cells if one is not None]
 
 
-def read_file_items(path: str, data: bytes) -> tuple[Case, list[Item]]:
-    """The case of a file, with its items: a listing, a pattern or a test, as its ending says. Open reads have 0."""
+def read_file_case(path: str, data: bytes) -> Case:
+    """The case of a file, which is a listing, a pattern or a test, as its ending says. Open reads have 0."""
     if path.endswith(PATTERN_ENDING):
-        case = read_pattern(data).case
-    else:
-        case = read_listing(data) if path.endswith(ENDING) else read_case(data)
-    return case, case.items
+        return read_pattern(data).case
+    return read_listing(data) if path.endswith(ENDING) else read_case(data)
 
 
 def read_listing(data: bytes) -> Case:

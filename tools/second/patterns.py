@@ -3,7 +3,7 @@ reads may get; and the sweep, which says of each combination whether it is obser
 from dataclasses import dataclass, replace
 from itertools import product
 
-from tools.second.cases import Address, Case, Entry, OpItem, Value, read_case
+from tools.second.cases import Address, Case, Entry, Value, read_case
 from tools.second.models import Model
 from tools.second.searching import is_observable
 from tools.second.tokens import Fault
@@ -44,7 +44,7 @@ def written_at(case: Case, address: Address) -> list[Value]:
 def read_pattern(data: bytes) -> Pattern:
     """The pattern that the bytes say, or their first fault. That it has too many rows is judged last."""
     case = read_case(data, takes_open=True)
-    ops = [item for item in case.items if isinstance(item, OpItem)]
+    ops = case.op_items
     opens = [place for place, item in enumerate(ops) if item.is_open]
     choices = [values_at(case, place) for place in opens]
     count = 1

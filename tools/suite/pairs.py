@@ -203,11 +203,11 @@ def has_locked(test: File) -> bool:
         return has_locked(test.asked_of)
     if test.text is None or LOCKED.encode("ascii") not in test.text:
         return False
-    from tools.second.listings import read_file_items
+    from tools.second.listings import read_file_case
     from tools.second.tokens import Fault
 
     try:
-        case, _ = read_file_items(test.path, test.text)
+        case = read_file_case(test.path, test.text)
     except Fault:
         return False
     return any(LOCKED in op.types for op in case.ops)

@@ -1,10 +1,9 @@
 """How micro-ops, addresses, nodes and places of a model are written where a certificate is explained; and the names of addresses
 that the comments of a test give: `% x = 1` or `% x is 1` behind the micro-op of its line."""
 import re
-from typing import Iterable
 
-from tools.second.cases import Address, Case, Item, OpItem, Page
-from tools.second.listings import ENDING, read_file_items
+from tools.second.cases import Address, Case, Page
+from tools.second.listings import ENDING, read_file_case
 from tools.second.meaning import Node
 from tools.second.models import Axiom, Model
 from tools.second.positions import NodeNames
@@ -96,17 +95,17 @@ class Names:
 
 def case_with_names(path: str, text: bytes) -> Case:
     """What a test says, with the names of its addresses. A listing has names of its own."""
-    case, items = read_file_items(path, text)
+    case = read_file_case(path, text)
     if not path.endswith(ENDING):
-        case.names = names_in(text, items)
+        case.names = names_in(text, case)
     return case
 
 
-def names_in(text: bytes, items: Iterable[Item]) -> dict[Address, str]:
+def names_in(text: bytes, case: Case) -> dict[Address, str]:
     """Each address that the comments have one name for, which they have for no other one."""
     found: dict[Address, set[str]] = {}
-    for item in items:
-        if isinstance(item, OpItem) and item.op.pa is not None:
+    for item in case.op_items:
+        if item.op.pa is not None:
             comment = NAMED.match(text, item.at)
             if comment is not None and int(comment[2]) == item.op.value:
                 found.setdefault(item.op.pa, set()).add(comment[1].decode("ascii"))
