@@ -43,7 +43,8 @@ from typing import NamedTuple
 
 from counting import TOP, Misused, chosen
 
-PROGRAM = "pipecheck_cli"
+from tools.build.making import PROGRAM, proving, toolchain, uses_of
+
 # what a crate is proved of, and what is tried on it
 PROVED, TRIED = ("src", "specs", "proofs"), "must-fail"
 SLOWEST = 10
@@ -111,11 +112,6 @@ class Processes:
                 os.killpg(pid, signal.SIGKILL)
 
 
-def kit() -> str:
-    page = subprocess.run(["rt", "doc"], capture_output=True, text=True, check=True).stdout
-    return os.path.dirname(page.strip())
-
-
 def hash_files(folder: str, parts: tuple[str, ...], onto: str = "") -> str:
     """A hash of the names and bytes of the files in these folders of a folder."""
     made = hashlib.sha256(onto.encode())
@@ -139,9 +135,8 @@ class Tree:
     functions: dict[str, float] = field(default_factory=dict)
 
     def __post_init__(self) -> None:
-        # what each crate stands on, in the order of crates.txt, the lowest first
-        rows = (line.split("#")[0].partition(":") for line in Path(self.folder, "crates.txt").read_text("utf-8").splitlines())
-        self.below = {head.split()[0]: names.split() for head, colon, names in rows if colon}
+        # in the order of crates.txt, the lowest first
+        self.below = uses_of(self.folder)
         for name, stands_on in self.below.items():
             onto = " ".join(self.sums.get(it, it) for it in stands_on)
             self.sums[name] = hash_files(f"{self.folder}/crates/{name}", PROVED, onto)
@@ -192,13 +187,8 @@ class Tree:
     def words(self, call: str, name: str, *more: str) -> list[str]:
         """A call of the prover on a crate, over the libraries that are kept."""
         root = "src/main.rt" if self.is_program(name) else "src/lib.rt"
-        words = [f"{self.tools}/bin/rattle", call, "--crate-name", name, root, "-L", f"dependency={self.tools}/rlibs"]
-        for it in ["std", *self.below[name]]:
-            words += ["--extern", f"{it}={self.rlib(it) if it in self.below else f'{self.tools}/rlibs/{it}.rlib'}"]
-        for it in self.closure(name):
-            words += ["-L", f"dependency={os.path.dirname(self.rlib(it))}"]
-        words += ["--antt-project", f"{self.tools}/rattle/logic/antt-project.json"]
-        return [*words, "--logic-built", f"{self.tools}/logic_built", "--jobs", "1", *more]
+        folders = {it: os.path.dirname(self.rlib(it)) for it in self.closure(name)}
+        return [*proving(self.tools, call, name, root, self.below[name], folders), "--jobs", "1", *more]
 
 
 def copy_crate(tree: Tree, name: str, to: str) -> str:
@@ -394,7 +384,7 @@ def lay_out(commit: str, kept: str) -> Tree:
         archive = subprocess.run(["git", "-C", TOP, "archive", commit, "crates.txt", "crates"], capture_output=True, check=True)
         subprocess.run(["tar", "-x", "-C", f"{folder}.new"], input=archive.stdout, check=True)
         os.rename(f"{folder}.new", folder)
-    return Tree(folder, f"{kept}/{commit}.kept", kit())
+    return Tree(folder, f"{kept}/{commit}.kept", toolchain())
 
 
 def numbers(cost: Cost) -> str:
@@ -440,7 +430,7 @@ def answer(asked: argparse.Namespace, kept: str) -> int:
         trees = [lay_out(it, f"{kept}/{'gate' if is_gate else 'build'}") for it in dict.fromkeys(commits)]
         shown, titles = [trees[0], trees[-1]], [it[:8] for it in commits]
     else:
-        trees = shown = [Tree(TOP, kept, kit())]
+        trees = shown = [Tree(TOP, kept, toolchain())]
         titles = ["the gate"]
     chosen("crate", asked.names, [it for tree in trees for it in tree.below])
     names = asked.names or list(dict.fromkeys(it for tree in trees for it in (tree.below if is_gate else of_program(tree))))

@@ -21,6 +21,8 @@ from typing import TypeVar
 Asked = TypeVar("Asked")
 Answer = TypeVar("Answer")
 TOP = os.path.dirname(os.path.dirname(os.path.realpath(__file__)))
+# what these scripts take of tools/
+sys.path.append(TOP)
 MIB = 1 << 20
 # of the shipped files of a kind
 ENDINGS = {"models": ".uspec", "tests": ".test", "queries": ".query"}
@@ -82,14 +84,10 @@ class Timed:
 @cache
 def program() -> str:
     """The program that PIPECHECK names, or the proved one, which is made first, unless PIPECHECK_PROVED says the other one."""
-    named = os.environ.get("PIPECHECK")
-    if named:
-        return named
-    its = {"PIPECHECK_PROVED": "yes", **os.environ}
-    done = subprocess.run([f"{TOP}/script/standing"], env=its, stdin=subprocess.DEVNULL, stdout=subprocess.PIPE, check=False)
-    if done.returncode != 0:
-        raise SystemExit(f"there is no program to call in {TOP}")
-    return os.fsdecode(done.stdout).rstrip("\n").partition(" ")[2]
+    from tools.standing import tested
+
+    os.environ.setdefault("PIPECHECK_PROVED", "yes")
+    return tested(TOP).path
 
 
 def at_once(ask: Callable[[Asked], Answer], asked: Iterable[Asked], processors: int | None = os.cpu_count()) -> list[Answer]:

@@ -7,7 +7,7 @@ import re
 import subprocess
 import tempfile
 
-from tools.build.making import PROGRAM, Failed, Job, linking, toolchain, uses_of
+from tools.build.making import PROGRAM, Failed, Job, linking, proving, toolchain, uses_of
 
 # The last line of a proof that rests on nothing but the toolchain's own libraries, and takes no handle.
 PROVED = re.compile(
@@ -92,12 +92,8 @@ class Proved(Job):
         """The call that proves and compiles the program, in its folder of the checkout. The other repository has the crates
         that it stands on, as `rt ci` left them."""
         places = {name: f"{self.room}/libraries/crates/{name}/out/rlib" for name in self.crates if name != PROGRAM}
-        words = [f"{tools}/bin/rattle", "build", "--crate-name", PROGRAM, "src/main.rt", "-L", f"dependency={tools}/rlibs"]
-        for name in ["std", *uses_of(f"{self.room}/checkout").get(PROGRAM, [])]:
-            words += ["--extern", f"{name}={places.get(name, f'{tools}/rlibs')}/{name}.rlib"]
-        for place in places.values():
-            words += ["-L", f"dependency={place}"]
-        words += ["--antt-project", f"{tools}/rattle/logic/antt-project.json", "--logic-built", f"{tools}/logic_built"]
+        uses = uses_of(f"{self.room}/checkout").get(PROGRAM, [])
+        words = proving(tools, "build", PROGRAM, "src/main.rt", uses, places)
         words += ["--jobs", str(processors()), "--links", f"{PROGRAM}=", "--toolchain", f"{tools}/toolchain"]
         return [*words, "--backend", "llvm", "-o", f"out/{PROGRAM}.o"]
 

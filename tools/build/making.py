@@ -9,7 +9,7 @@ import subprocess
 import tempfile
 import time
 from dataclasses import dataclass, field
-from typing import IO, ClassVar
+from typing import IO, ClassVar, Mapping
 
 from tools import TOP
 from tools.build.processes import SIGNALS, end_group
@@ -56,6 +56,16 @@ def uses_of(checkout: str) -> dict[str, list[str]]:
 def toolchain() -> str:
     """The folder of the toolchain; `rt` prints the path of a page in it."""
     return os.path.dirname(asked("rt doc || :") or "")
+
+
+def proving(tools: str, call: str, name: str, root: str, uses: list[str], folders: Mapping[str, str]) -> list[str]:
+    """The call of the prover on a crate with this root file, over libraries in these folders, or else in the toolchain."""
+    words = [f"{tools}/bin/rattle", call, "--crate-name", name, root, "-L", f"dependency={tools}/rlibs"]
+    for it in ["std", *uses]:
+        words += ["--extern", f"{it}={folders.get(it, f'{tools}/rlibs')}/{it}.rlib"]
+    for folder in folders.values():
+        words += ["-L", f"dependency={folder}"]
+    return [*words, "--antt-project", f"{tools}/rattle/logic/antt-project.json", "--logic-built", f"{tools}/logic_built"]
 
 
 def linking(tools: str, compiled: str, program: str) -> list[str]:
