@@ -11,7 +11,7 @@ from tools.second.cases import Case
 from tools.second.grounding import Grounder, Literal, Tree, joined
 from tools.second.judging import second_line
 from tools.second.lifted import LIFTED, Fact, LiftedJudge, Said
-from tools.second.models import Atoms, Binary, Expand, Model, Not, Quantified, Static
+from tools.second.models import Atoms, Binary, Expand, Model, Not, Quantified
 from tools.second.positions import Clash, Inner, Leaf, Positions
 
 
