@@ -5,12 +5,14 @@ from __future__ import annotations
 
 import os
 import re
+import shutil
 from glob import glob
 
 from tests.cases import TOP, Cases, Done, read, run, tool, write
 from tests.test_pages import shown_by
 
-from tools.pages.antt import Fault, first_sentence, read_file
+from tools.ending import Refusal
+from tools.pages.antt import first_sentence, read_file
 from tools.pages.crates import crates_of
 from tools.pages.definitions import Meaning, Top, by_crate, only
 from tools.second.predicates import PREDICATES
@@ -163,8 +165,7 @@ class Scripts(Cases):
     def setUp(self) -> None:
         super().setUp()
         self.work = os.path.realpath(self.work)
-        for name in ("__init__.py", "__main__.py", *(f"pages/{os.path.basename(it)}" for it in glob(f"{TOP}/tools/pages/*.py"))):
-            self.put(f"tools/{name}", read(f"tools/{name}"))
+        shutil.copytree(f"{TOP}/tools", f"{self.work}/tools")
         for path, text in TREE.items():
             self.put(path, text)
 
@@ -234,7 +235,7 @@ class Scripts(Cases):
         self.same("what is renewed of it", read(page), TREE["PAGE.md"].replace("old\n", NAMES))
         self.same("a page that is not stale", all(it.is_there() for it in shown_by(page, self.work, self.work)))
         self.put("PAGE.md", "nothing\n")
-        with self.case("a page that shows nothing"), self.assertRaisesRegex(Fault, "^PAGE.md shows nothing$"):
+        with self.case("a page that shows nothing"), self.assertRaisesRegex(Refusal, "^PAGE.md shows nothing$"):
             shown_by(page, self.work, self.work)
 
     def test_mutual(self) -> None:

@@ -16,13 +16,12 @@ from typing import Any, Sequence
 
 from tests.cases import (
     MP, NO_TEST, TOP, UNWRITTEN, VERDICT, Cases, Done, as_a_job, call, command, commands_without, missing, pipecheck, program,
-    read, replaced, run, status_of, told, within, without_output, without_proofs, write
+    read, replaced, run, status_of, told, tool_entry, within, without_output, without_proofs, write
 )
 from tests.test_answers import ABSENT, EITHER, NEVER, ONE, SIGNS, SPOILT, WALK
 
-from tools.explain import judged
+import tools.explain.judged
 from tools.texts import origins
-from tools.second.standard_output import status_of as status_of_main
 
 SB = ("examples/store-buffer.uspec", "examples/sb.test")
 SB_GRAPH = "examples/certificates/sb.txt"
@@ -37,7 +36,7 @@ PLAIN: dict[str, str | None] = {"COLUMNS": None, "PIPECHECK": None}
 def explained(*files: str, width: int = 0, **how: Any) -> Done:
     """What `pipecheck explain` says of these files in lines of so many columns, as it calls Python for that."""
     env = {**PLAIN, "COLUMNS": str(width) if width else None}
-    return call(lambda: status_of_main(judged.main, sys.argv[1:]), ["judged", program(), *files], env=env, **how)
+    return call(tool_entry("explain.judged"), ["judged", program(), *files], env=env, **how)
 
 
 def shown(*words: str) -> str:

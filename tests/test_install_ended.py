@@ -21,8 +21,9 @@ from typing import Callable, Iterable, NamedTuple
 from tests.cases import Cases, write
 
 # where these stand tests.cases says
+from tools.ending import Refusal
 from tools.install import installer
-from tools.install.installer import FORMER, LINKS, Refused
+from tools.install.installer import FORMER, LINKS
 
 EVENTS = {"os.chmod", "os.mkdir", "os.remove", "os.rename", "os.rmdir", "os.symlink"}
 TAKE_ROOM = {"open", "os.mkdir", "os.symlink"}
@@ -75,7 +76,7 @@ class Room(NamedTuple):
 
     def uninstall(self) -> None:
         """An uninstall; that there is nothing is no fault."""
-        with suppress(Refused):
+        with suppress(Refusal):
             installer.Installation(self.prefix).uninstall()
 
     def install_former(self) -> None:

@@ -15,10 +15,10 @@ from typing import Any, Callable, Iterable, Sequence
 
 from tests.cases import (
     NO_MODEL, NO_TEST, TOP, UNWRITTEN, Cases, Done, call, commands_without, missing, pipecheck, program, read, replaced, run,
-    told, without_output, without_proofs, write
+    told, tool_entry, without_output, without_proofs, write
 )
 
-from tools.lint import main as lint
+import tools.lint.main
 from tools.lint import idle as linting_idle
 from tools.lint import nodes as linting_nodes
 from tools.lint.linting import Linter, read_query_file, read_test
@@ -29,7 +29,7 @@ from tools.second.models import Model
 from tools.second.predicates import MICROOP, PREDICATES, of_pair
 from tools.second.scopes import read_model
 from tools.telling.refusals import expected, refusal_of
-from tools.second.standard_output import DEPTH, status_of
+from tools.second.standard_output import DEPTH
 
 # what is right: each micro-op passes S and then T, in program order, and a read takes its value at S
 RIGHT = """StageName 0 "S".
@@ -524,7 +524,7 @@ sys.setrecursionlimit(DEPTH)
 
 def answer(words: Sequence[str], folder: str) -> Done:
     """What lint says in this folder, as lint.py does where it is called."""
-    return call(lambda: status_of(lint.main, sys.argv[1:]), ["lint.py", *words], cwd=folder)
+    return call(tool_entry("lint.main"), ["lint.py", *words], cwd=folder)
 
 
 def without_marks(text: str) -> tuple[str, list[str]]:
@@ -739,7 +739,7 @@ class Command(Cases):
             if self.is_wanted(f"expected: {name}"):
                 path = write(f"{self.work}/syntax.uspec", f"{text}\n")
                 refused = run([program(), "check", path, "good.test"], cwd=self.work)
-                lines = "\n".join(expected("model", path, refusal_of(refused.out)))
+                lines = "\n".join(expected("model", f"{text}\n".encode(), refusal_of(refused.out)))
                 self.judge(f"expected: {name}", Done(refused.status, lines, refused.err), 3, f"pipecheck: {said}")
 
     def test_meant(self) -> None:

@@ -2,14 +2,13 @@
 from __future__ import annotations
 
 import os
-import sys
 
 from tests.cases import (
-    NO_MODEL, TOP, USAGE, Beside, Cases, call, command, meant, missing, pipecheck, program, replaced, told, write
+    NO_MODEL, TOP, USAGE, Beside, Cases, call, command, meant, missing, pipecheck, program, replaced, told, tool_entry,
+    write
 )
 
 from tools.mend import main as mend
-from tools.second.standard_output import status_of as status_of_main
 
 # an own pipeline: a read of a cache is not done again where a newer value came before an older read
 REPLAY = """% Memory model: sc
@@ -111,10 +110,10 @@ class Orders(Cases):
                     self.assertEqual((done.status, done.err), (0, ""))
                     self.assertEqual([it for it in lines if it not in done.out.splitlines()], [])
 
-    def mends(self) -> int:
+    def mends(self) -> object:
         """mend.py of a checkout in the folder of these cases."""
         with replaced(mend, "TOP", self.work):
-            return status_of_main(mend.main, sys.argv[1:])
+            return tool_entry("mend.main")()
 
 
 ALONE = """The micro-ops of the test:
@@ -151,6 +150,8 @@ class Script(Cases):
             ("a file that is not there", [*script, none, MP], 4, "", missing(none), {}),
             ("a program that is none", [*script, IN_ORDER, MP], 125, "", "pipecheck: no checker: /bin/true\n",
              {"PIPECHECK": "/bin/true"}),
+            ("a limit of memory that is no number", [*script, IN_ORDER, MP], 125, "",
+             "pipecheck: PIPECHECK_MEMORY is a number of MiB, or none, and not lots\n", {"PIPECHECK_MEMORY": "lots"}),
             ("too few words", [f"{TOP}/pipecheck", "mend", IN_ORDER], 2, USAGE, meant("mend"), {}),
         )
         for name, words, status, out, err, env in rows:

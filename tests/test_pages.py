@@ -16,7 +16,7 @@ from typing import Callable, Iterator
 
 from tests.cases import PATIENCE, TOP, Cases, pipecheck, read, run, without_proofs, write
 
-from tools.pages.antt import Fault
+from tools.ending import Refusal
 from tools.pages.renew import MADE_PART, written_by
 
 # in a page that shows something
@@ -72,7 +72,7 @@ def shown_by(page: str, folder: str, top: str = TOP) -> list[Shown]:
             command, shown = block[2:].split("\n", 1)
             found.append(Shown(f"{name} shows {command}", partial(printed, command, folder), pattern_of(shown)))
     if not found:
-        raise Fault(f"{name} shows nothing")
+        raise Refusal(f"{name} shows nothing")
     return found
 
 

@@ -325,7 +325,7 @@ class Typed(Cases):
             for word, refusal in refusals.items():
                 if refusal:
                     with self.case(f"test86: what to do about {shown(first, cell, below)}, by {word}"):
-                        said = "".join(left_out(TOP, path, read_refusal(refusal)))
+                        said = "".join(left_out(TOP, listing, read_refusal(refusal)))
                         self.assertEqual(said[: len("pipecheck: " + sentence)], sentence and f"pipecheck: {sentence}")
 
     def test_header(self) -> None:
@@ -334,10 +334,10 @@ class Typed(Cases):
             ("X86 l\nPodWR Fre\n{ }", 'a line with `"` in its first byte, one with `=` or `{` is expected'),
             ("X86 l\n", "a line that begins with `{` is expected"),
         ):
-            path = self.put(f"{above}\n{' P0 ;' if '{' in above else ''}".encode("ascii"))
-            refused = run([program(), "check86", MODELS[0], path]).out
+            listing = f"{above}\n{' P0 ;' if '{' in above else ''}".encode("ascii")
+            refused = run([program(), "check86", MODELS[0], self.put(listing)]).out
             self.same(f"test86: what is expected in the header {shown(above)}",
-                      [*expected("listing", path, read_refusal(refused))], [f"pipecheck: {said}"])
+                      [*expected("listing", listing, read_refusal(refused))], [f"pipecheck: {said}"])
 
     def test_the_script(self) -> None:
         sides = "X86 l\n{ }\n P0 ;\n MFENCE ;\nforall (x=1)\n"

@@ -3,7 +3,7 @@ import os
 import sys
 from functools import partial
 from importlib import import_module
-from typing import Callable
+from typing import Any, Callable
 
 TOOLS = {
     "agree": "tools.agree.main",
@@ -34,14 +34,19 @@ TRACELESS = ("agree", "crates", "definitions", "renew", "table")
 
 
 def called(word: str, *words: str) -> int | None:
-    """What the `main` of a tool answers to the other words. Where it has `SIGNALS` one of these may end it."""
+    """What the `main` of a tool answers to the other words. Where it has a `TELLER`, why there is no answer is told in its name;
+    where it has `SIGNALS` one of these may end it."""
     sys.dont_write_bytecode |= word in TRACELESS
     module = import_module(TOOLS[word])
-    call: Callable[[], int | None] = partial(module.main, *words)
+    call: Callable[[], Any] = partial(module.main, *words)
+    if hasattr(module, "TELLER"):
+        from tools.telling.ended import status_told
+
+        call = partial(status_told, call, words, module.TELLER, 1 if word in PLAIN else 125)
     if word not in PLAIN:
         from tools.second.standard_output import status_of
 
-        call = partial(status_of, module.main, words)
+        call = partial(status_of, call)
     status: int | None = module.SIGNALS.status_or_end(call) if hasattr(module, "SIGNALS") else call()
     return status
 

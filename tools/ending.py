@@ -1,5 +1,5 @@
-"""How signals end a tool: what it began is ended, its temporary files go, and then it ends by the signal itself, so that its
-caller sees which.
+"""How a tool ends without an answer: by an exception that says what is told; or by a signal. Then what it began is ended, its
+temporary files go, and it ends by the signal itself, so that its caller sees which.
 
 Python handles signals in the main thread, between any two steps of it. So what has to be done whole is held there. And a signal
 that comes just before that thread waits is not seen until it waits no more; and where Python itself calls something, as when an
@@ -21,6 +21,27 @@ ENDING = (signal.SIGHUP, signal.SIGINT, signal.SIGQUIT, signal.SIGTERM)
 PATIENCE, MOMENT = 1.0, 0.1
 
 Given = TypeVar("Given")
+
+
+class Ended(Exception):
+    """There is no answer: the status, the lines that are told on standard error, and what standard output gets."""
+
+    def __init__(self, status: int, *told: str, text: str = "") -> None:
+        super().__init__(*told)
+        self.status = status
+        self.told = told
+        self.text = text
+
+
+class Refusal(Exception):
+    """There is no answer, and why. It is told by the tool, or by another teller that is named."""
+
+    def __init__(self, sentence: str, teller: str = "") -> None:
+        super().__init__(sentence)
+        self.teller = teller
+
+    def line(self, tool: str) -> str:
+        return f"{self.teller or tool}: {self}"
 
 
 class Interrupted(BaseException):

@@ -10,7 +10,7 @@ from typing import Callable, NamedTuple
 from tools import TOP
 from tools.agree.litmus import NotRun, Test, test_of_text
 from tools.agree.verdicts import rows_in, runs
-from tools.agree.working import Unusable
+from tools.ending import Ended, Refusal
 from tools.lint.asked import Asked
 from tools.second.models import Model
 from tools.second.patterns import ENDING as PATTERN
@@ -22,7 +22,6 @@ from tools.standing import standing
 from tools.suite.allowing import Machines
 from tools.suite.pairs import rows_found, rows_told, words_beside
 from tools.suite.programs import command_of, held
-from tools.suite.telling import Refusal
 from tools.telling.files import sentence
 from tools.texts.contents import Read, contents, read_within
 from tools.texts.memory_models import comments, memory_model_of
@@ -31,12 +30,9 @@ from tools.texts.quoting import line_of, shown
 READ = re.compile(rb"(\(\s*Read\b[^()]*(?:\([^()]*\)\s*){2})\(\s*(?:Data|Maps)[^()]*\)")
 OPEN = rb"\1(Data Any)"
 LOCKED = "Locked"
+REFUSED = 3
 # a module of the folder of machines, or of one in it
 NAME = re.compile(r"[a-z0-9][a-z0-9_-]*(?:\.[a-z0-9][a-z0-9_-]*)*")
-
-
-class Refused(Exception):
-    """A file has a fault: the line that tells it."""
 
 
 class Pair(NamedTuple):
@@ -77,13 +73,14 @@ def judged(kind: str, path: str, text: bytes, read: Callable[[bytes], Read]) -> 
     try:
         return read_within(read, text)
     except Fault as fault:
-        raise Refused(line_of(path, text, fault.place, f"{fault.word}: {sentence(TOP, kind, fault.word)}")) from fault
+        line = line_of(path, text, fault.place, f"{fault.word}: {sentence(TOP, kind, fault.word)}")
+        raise Ended(REFUSED, text=f"{line}\n") from fault
 
 
 def named_memory_model(path: str) -> str:
     named = memory_model_of(contents(path))
     if not named.name:
-        raise Unusable(f"{shown(path)}: {named.fault}")
+        raise Refusal(f"{shown(path)}: {named.fault}")
     return named.name
 
 
@@ -92,7 +89,7 @@ def machine_of(name: str) -> ModuleType:
     machines = Machines(TOP)
     if NAME.fullmatch(name) is None or not os.path.isfile(os.path.join(machines.folder, *name.split(".")) + ".py"):
         known = ", ".join(sorted(machines.names))
-        raise Unusable(f"there is no machine of the memory model {shown(name)}; there are {known}")
+        raise Refusal(f"there is no machine of the memory model {shown(name)}; there are {known}")
     return import_module(f"tools.agree.machines.{name}")
 
 
@@ -115,7 +112,7 @@ def rows_allowed(name: str, path: str, is_opened: bool) -> frozenset[str]:
     try:
         return rows_in(machine_of(name), test)
     except NotRun as error:
-        raise Unusable(f"{shown(path)}: the machine {name} does not run it: {error}") from error
+        raise Refusal(f"{shown(path)}: the machine {name} does not run it: {error}") from error
 
 
 def is_allowed(name: str, path: str) -> bool:
@@ -152,7 +149,7 @@ def rows_shown(model: str, pattern: bytes, by_program: bool) -> frozenset[str]:
     found = rows_found(done.stdout)
     if done.returncode != 0 or found.fault:
         said = f"status {done.returncode} {done.stdout.decode('utf-8', 'replace')[:100]!r}"
-        raise Unusable(f"{shown(model)}: the program swept no pattern: {said}")
+        raise Refusal(f"{shown(model)}: the program swept no pattern: {said}")
     return found.rows
 
 
@@ -176,11 +173,9 @@ def sweeper() -> Sweeper:
         done = subprocess.run([*found.words, "sweep", "", ""], stdout=subprocess.DEVNULL, check=False)
         if done.returncode != 2:
             return found
-    except Refusal as refusal:
-        raise Unusable(str(refusal)) from refusal
     except (OSError, SystemExit) as error:
         if value:
-            raise Unusable(f"PIPECHECK: {error}") from error
+            raise Refusal(f"PIPECHECK: {error}") from error
     return Sweeper([], "")
 
 

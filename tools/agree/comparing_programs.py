@@ -19,7 +19,8 @@ from tools import TOP
 from tools.agree.comparing import Other, asks_for_locked, machine_of, rows_shown, sweeper, types_asked
 from tools.agree.programs import Program, named, random_program, smallest
 from tools.agree.small_programs import Family, Shape
-from tools.agree.working import Counts, Unusable, answers, tell
+from tools.agree.working import Counts, answers, tell
+from tools.ending import Refusal
 from tools.second.patterns import MOST_ROWS
 from tools.suite.files import digest_of
 from tools.suite.keeping import keep_whole, whole_text
@@ -99,14 +100,14 @@ class Comparison(NamedTuple):
     def judge_usable(self) -> None:
         """Programs have no page tables."""
         if not self.other.is_model and getattr(machine_of(self.other.name), "TAKES_ENTRIES", False):
-            raise Unusable(f"{shown(self.model)}: no programs are made for a machine with page tables")
+            raise Refusal(f"{shown(self.model)}: no programs are made for a machine with page tables")
 
     def difference(self, program: Program) -> str:
         """How the two differ on a program; nothing where they do not."""
         if not any(op.reads for op in program.ops):
             return ""
         if program.rows > MOST_ROWS:
-            raise Unusable(f"its reads may get values in {program.rows} ways, and a sweep takes {MOST_ROWS}")
+            raise Refusal(f"its reads may get values in {program.rows} ways, and a sweep takes {MOST_ROWS}")
         pattern = program.pattern.encode("ascii")
         seen, wanted = rows_shown(self.model, pattern, self.by_program), self.other.rows_of(pattern, self.by_program)
         return "; ".join(rows_told(self.other.words(self.model), seen, wanted))

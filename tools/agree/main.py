@@ -27,21 +27,21 @@ if signal.getsignal(signal.SIGINT) is not signal.SIG_IGN:
     signal.signal(signal.SIGINT, signal.SIG_DFL)
 
 from tools import TOP
-from tools.agree.comparing import Other, Pair, Refused, difference, is_allowed, machine_of, model_of, named_memory_model
+from tools.agree.comparing import Other, Pair, difference, is_allowed, machine_of, model_of, named_memory_model
 from tools.agree.comparing import pattern_of, sweeper, take, test_of
 from tools.agree.comparing_programs import Comparison
 from tools.agree.small_programs import MOST_ACCESSES, MOST_LOCATIONS, Shape, shapes_of
 from tools.agree.table import TABLE, rows_of
-from tools.agree.working import ENDING, Counts, Unusable, answers, tell
-from tools.ending import SIGNALS
+from tools.agree.working import ENDING, Counts, answers, tell
+from tools.ending import SIGNALS, Ended, Refusal
 from tools.second.patterns import ENDING as PATTERN
-from tools.second.standard_output import FAILED, UNREAD
+from tools.second.standard_output import UNREAD
 from tools.suite.words import folder_of
 from tools.texts.contents import Unreadable
 from tools.texts.quoting import quoted, shown
 
+TELLER = "agree"
 KINDS = ("tests/*.test", "x86/*.litmus", "locked/*.test", "translation/*.test", "patterns/*.pattern")
-REFUSED = 3
 # how many addresses small programs have where nothing is said
 LOCATIONS = 2
 # the folder of comparisons that were ended, in that of the suite; no model has such a name
@@ -59,7 +59,7 @@ def shipped_test(name: str) -> str:
     file = name if name.endswith(".litmus") else name + ".test"
     for path in shipped(os.path.join("*", glob_escape(file))):
         return path
-    raise Unusable(f"a table has a row of {shown(file)}, and there is no such test")
+    raise Refusal(f"a table has a row of {shown(file)}, and there is no such test")
 
 
 def pairs_of(models: list[tuple[str, str]], tests: list[str], options: Namespace, by_program: bool) -> list[Pair]:
@@ -131,7 +131,7 @@ def compare_programs(options: Namespace, by_program: bool, counts: Counts) -> No
 def compare(options: Namespace) -> int:
     for path in options.files:
         if os.path.exists(path) and not os.path.isfile(path) and not os.path.isdir(path):
-            raise Unusable(f"{shown(path)} is no file, and each one is read more than once")
+            raise Refusal(f"{shown(path)} is no file, and each one is read more than once")
     by_program = not options.reading and bool(sweeper().words)
     counts, is_swept = Counts(), True
     if options.random or options.all:
@@ -144,7 +144,7 @@ def compare(options: Namespace) -> int:
         is_swept = any(pair.is_swept for pair in pairs)
         counts["differ"] += 0 if given else compare_table()
         if not counts.total():
-            raise Unusable("nothing is compared: no model here takes one of these tests with a machine that runs it")
+            raise Refusal("nothing is compared: no model here takes one of these tests with a machine that runs it")
         left_out = sorted({*given} - {pair.test for pair in pairs})
         if left_out:
             more = f" and {len(left_out) - 1} more" if left_out[1:] else ""
@@ -165,15 +165,8 @@ def main(*words: str) -> int:
         reader.error(fault)
     try:
         return compare(options)
-    except Refused as refused:
-        print(refused)
-        return REFUSED
     except Unreadable as unreadable:
-        tell(str(unreadable))
-        return UNREAD
-    except Unusable as unusable:
-        tell(str(unusable))
-        return FAILED
+        raise Ended(UNREAD, f"{TELLER}: {unreadable}") from unreadable
 
 
 def parser() -> ArgumentParser:

@@ -15,7 +15,7 @@ from multiprocessing import active_children, get_context, parent_process
 from threading import Thread
 from typing import Callable, Generator, Generic, Iterable, NamedTuple, TypeVar
 
-from tools.ending import SIGNALS
+from tools.ending import SIGNALS, Refusal
 from tools.second.standard_output import FAILED
 
 # a reader that goes away asks for an end, too
@@ -27,10 +27,6 @@ DIFFER = 1
 
 Task = TypeVar("Task")
 Answer = TypeVar("Answer")
-
-
-class Unusable(Exception):
-    """Nothing can be compared, and why."""
 
 
 class Failed(NamedTuple):
@@ -74,8 +70,8 @@ class Attempt(Generic[Task, Answer]):
     def __call__(self, task: Task) -> Answer | Failed:
         try:
             return self.judge(task)
-        except Unusable as error:
-            return Failed(str(error))
+        except Refusal as refusal:
+            return Failed(str(refusal))
         except MemoryError:
             return Failed("memory was refused")
         except Exception:  # pylint: disable=broad-exception-caught
@@ -101,7 +97,7 @@ def answers(judge: Callable[[Task], Answer], tasks: Iterable[Task]) -> Generator
     except BaseException as error:
         end_workers()
         if isinstance(error, BrokenProcessPool):
-            raise Unusable("a process that compares was ended from outside, as where memory ends") from error
+            raise Refusal("a process that compares was ended from outside, as where memory ends") from error
         raise
     finally:
         pool.shutdown(cancel_futures=True)

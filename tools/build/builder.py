@@ -19,14 +19,10 @@ from tools.build.make_unproved import Unproved
 from tools.build.making import OUT, Failed, NothingMade, asked, crates, put, put_over, say
 from tools.build.processes import SIGNALS
 from tools.build.versions import origin, program_line
-from tools.ending import Interrupted
+from tools.ending import Interrupted, Refusal
 from tools.telling.forms import Forms
 
 MAKERS = {it.kind: it for it in (Proved, Unproved)}
-
-
-class Hindered(Exception):
-    """Nothing is done, and why."""
 
 
 def stands(kind: str) -> bool:
@@ -43,7 +39,7 @@ def refuse(what: str) -> None:
     else:
         os.makedirs(OUT, exist_ok=True)
         return
-    raise Hindered(f"the program is not {what}, {missing}")
+    raise Refusal(f"the program is not {what}, {missing}")
 
 
 @contextlib.contextmanager
@@ -61,10 +57,10 @@ def make_kind(kind: str) -> None:
             return
         tool, sources = asked("rt --version"), asked("hash_sources")
         if sources is None or tool is None:
-            raise Hindered("the sources that the program is made of could not be read, or what rt says of itself")
+            raise Refusal("the sources that the program is made of could not be read, or what rt says of itself")
         MAKERS[kind](sources, tool.partition("\n")[0], crates()).make()
         if not stands(kind):
-            raise Hindered("a source changed while the program was made, so call again")
+            raise Refusal("a source changed while the program was made, so call again")
 
 
 def make(*words: str) -> None:
@@ -100,7 +96,7 @@ def clean() -> None:
     proved again; so the one without its proofs is of no use."""
     if not stands("pipecheck"):
         what = "of these sources is not proved" if stands("unproved") else "is not built from these sources"
-        raise Hindered(f"the program {what}, so that what proves it is kept")
+        raise Refusal(f"the program {what}, so that what proves it is kept")
     with in_turn("pipecheck"), in_turn("unproved"):
         for crate in os.scandir(f"{TOP}/crates"):
             folder = f"{crate.path}/out"
@@ -125,7 +121,7 @@ def main(work: str, *words: str) -> int:
     try:
         works: dict[str, Callable[..., None]] = {"make": make, "prove": prove, "clean": clean, "version": version}
         works[work](*words)
-    except (Hindered, Failed) as problem:
+    except (Refusal, Failed) as problem:
         say(str(problem))
         return 1
     except (OSError, shutil.Error) as error:

@@ -9,25 +9,25 @@ import shutil
 import tempfile
 from contextlib import contextmanager, suppress
 from pathlib import Path
-from typing import Iterator, Sequence
+from typing import Iterable, Iterator, Sequence
 
 from tools import TOP
-from tools.ending import SIGNALS
+from tools.ending import SIGNALS, Ended, Refusal
 from tools.explain.files import explain_files, parts_of
 from tools.second.listings import ENDING
 from tools.second.queries import InModel
 from tools.second.scopes import read_model
-from tools.second.standard_output import FAILED, UNREAD, UNWRITTEN
+from tools.second.standard_output import UNREAD, UNWRITTEN
 from tools.second.tokens import Fault
 from tools.suite.calling import Calls, limited, memory_limit, said_by
 from tools.suite.programs import command_of
-from tools.suite.telling import Refusal, tell
 from tools.telling.files import unreadable
 from tools.telling.refusals import place_of, refusal_of, told
 from tools.texts.answers import AnswerRefused, is_answer, read_answer
 from tools.texts.origins import TooLarge
 from tools.texts.quoting import line_and_column, quoted
 
+TELLER = "pipecheck"
 # how long a model, a test or a query may be, and a certificate
 MOST, MOST_OF_CERTIFICATE = 1_048_576, 67_108_864
 REFUSED, CERTIFICATE_REFUSED = 3, 6
@@ -36,25 +36,10 @@ ONLY_ASK = f"only an answer of ask has a query: {FORM}"
 VERDICTS = {0: b"verified observable", 1: b"verified unobservable"}
 
 
-class Unexplained(Exception):
-    """Nothing is explained: the status, the lines on standard error, and what is written to standard output."""
-
-    def __init__(self, status: int, said: Sequence[str] = (), text: bytes = b"") -> None:
-        super().__init__(status)
-        self.status = status
-        self.said = said
-        self.text = text
-
-
-def failed(sentence: str) -> Unexplained:
-    """That there is no verdict to explain, and why."""
-    return Unexplained(FAILED, [f"pipecheck: {sentence}"])
-
-
-def unkept(what: str) -> Unexplained:
+def unkept(what: str) -> Refusal:
     """That a text could not be kept, so that it is judged and explained by nobody."""
     folder = quoted(os.environ.get("TMPDIR") or "/tmp")
-    return failed(f"{what} could not be kept in {folder}, the folder for temporary files; TMPDIR names another one")
+    return Refusal(f"{what} could not be kept in {folder}, the folder for temporary files; TMPDIR names another one")
 
 
 @contextmanager
@@ -72,20 +57,22 @@ def folder_for_texts() -> tempfile.TemporaryDirectory[str]:
         return tempfile.TemporaryDirectory(dir=os.environ.get("TMPDIR") or "/tmp")
 
 
-def meaning(status: int, text: bytes, word: str, paths: Sequence[str]) -> Unexplained:
+def meaning(status: int, text: bytes, word: str, paths: Sequence[str]) -> Ended | Refusal:
     """What a call that gave no verdict wrote, and what its status means, of the files as the words name them."""
-    said: list[str] = []
+    if status == UNWRITTEN:
+        return unkept(f"the answer of {word}")
+    said: Iterable[str] = ()
     if status == REFUSED and all(map(os.path.isfile, paths)):
-        said = list(told(TOP, text.decode("ascii", "replace"), [word, *paths]))
+        said = told(TOP, text.decode("ascii", "replace"), [word, *paths])
     elif status == UNREAD:
-        said = list(unreadable(paths))
-    return unkept(f"the answer of {word}") if status == UNWRITTEN else Unexplained(status, said, text)
+        said = unreadable(paths)
+    return Ended(status, *said, text=text.decode("ascii", "surrogateescape"))
 
 
 def look_for_verdict(status: int, text: bytes) -> None:
     """Tells where a judge's answer is no verdict that agrees with its status, as that of any command need not be one."""
     if not text.startswith(VERDICTS[status]):
-        raise failed(f"no judge: the checker ended with status {status} and not with its verdict")
+        raise Refusal(f"no judge: the checker ended with status {status} and not with its verdict")
 
 
 class Judge:
@@ -99,7 +86,7 @@ class Judge:
         if value:
             self.command = command_of(value)
             if shutil.which(self.command[0]) is None:
-                raise failed(f"PIPECHECK is no command: {quoted(value)}")
+                raise Refusal(f"PIPECHECK is no command: {quoted(value)}")
         self.kib = memory_limit(os.environ.get("PIPECHECK_MEMORY", ""))
 
     def call(self, word: str, paths: Sequence[str]) -> tuple[int, bytes]:
@@ -139,21 +126,21 @@ def judge_answer(judge: Judge, word: str, names: Sequence[str], paths: list[str]
         raise meaning(status, text, word, names[:3])
     model_text, data = Path(paths[0]).read_bytes(), Path(paths[2]).read_bytes()
     if data.startswith(b"ask ") is not (len(paths) == 4):
-        raise failed(ONLY_ASK if len(paths) == 4 else f"an answer of ask is explained beside its query: {FORM}")
+        raise Refusal(ONLY_ASK if len(paths) == 4 else f"an answer of ask is explained beside its query: {FORM}")
     model = read_model(model_text)
     try:
         query = Path(paths[3]).read_bytes() if len(paths) == 4 else b""
     except OSError as error:
-        raise Unexplained(UNREAD, list(unreadable(names[3:]))) from error
+        raise Ended(UNREAD, *unreadable(names[3:])) from error
     try:
         parts = list(parts_of(model, model_text, read_answer(data, model), query))
     except AnswerRefused as refused:
-        raise Unexplained(CERTIFICATE_REFUSED, (), f"{refused}\n".encode("ascii")) from refused
+        raise Ended(CERTIFICATE_REFUSED, text=f"{refused}\n") from refused
     except Fault as fault:
         kind, of, name = ("model", model_text, names[0]) if isinstance(fault, InModel) else ("query", query, names[3])
         line = f"refused {kind} {fault.word} at {line_and_column(of, fault.place)}"
-        said = place_of(TOP, name, refusal_of(line)) if os.path.isfile(name) else ()
-        raise Unexplained(REFUSED, list(said), f"{line}\n".encode("ascii")) from fault
+        said = place_of(TOP, name, of, refusal_of(line)) if os.path.isfile(name) else ()
+        raise Ended(REFUSED, *said, text=f"{line}\n") from fault
     for number, (at, wanted, written, certificate) in enumerate(parts):
         of_part = judge.kept(f"{number}.model", written, "the parts of the answer")
         part = judge.kept(f"{number}.certificate", certificate, "the parts of the answer")
@@ -169,11 +156,11 @@ def judge_part(judge: Judge, word: str, paths: list[str], at: int, wanted: int) 
         return
     if status == REFUSED:
         said = text.decode("ascii", "replace").rstrip("\n")
-        raise failed(f"the certificate at line {at} of the answer is not judged, since verify does not take its model: {said}")
+        raise Refusal(f"the certificate at line {at} of the answer is not judged, since verify does not take its model: {said}")
     if status == CERTIFICATE_REFUSED:
         line = int(text.split()[4])
-        raise Unexplained(CERTIFICATE_REFUSED, (), b"answer refused at line %d\n" % (at + max(0, line - 1)))
-    raise unkept(f"the answer of {word}") if status == UNWRITTEN else Unexplained(status)
+        raise Ended(CERTIFICATE_REFUSED, text=f"answer refused at line {at + max(0, line - 1)}\n")
+    raise unkept(f"the answer of {word}") if status == UNWRITTEN else Ended(status)
 
 
 def explained(judge: Judge, names: Sequence[str]) -> tuple[list[str], int]:
@@ -193,7 +180,7 @@ def explained(judge: Judge, names: Sequence[str]) -> tuple[list[str], int]:
         return paths, judge_answer(judge, verify, [model, test, *more], paths)
     # one that cannot be read is told by the judge
     if begins is not None and len(more) == 2:
-        raise failed(ONLY_ASK)
+        raise Refusal(ONLY_ASK)
     is_lifted = begins is not None and begins.split(b"\n")[2:3] == [b"lifted"]
     word = "verify-lifted" if verify == "verify" and is_lifted else verify
     status, text = judge.call(word, paths)
@@ -212,13 +199,5 @@ def main(program: str, *names: str) -> int:
             for line in explain_files(names[0], *paths, *names[3:]):
                 print(line)
             return status
-    except Unexplained as unexplained:
-        print(unexplained.text.decode("ascii", "surrogateescape"), end="", flush=True)
-        for line in unexplained.said:
-            tell(line)
-        return unexplained.status
-    except Refusal as refusal:
-        tell(str(refusal).replace("suite: ", "pipecheck: ", 1))
     except (AnswerRefused, Fault, TooLarge, UnicodeDecodeError) as problem:
-        tell(f"explain: not explained: {problem}")
-    return FAILED
+        raise Refusal(f"not explained: {problem}", "explain") from problem

@@ -38,8 +38,10 @@ from operator import or_
 import tools
 from tools.build.processes import SIGNALS
 from tools.build.versions import origin
-from tools.install.manual import NAMES, Unmade, manual
+from tools.ending import Refusal
+from tools.install.manual import NAMES, manual
 
+TELLER = "install"
 TOP = tools.TOP
 
 # what a tree has of the checkout, and what of that it has not: what builds and installs, maps, and what Python keeps
@@ -67,10 +69,6 @@ FORMER = {
     "share/man/man1/pipecheck.1": b".TH PIPECHECK 1 ",
     "share/bash-completion/completions/pipecheck": b"# shellcheck shell=bash\n# Completion of `pipecheck` for bash.",
 }
-
-
-class Refused(Exception):
-    """Nothing is changed, and why."""
 
 
 @dataclass(frozen=True)
@@ -149,14 +147,14 @@ class Installation:
         self.locks = ExitStack()
         self.locked: list[str] = []
         if os.path.islink(path) and not os.path.exists(path):
-            raise Refused(f"{path} is a link to what is not there")
+            raise Refusal(f"{path} is a link to what is not there")
         self.path = os.path.realpath(path)
         try:
             self.path.encode("utf-8")
         except UnicodeEncodeError as error:
-            raise Refused("no folder is taken whose path is not UTF-8: the program could not be called there") from error
+            raise Refusal("no folder is taken whose path is not UTF-8: the program could not be called there") from error
         if any(unicodedata.category(it) == "Cc" for it in self.path):
-            raise Refused("no folder is taken whose path has a control character")
+            raise Refusal("no folder is taken whose path has a control character")
         depth = len([part for part in self.path.split("/") if part])
         # the folders around the prefix, the outer ones first
         self.around = ["/".join([".."] * steps) for steps in range(depth, 0, -1)]
@@ -224,21 +222,21 @@ class Installation:
         for name in COPIED:
             folder = os.path.join(TOP, name)
             if f"{self.path}/".startswith(f"{folder}/"):
-                raise Refused(f"{self.path} is in {folder}, all of which is installed: name a folder outside of it")
+                raise Refusal(f"{self.path} is in {folder}, all of which is installed: name a folder outside of it")
         for folder in (*self.around, *FOLDERS):
             path = self.at(folder)
             if os.path.islink(path):
-                raise Refused(f"{path} is a link, so that what is installed there would stand elsewhere")
+                raise Refusal(f"{path} is a link, so that what is installed there would stand elsewhere")
             if os.path.lexists(path) and not os.path.isdir(path):
-                raise Refused(f"{path} is no folder")
+                raise Refusal(f"{path} is no folder")
         for tree in (IN_USE, *TREES):
             is_link_to_tree = tree == IN_USE and self.led_to(tree) in TREES
             if os.path.lexists(self.at(tree)) and tree not in self.trees() and not is_link_to_tree:
-                raise Refused(f"{self.at(tree)} is not of an installation")
+                raise Refusal(f"{self.at(tree)} is not of an installation")
         known = self.known()
         for name in LINKS:
             if os.path.lexists(self.at(name)) and not self.is_ours(name, known):
-                raise Refused(f"{self.at(name)} is not of an installation: it is left as it is")
+                raise Refusal(f"{self.at(name)} is not of an installation: it is left as it is")
 
     # what is made
 
@@ -401,7 +399,7 @@ class Installation:
             if self.trees():
                 self.take_all_but(None, Listing())
             elif not had_parts:
-                raise Refused(f"nothing is installed under {self.path}")
+                raise Refusal(f"nothing is installed under {self.path}")
 
     # one call at a time
 
@@ -449,9 +447,9 @@ class Installation:
 def prefix_of(words: Sequence[str]) -> str:
     """The folder that words name."""
     if len(words) > 1 or words and (not words[0] or words[0].startswith("-")):
-        raise Refused("call it as ./install [PREFIX], or ./install --uninstall [PREFIX]; --help says more")
+        raise Refusal("call it as ./install [PREFIX], or ./install --uninstall [PREFIX]; --help says more")
     if not words and not os.environ.get("HOME"):
-        raise Refused("HOME says no folder, so name one: ./install PREFIX")
+        raise Refusal("HOME says no folder, so name one: ./install PREFIX")
     return words[0] if words else os.path.join(os.environ["HOME"], ".local")
 
 
@@ -490,8 +488,5 @@ def main(work: str, *words: str) -> int:
             stream.reconfigure(errors="surrogateescape")
     try:
         return judge(*words) if work == "judge" else install(*words)
-    except (Refused, Unmade) as problem:
-        print(f"install: {problem}", file=sys.stderr)
     except OSError as error:
-        print(f"install: {error.filename2 or error.filename or ' '.join(words[-1:])}: {error.strerror}", file=sys.stderr)
-    return 1
+        raise Refusal(f"{error.filename2 or error.filename or ' '.join(words[-1:])}: {error.strerror}") from error

@@ -6,6 +6,7 @@ import subprocess
 from itertools import dropwhile
 from typing import Iterator
 
+from tools.ending import Refusal
 from tools.telling.forms import Forms
 
 NAMES = ("pipecheck", "pipecheck-suite")
@@ -35,10 +36,6 @@ SUITE = re.compile(r"(^|[ `])[^ `]*examples/suite(?=[ `]|$)", re.MULTILINE)
 # of its help text a line that shows a call, and a block that is moved in
 CALL = re.compile(r"^ +(pipecheck-suite(?: .*)?)\n", re.MULTILINE)
 MOVED_IN = re.compile(r"^ .*\n(?:\n*(?: .*\n))*", re.MULTILINE)
-
-
-class Unmade(Exception):
-    """A man page could not be made."""
 
 
 def plain(text: str) -> str:
@@ -116,7 +113,7 @@ def suite_page(top: str) -> Iterator[str]:
     installed by, and the lines that begin with it are the synopsis."""
     done = subprocess.run([os.path.join(top, "examples", "suite"), "--help"], stdout=subprocess.PIPE, check=False)
     if done.returncode != 0:
-        raise Unmade("the man page pipecheck-suite(1) could not be made")
+        raise Refusal("the man page pipecheck-suite(1) could not be made")
     text = SUITE.sub(r"\1pipecheck-suite", done.stdout.decode("utf-8"))
     yield SUITE_HEAD
     yield from (f".B {plain(it)}\n.br" for it in CALL.findall(text))

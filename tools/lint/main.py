@@ -17,15 +17,15 @@ from tools.second.listings import ENDING as LISTING
 from tools.second.patterns import ENDING as PATTERN
 from tools.second.queries import InModel
 from tools.second.scopes import read_model
-from tools.second.standard_output import UNREAD
 from tools.second.tokens import Fault
-from tools.telling.files import sentence, unreadable
+from tools.telling.files import sentence
 from tools.telling.meant import meant
 from tools.telling.refusals import misplaced, reader
-from tools.texts.contents import Read, Unreadable, contents, read_within
+from tools.texts.contents import Read, contents, read_within
 from tools.texts.expecting import sentence_of
 from tools.texts.quoting import line_and_column, line_of
 
+TELLER = "pipecheck"
 # how the name of a query ends; any other file is a test, a listing or a pattern
 QUERY = ".query"
 KINDS = {QUERY: "query", LISTING: "listing", PATTERN: "pattern"}
@@ -71,17 +71,12 @@ def main(model_path: str, *paths: str) -> int:
     files = Files(model_path)
     found: Iterable[Slip] = ()
     asked = [path for path in paths if path.endswith(QUERY)]
-    try:
-        model = files.read("model", model_path, read_model)
-        tests = [files.read("test", path, partial(read_test, path)) for path in paths if path not in asked]
-        if model is not None:
-            queries = [files.read("query", path, partial(read_query_file, path, model=model)) for path in asked]
-            text = files.texts[model_path]
-            found = Linter(model_path, text, model, [it for it in tests if it], [it for it in queries if it]).slips()
-    except Unreadable:
-        for line in unreadable([model_path, *paths]):
-            print(line, file=sys.stderr)
-        return UNREAD
+    model = files.read("model", model_path, read_model)
+    tests = [files.read("test", path, partial(read_test, path)) for path in paths if path not in asked]
+    if model is not None:
+        queries = [files.read("query", path, partial(read_query_file, path, model=model)) for path in asked]
+        text = files.texts[model_path]
+        found = Linter(model_path, text, model, [it for it in tests if it], [it for it in queries if it]).slips()
     count = 0
     for slip in found:
         print(line_of(slip.path, files.texts[slip.path], slip.at, f"{slip.kind}: {slip.sentence}"))

@@ -7,7 +7,6 @@ on standard output, and the last line counts; what cannot be compared is told on
 the exit statuses.
 """
 import os
-import re
 from collections import Counter
 from functools import partial
 from typing import Mapping, Sequence
@@ -20,16 +19,16 @@ from tools.listings.logs import Log, Result
 from tools.listings.programs import LOCKED, Program
 from tools.listings.reading import Notes
 from tools.second.scopes import read_model
-from tools.second.standard_output import FAILED, UNREAD
+from tools.second.standard_output import FAILED
 from tools.second.tokens import Fault
 from tools.suite.calling import ENDING, Calls, side_by_side
 from tools.suite.pairs import Checker
 from tools.suite.programs import checker_of
-from tools.suite.telling import Refusal, tell
-from tools.telling.files import unreadable
-from tools.texts.contents import Unreadable, contents, read_within
+from tools.suite.telling import tell
+from tools.texts.contents import contents, read_within
 from tools.texts.quoting import line_of, shown
 
+TELLER = "compare"
 LOG_LIMIT = 67_108_864
 # a sweep has no limit of time of its own
 SECONDS = 1e9
@@ -181,19 +180,7 @@ def run(waiting: Sequence[tuple[Comparison, Sweep]], checker: Checker, model: st
 def main(model: str, *paths: str) -> int:
     """The status. A signal ends what was called, and then this process."""
     SIGNALS.receive(ENDING)
-    try:
-        lines, status = compare(model, paths[:-1], paths[-1])
-    except Refusal as refusal:
-        tell(re.sub("^suite: ", "compare: ", str(refusal)))
-        return FAILED
-    except Unreadable:
-        for line in unreadable([model, *paths]):
-            tell(line)
-        return UNREAD
-    except OSError as error:
-        # as where the folder for temporary files has no room
-        tell(f"compare: {error.strerror}{f': {shown(str(error.filename))}' if error.filename else ''}")
-        return FAILED
+    lines, status = compare(model, paths[:-1], paths[-1])
     for line in lines:
         print(line)
     return status

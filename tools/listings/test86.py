@@ -11,15 +11,15 @@ from tools import TOP
 from tools.listings.programs import Loaded, Program
 from tools.listings.reading import Beyond, Notes
 from tools.second.cases import Page
-from tools.second.standard_output import UNREAD
 from tools.second.tokens import Fault
 from tools.suite.telling import tell
-from tools.telling.files import unreadable
 from tools.telling.refusals import left_out, place_of, refusal_of
-from tools.texts.contents import Unreadable, contents, read_within
+from tools.texts.contents import contents, read_within
 from tools.texts.quoting import line_and_column, line_of
 from tools.texts.writing_tests import notes as comments
 from tools.texts.writing_tests import test_of_listing, within_limit
+
+TELLER = "pipecheck"
 
 
 def test_of(data: bytes, notes: Notes) -> str:
@@ -75,21 +75,15 @@ def outcome_of(program: Program, notes: Notes) -> tuple[dict[int, int], dict[Pag
 
 def main(path: str) -> int:
     """Writes the test, with what was read beyond `check86`, or the refusal of the listing."""
-    try:
-        data = contents(path)
-    except Unreadable:
-        for line in unreadable([path]):
-            tell(line)
-        return UNREAD
-    notes = Notes()
+    data, notes = contents(path), Notes()
     try:
         text = test_of(data, notes)
     except Fault as fault:
         said = f"refused test {fault.word} at {line_and_column(data, fault.place)}"
         print(said, flush=True)
         refusal = refusal_of(said)
-        # what can be read only once is gone
-        for line in [*place_of(TOP, path, refusal), *left_out(TOP, path, refusal)] if os.path.isfile(path) else ():
+        # in what can be read only once there is no place to go to
+        for line in [*place_of(TOP, path, data, refusal), *left_out(TOP, data, refusal)] if os.path.isfile(path) else ():
             tell(line)
         return 3
     print(text, end="")

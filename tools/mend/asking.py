@@ -7,6 +7,7 @@ from functools import cache
 from graphlib import TopologicalSorter
 from typing import Callable, Iterable, Iterator, NamedTuple, Sequence
 
+from tools.ending import Refusal
 from tools.mend.copies import Final, Outcome, Program, text_of
 from tools.second.meaning import Node
 from tools.second.models import Model
@@ -62,7 +63,7 @@ class World:
         return found
 
 
-class Unanswered(Exception):
+class Unanswered(Refusal):
     """The program gave no answer: its status, None where it was late, and what it wrote."""
 
     def __init__(self, word: str, status: int | None, said: bytes) -> None:

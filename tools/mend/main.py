@@ -5,13 +5,12 @@
 docs/mend.md has the exit statuses.
 """
 import os
-import sys
 from functools import cached_property
 from pathlib import Path
 from typing import Iterator
 
 from tools import TOP
-from tools.ending import SIGNALS
+from tools.ending import SIGNALS, Ended, Refusal
 from tools.lint.asked import Asked
 from tools.mend.asking import Questions, SuiteTests, Unanswered, is_shown
 from tools.mend.copies import Outcome, free_name, program_of
@@ -19,30 +18,20 @@ from tools.mend.orders import Found, Search
 from tools.mend.telling import MOST_CHOICES, MOST_SHOWN, MOST_STRONGER, TITLE, Telling
 from tools.second.listings import ENDING
 from tools.second.scopes import read_model
-from tools.second.standard_output import FAILED, UNREAD
 from tools.suite.allowing import Machines
 from tools.suite.calling import Calls, side_by_side
 from tools.suite.pairs import Checker
 from tools.suite.programs import checker_of
-from tools.suite.telling import Refusal
-from tools.texts.contents import Unreadable, contents
+from tools.texts.contents import contents
 from tools.texts.memory_models import memory_model_of
 from tools.texts.naming import Names, case_with_names
 from tools.texts.wrapping import width_of_output, within
 
+TELLER = "pipecheck"
 # how long one call of the program may take, in seconds
 SECONDS = 60.0
 # of a call without an answer, those that stand for themselves
 REFUSED, NO_MEMORY = 3, 7
-
-
-class Said(Exception):
-    """The program says the answer itself: its status, and what it wrote."""
-
-    def __init__(self, status: int, text: str) -> None:
-        super().__init__(text)
-        self.status = status
-        self.text = text
 
 
 def checked(checker: Checker, model_path: str, test_path: str) -> None:
@@ -51,10 +40,10 @@ def checked(checker: Checker, model_path: str, test_path: str) -> None:
         is_there = is_shown(checker, "check86" if test_path.endswith(ENDING) else "check", model_path, test_path)
     except Unanswered as unanswered:
         if unanswered.status in (REFUSED, NO_MEMORY):
-            raise Said(unanswered.status, unanswered.said.decode("ascii", "replace")) from unanswered
+            raise Ended(unanswered.status, text=unanswered.said.decode("ascii", "replace")) from unanswered
         raise
     if not is_there:
-        raise Said(1, "The model does not show this outcome: there is nothing to mend. `core` says what forbids it.\n")
+        raise Ended(1, text="The model does not show this outcome: there is nothing to mend. `core` says what forbids it.\n")
 
 
 class Mending:
@@ -153,17 +142,8 @@ def main(model_path: str, test_path: str) -> int:
     SIGNALS.receive()
     try:
         lines, status = answer(model_path, test_path)
-    except Said as said:
-        print(said.text, end="")
-        return said.status
-    except (Refusal, Unanswered) as problem:
-        print(f"pipecheck: {str(problem).removeprefix('suite: ')}", file=sys.stderr)
-        return FAILED
-    except Unreadable:
-        return UNREAD
     except OSError as error:
-        print(f"pipecheck: mend: {error.strerror}; TMPDIR names another folder for temporary files", file=sys.stderr)
-        return FAILED
+        raise Refusal(f"mend: {error.strerror}; TMPDIR names another folder for temporary files") from error
     for line in within(lines, width_of_output()):
         print(line)
     return status

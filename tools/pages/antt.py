@@ -13,6 +13,7 @@ from dataclasses import dataclass, field
 from functools import cache, cached_property
 
 from tools import TOP
+from tools.ending import Refusal
 
 IMPORT = re.compile(r"(?:ghost |pub )?use .+")
 # a list in an import that has no other list in it, and the path before it
@@ -23,10 +24,6 @@ DATA = re.compile(r"\s*(?:pub\s+)?data\b")
 MEMBER = re.compile(r"\s*(?:pub\s+)?(?:(?:data|record)\s+)?([^\s:({]+)(?:\s*\{[^}]*\}|\s*\([^)]*\))*\s*:")
 WORD = re.compile(r"[^\s(){}\[\],;:.λ→×]+")
 TEXT = re.compile(r'"[^"]*"')
-
-
-class Fault(Exception):
-    """What is not as it has to be, in a sentence."""
 
 
 @dataclass(frozen=True)
@@ -109,7 +106,7 @@ def imports_of(imports: Iterable[str]) -> dict[str, Import]:
             whole, _, renamed = path.partition(" as ")
             library, *parts = whole.split(".")
             if library != "Rattle" or parts[1:2] not in (["specs"], ["proofs"]) or len(parts) < 4:
-                raise Fault(f"has an import of another form: {text}")
+                raise Refusal(f"has an import of another form: {text}")
             crate, folder, *module, name = parts
             found[renamed or name] = Import(crate, folder, module, name)
     return found
@@ -139,7 +136,7 @@ def definitions_of(path: str, lines: Iterable[str]) -> list[Definition]:
             is_mutual = mutual is not None
             found.append(Definition(path, [line], [] if mutual or not head else [head[1] or head[2]], modules))
         elif not found:
-            raise Fault(f"has a line of no definition: {text}")
+            raise Refusal(f"has a line of no definition: {text}")
         else:
             found[-1].lines.append(line)
             member = MEMBER.match(line)
@@ -162,15 +159,15 @@ def read_file(path: str) -> File:
     imports, others = without_imports(lines)
     try:
         return File(" ".join(it[2:].strip() for it in comment), imports_of(imports), definitions_of(path, others))
-    except Fault as fault:
-        raise Fault(f"{path} {fault}") from fault
+    except Refusal as fault:
+        raise Refusal(f"{path} {fault}") from fault
 
 
 def first_sentence(text: str) -> str:
     """The first sentence of a text. One in a pair of backquotes does not end it."""
     ended = re.match(r"(?:[^`.?]|`[^`]*`|[.?](?!\s|$))*[.?](?=\s|$)", text)
     if ended is None:
-        raise Fault(f"no sentence ends in: {text}")
+        raise Refusal(f"no sentence ends in: {text}")
     return ended[0]
 
 

@@ -8,14 +8,15 @@ The sentence is the first one of the comment at the head of the crate's root fil
 """
 import os
 import re
-import sys
 from collections.abc import Iterator
 from itertools import takewhile
 from typing import NamedTuple
 
 from tools import TOP
-from tools.pages.antt import Fault, first_sentence
+from tools.ending import Refusal
+from tools.pages.antt import first_sentence
 
+TELLER = "crates"
 # crates that only test others promise nothing
 NO_CLAUSE = "tests of crates"
 
@@ -35,17 +36,17 @@ def head_of(name: str, heading: str) -> tuple[str, str]:
     places = [f"{TOP}/crates/{name}/src/{it}.rt" for it in ("lib", "main")]
     root = next((it for it in places if os.path.isfile(it)), None)
     if root is None:
-        raise Fault(f"crates.txt lists {name}, which has no root file")
+        raise Refusal(f"crates.txt lists {name}, which has no root file")
     with open(root, encoding="utf-8") as file:
         lines = [line[3:].strip() for line in takewhile(lambda line: line.startswith("//!"), file)]
     said = [it.replace("\n", " ") for it in re.split(r"\n{2,}", "\n".join(lines))]
     clauses = [it.removeprefix("Clause: ") for it in said if it.startswith("Clause: ")]
     if len(clauses) != (0 if heading == NO_CLAUSE else 1):
-        raise Fault(f"{root} has {len(clauses)} lines '//! Clause:'")
+        raise Refusal(f"{root} has {len(clauses)} lines '//! Clause:'")
     try:
         return first_sentence(said[0]), "".join(clauses)
-    except Fault as fault:
-        raise Fault(f"{root}: {fault}") from fault
+    except Refusal as fault:
+        raise Refusal(f"{root}: {fault}") from fault
 
 
 def crates_of() -> list[Crate]:
@@ -62,13 +63,13 @@ def crates_of() -> list[Crate]:
                 continue
             name = name.split()[0]
             if not heading:
-                raise Fault(f"crates.txt has {name} under no heading")
+                raise Refusal(f"crates.txt has {name} under no heading")
             found.append(Crate(name, heading, below.split(), *head_of(name, heading)))
     names = [it.name for it in found]
     for place, it in enumerate(found):
         above = [name for name in it.below if name in names[place:]]
         if above:
-            raise Fault(f"crates.txt has {it.name} before {above[0]}, on which it stands")
+            raise Refusal(f"crates.txt has {it.name} before {above[0]}, on which it stands")
     return found
 
 
@@ -106,11 +107,7 @@ def names() -> Iterator[str]:
 def main(*words: str) -> int:
     """Answers one call."""
     forms = {(): tables, ("--names",): names}
-    try:
-        if words not in forms:
-            raise Fault(f"no such words: {' '.join(words)}. There is --names")
-        print("\n".join(forms[words]()).rstrip())
-    except Fault as fault:
-        print(f"crates: {fault}", file=sys.stderr)
-        return 1
+    if words not in forms:
+        raise Refusal(f"no such words: {' '.join(words)}. There is --names")
+    print("\n".join(forms[words]()).rstrip())
     return 0

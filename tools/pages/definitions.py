@@ -13,14 +13,15 @@ those of definitions: a blank line, a comment and an import are none.
 import glob
 import os
 import re
-import sys
 from collections.abc import Iterable, Iterator
 from dataclasses import dataclass, field
 
 from tools import TOP
-from tools.pages.antt import Definition, Fault, Import, first_sentence, imports_of, is_said, read_file, with_modules
+from tools.ending import Refusal
+from tools.pages.antt import Definition, Import, first_sentence, imports_of, is_said, read_file, with_modules
 from tools.pages.antt import without_imports, words_in
 
+TELLER = "definitions"
 # what is no command, and can be asked for too
 OBSERVABLE, ALL = "observable", "all"
 
@@ -73,7 +74,7 @@ class Meaning:
             return
         found = read_file(it.path).defining(it.name) if os.path.isfile(it.path) else None
         if found is None:
-            raise Fault(f"{path} imports {it.name}, which {it.path} does not define")
+            raise Refusal(f"{path} imports {it.name}, which {it.path} does not define")
         self.below.setdefault(path, set()).add(it.path)
         yield found
 
@@ -129,14 +130,14 @@ def code_type(it: Import) -> tuple[str, str]:
         if os.path.isfile(path):
             more = [part for part in parts[count:] if not part.startswith("The")]
             return path, more[0] if more else it.name
-    raise Fault(f"no file of crates/{it.crate}/src is the module {'.'.join(parts)}")
+    raise Refusal(f"no file of crates/{it.crate}/src is the module {'.'.join(parts)}")
 
 
 def only(pattern: str) -> str:
     """The one file of this pattern."""
     found = glob.glob(pattern)
     if len(found) != 1:
-        raise Fault(f"{pattern} is {len(found)} files")
+        raise Refusal(f"{pattern} is {len(found)} files")
     return found[0]
 
 
@@ -159,7 +160,7 @@ class Top:
         spelt = {it: constructors(it) for it in imported if os.path.isfile(it)}
         self.commands = next((it for it, words in spelt.items() if words), "")
         if not self.commands:
-            raise Fault(f"no command is spelt in a file that {headline} imports")
+            raise Refusal(f"no command is spelt in a file that {headline} imports")
         self.words = spelt[self.commands]
 
     def names(self) -> list[str]:
@@ -173,7 +174,7 @@ class Top:
         if word == ALL:
             return self.of_all()
         if word not in self.words:
-            raise Fault(f"no such word: {word}. There are {', '.join(self.names())}")
+            raise Refusal(f"no such word: {word}. There are {', '.join(self.names())}")
         return self.of_command(word, self.roots[:1] if of_status else self.roots)
 
     def of_command(self, word: str, roots: list[str]) -> Meaning:
@@ -209,7 +210,7 @@ def of_observable() -> Meaning:
     path = only(f"{TOP}/crates/*/specs/Observable.antt")
     definition = read_file(path).defining("Observable")
     if definition is None:
-        raise Fault(f"{path} does not define Observable")
+        raise Refusal(f"{path} does not define Observable")
     meaning = Meaning([path])
     meaning.add([definition])
     return meaning
@@ -300,18 +301,14 @@ def sentence(top: Top) -> Iterator[str]:
 
 def main(*words: str) -> int:
     """Answers one call."""
-    try:
-        top = Top()
-        asked = words or ("--counts",)
-        of_status = asked[0] == "--status"
-        if len(asked) != 1 + of_status:
-            raise Fault("definitions takes one word")
-        if of_status and asked[-1] not in top.words:
-            raise Fault(f"no such command: {asked[-1]}. There are {', '.join(top.words)}")
-        forms = {"--counts": counts, "--page": page, "--sentence": sentence}
-        lines = forms[asked[0]](top) if asked[0] in forms else listing(top.of_word(asked[-1], of_status))
-        print("\n".join(lines))
-    except Fault as fault:
-        print(f"definitions: {fault}", file=sys.stderr)
-        return 1
+    top = Top()
+    asked = words or ("--counts",)
+    of_status = asked[0] == "--status"
+    if len(asked) != 1 + of_status:
+        raise Refusal("definitions takes one word")
+    if of_status and asked[-1] not in top.words:
+        raise Refusal(f"no such command: {asked[-1]}. There are {', '.join(top.words)}")
+    forms = {"--counts": counts, "--page": page, "--sentence": sentence}
+    lines = forms[asked[0]](top) if asked[0] in forms else listing(top.of_word(asked[-1], of_status))
+    print("\n".join(lines))
     return 0

@@ -4,7 +4,7 @@ import os
 import signal
 import sys
 import traceback
-from typing import Callable, Sequence
+from typing import Callable
 
 UNREAD = 4
 UNWRITTEN = 5
@@ -37,8 +37,8 @@ class Output(io.TextIOWrapper):
             raise Unwritten from error
 
 
-def status_of(main: Callable[..., int], words: Sequence[str]) -> int:
-    """Calls a command with its words. The status is its own, UNWRITTEN where standard output is closed or does not take
+def status_of(call: Callable[[], int]) -> int:
+    """Calls a command. The status is its own, UNWRITTEN where standard output is closed or does not take
     all of it, and FAILED where the command fails: Python's own status for that is 1, which is an answer here."""
     sys.setrecursionlimit(DEPTH)
     # a reader that goes away ends this program quietly, as other filters do
@@ -48,7 +48,7 @@ def status_of(main: Callable[..., int], words: Sequence[str]) -> int:
         return UNWRITTEN
     sys.stdout = Output()
     try:
-        status = main(*words)
+        status = call()
         sys.stdout.flush()
         return status
     except Unwritten:

@@ -12,9 +12,9 @@ from dataclasses import dataclass, field
 from glob import glob
 from typing import NamedTuple
 
+from tools.ending import Refusal
 from tools.suite.calling import GRACE, PYTHON, Calls, limited, memory_limit
 from tools.suite.files import Copies, File
-from tools.suite.telling import Refusal
 from tools.texts.memory_models import FORM, memory_model_of
 from tools.texts.quoting import line_of, quoted, shown
 

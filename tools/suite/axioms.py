@@ -5,6 +5,7 @@ from contextlib import suppress
 from functools import partial
 from typing import Sequence
 
+from tools.ending import Refusal
 from tools.second.cores import without
 from tools.second.scopes import read_model
 from tools.second.tokens import Fault
@@ -13,7 +14,7 @@ from tools.suite.files import Copies, File, digest_of, in_order
 from tools.suite.keeping import Kept
 from tools.suite.pairs import TIME, Checker, Found
 from tools.suite.running import checked
-from tools.suite.telling import Refusal, aligned
+from tools.suite.telling import aligned
 from tools.texts.answers import cut_text
 from tools.texts.quoting import line_of
 

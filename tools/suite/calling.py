@@ -15,8 +15,8 @@ import threading
 from contextlib import contextmanager, nullcontext, suppress
 from typing import IO, Callable, Iterator, Sequence, TypeVar
 
-from tools.ending import SIGNALS
-from tools.suite.telling import Progress, Refusal
+from tools.ending import SIGNALS, Refusal
+from tools.suite.telling import Progress
 from tools.texts.quoting import quoted
 
 # What the limits need is done by a shell that becomes the program. Where a limit of file size is passed, a write fails,

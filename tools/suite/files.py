@@ -6,7 +6,7 @@ import stat
 from dataclasses import dataclass, replace
 from typing import Iterable, NamedTuple, Sequence
 
-from tools.suite.telling import Refusal
+from tools.ending import Refusal
 from tools.texts import contents as reading
 from tools.texts.memory_models import comments
 from tools.texts.quoting import CONTROL, quoted, shown

@@ -11,10 +11,10 @@ import stat
 from contextlib import contextmanager, suppress
 from typing import IO, Iterator, Mapping
 
-from tools.ending import SIGNALS
+from tools.ending import SIGNALS, Refusal
 from tools.suite.files import CELLS, PART, File, digest_of
 from tools.suite.pairs import BUG, GOOD, STRICTER, TIME, Found, found_in
-from tools.suite.telling import Refusal, tell
+from tools.suite.telling import tell
 from tools.texts.quoting import quoted, shown
 
 CERTIFICATE, ROWS, ANSWER = ".certificate", ".rows", ".answer"

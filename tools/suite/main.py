@@ -78,7 +78,7 @@ from functools import partial
 from typing import Collection, Mapping, Sequence
 
 from tools import TOP
-from tools.ending import SIGNALS
+from tools.ending import SIGNALS, Refusal
 from tools.suite.allowing import Rows
 from tools.suite.calling import ENDING, Calls
 from tools.suite.files import Copies
@@ -86,7 +86,7 @@ from tools.suite.keeping import Baseline, Folder, judge_place, kept_in, write_re
 from tools.suite.pairs import BUG, NOT_TAKEN, OBSERVABLE, OK, STRICTER, SWEPT, TIME, UNOBSERVABLE, kind_of
 from tools.suite.programs import checker_of, program_digest
 from tools.suite.running import Suite
-from tools.suite.telling import Refusal, Unread, open_streams, put, tell, width_of_terminal
+from tools.suite.telling import Unread, open_streams, put, tell, width_of_terminal
 from tools.suite.words import BASELINE, JUNIT, SARIF, Words, folder_of, limits_of, read_words
 from tools.texts.quoting import shown
 
@@ -185,7 +185,7 @@ def main(*words: str) -> int:
     except Unread:
         pass
     except Refusal as refusal:
-        tell(str(refusal))
+        tell(refusal.line("suite"))
     except OSError as error:
         place = f": {shown(str(error.filename))}" if error.filename else ""
         tell(f"suite: {error.strerror}{place}")

@@ -6,10 +6,10 @@ import tempfile
 from typing import Mapping
 
 from tools import standing
+from tools.ending import Refusal
 from tools.suite.calling import Calls, memory_limit, said_by, side_by_side
 from tools.suite.files import digest_of
 from tools.suite.pairs import Checker
-from tools.suite.telling import Refusal
 from tools.texts.quoting import quoted, shown
 
 # the status of the program without words

@@ -191,7 +191,7 @@ class Suite:
 
                 place = f"{shown(test.path)}:{refused.place}: "
                 refusal = refusal_of(f"refused test {refused.fault.removeprefix(REFUSED)} at {refused.place}")
-                for said in left_out(self.top, self.copies.path(test), refusal):
+                for said in left_out(self.top, test.text or b"", refusal):
                     yield place, f"{place}left-out: {said.removeprefix('pipecheck: ')}"
 
     def lines_of_machines(self) -> Iterator[str]:

@@ -6,12 +6,7 @@ import shutil
 import sys
 from typing import Sequence
 
-
-class Refusal(Exception):
-    """There is no table; the line says why, and who says so."""
-
-    def __init__(self, sentence: str, teller: str = "suite") -> None:
-        super().__init__(f"{teller}: {sentence}")
+from tools.ending import Refusal
 
 
 class Unread(Exception):

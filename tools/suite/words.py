@@ -3,9 +3,9 @@ import os
 import re
 from typing import Mapping, NamedTuple, Sequence
 
+from tools.ending import Refusal
 from tools.suite.files import KINDS, MODEL_ENDING, File, ending_of, is_row, is_test, judge_distinct, judge_present
 from tools.suite.files import model_file, test_file
-from tools.suite.telling import Refusal
 from tools.texts.quoting import quoted, shown
 
 SECONDS = re.compile(r"[0-9]{1,9}(\.[0-9]+)?", re.ASCII)

@@ -52,9 +52,8 @@ def marked_line(data: bytes, line: int, column: int) -> Iterator[str]:
     yield " " * (4 + column - start) + "^"
 
 
-def place_of(top: str, path: str, refusal: Refusal) -> Iterator[str]:
+def place_of(top: str, path: str, data: bytes, refusal: Refusal) -> Iterator[str]:
     """The place in the form that editors jump to, the fault's sentence and the line."""
-    data = contents(path)
     yield f"{shown(path)}:{refusal.place}: {refusal.word}: {sentence(top, refusal.kind, refusal.word)}"
     yield from marked_line(data, refusal.line, refusal.column)
 
@@ -64,9 +63,8 @@ def begins_with(words: bytes, data: bytes) -> bool:
     return re.search(rb"^[ \t]*(?:" + words + rb')[ \t]+(?:"|[0-9])', data, re.MULTILINE) is not None
 
 
-def expected(kind: str, path: str, refusal: Refusal) -> Iterator[str]:
+def expected(kind: str, data: bytes, refusal: Refusal) -> Iterator[str]:
     """What could stand at a fault of syntax of a model, a query, a test, a pattern or a listing."""
-    data = contents(path)
     fault = syntax_fault(kind, data)
     if fault is not None and line_and_column(data, fault.place) == refusal.place and sentence_of(fault):
         yield f"pipecheck: {sentence_of(fault)}"
@@ -95,10 +93,10 @@ def reader(word: str, path: str, data: bytes) -> Iterator[str]:
         yield f"pipecheck: {shown(path)} is a listing of herd's for X86: {said}"
 
 
-def left_out(top: str, path: str, refusal: Refusal) -> Iterator[str]:
+def left_out(top: str, data: bytes, refusal: Refusal) -> Iterator[str]:
     """What to do about what of herd's stands at a fault of tokens or of syntax, where a listing here has no such thing."""
     if refusal.word in ("lexical", "syntax"):
-        word = left_out_word(contents(path), refusal)
+        word = left_out_word(data, refusal)
         if word:
             yield f"pipecheck: {row(top, 'left out of a listing', word)}"
 
@@ -151,15 +149,16 @@ def lines_of(top: str, said: str, words: list[str]) -> Iterator[str]:
         asked = "listing" if words[0].endswith("86") else "pattern" if words[0] == "sweep" else asked
     for kind, path in zip(kinds, words[1:]):
         if kind in KINDS[refusal.kind] and os.path.isfile(path):
-            yield from place_of(top, path, refusal)
+            data = contents(path)
+            yield from place_of(top, path, data, refusal)
             if refusal.word == "syntax":
-                yield from expected(asked, path, refusal)
+                yield from expected(asked, data, refusal)
             if refusal.word in ("lexical", "syntax"):
-                yield from misplaced(asked, " ".join([words[0], *kinds]), path, contents(path))
+                yield from misplaced(asked, " ".join([words[0], *kinds]), path, data)
             if refusal.kind != "test":
-                yield from meant(top, refusal.word, contents(path), refusal.place, contents(words[1]))
+                yield from meant(top, refusal.word, data, refusal.place, contents(words[1]))
             if asked == "listing":
-                yield from left_out(top, path, refusal)
+                yield from left_out(top, data, refusal)
             if refusal.kind == "test":
-                yield from reader(words[0], path, contents(path))
+                yield from reader(words[0], path, data)
             return
