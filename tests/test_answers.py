@@ -166,14 +166,16 @@ class Words(Answers):
             ("a name that the system refuses", ("check", "n" * 300, TWO)),
         ):
             self.shows(name, 4, "", *words)
-        link = f"{self.work}/link"
+        link, loop = f"{self.work}/link", f"{self.work}/loop"
         os.symlink(none, link)
+        os.symlink("loop", loop)
         for name, said, words in (
             ("which file is missing", missing(none), ("check", PO, none)),
             ("that both files are missing", missing(none) + blank, ("check", none, "two words")),
             ("that the certificate is missing", missing(none), ("verify", PO, TWO, none)),
             ("which file is a directory", f"{UNREAD}pipecheck: {folder} is a directory\n", ("check", folder, TWO)),
             ("which file is a link to none", f"{UNREAD}pipecheck: {link} is a link to what is not there\n", ("check", link, TWO)),
+            ("which file is a loop of links", f"{UNREAD}pipecheck: {loop} leads into a loop of links\n", ("check", loop, TWO)),
             ("verify-lifted: which file is missing", missing(none), ("verify-lifted", *both, none)),
             ("verify86: which file is missing", missing(none), ("verify86", PO, none, SB_CERTIFICATE)),
         ):

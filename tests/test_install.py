@@ -342,6 +342,8 @@ class Refusals(Installs):
             os.symlink("/nowhere/at/all", f"{way}/link")
             write(f"{way}/file", "mine\n")
             self.refuses("a link to nothing as the prefix", f"{way}/link is a link to what is not there", f"{way}/link")
+            os.symlink("loop", f"{way}/loop")
+            self.refuses("a loop of links as the prefix", f"{way}/loop leads into a loop of links", f"{way}/loop")
             self.refuses("a file as the prefix", f"{way}/file is no folder", f"{way}/file")
 
     def test_folders_that_are_copied(self) -> None:

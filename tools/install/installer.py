@@ -40,6 +40,7 @@ from tools.build.processes import SIGNALS
 from tools.build.versions import origin
 from tools.ending import Refusal
 from tools.install.manual import NAMES, manual
+from tools.telling.files import hindrance
 
 TELLER = "install"
 TOP = tools.TOP
@@ -147,7 +148,7 @@ class Installation:
         self.locks = ExitStack()
         self.locked: list[str] = []
         if os.path.islink(path) and not os.path.exists(path):
-            raise Refusal(f"{path} is a link to what is not there")
+            raise Refusal(f"{path} {hindrance(path)}")
         self.path = os.path.realpath(path)
         try:
             self.path.encode("utf-8")

@@ -1,6 +1,7 @@
 """Files that cannot be read, and the pages that say what a fault means."""
 import os
 import re
+from errno import ELOOP
 from typing import Iterator, Sequence
 
 from tools.texts.quoting import quoted
@@ -11,7 +12,11 @@ ROW = re.compile(r"\| ([^|]*`[^|]*) \| (.*) \|")
 
 def hindrance(path: str) -> str:
     """Why a file can't be opened now; nothing if it can."""
-    if not os.path.exists(path):
+    try:
+        os.stat(path)
+    except OSError as fault:
+        if fault.errno == ELOOP:
+            return "leads into a loop of links"
         return "is a link to what is not there" if os.path.islink(path) else "is not there"
     if os.path.isdir(path):
         return "is a directory"
