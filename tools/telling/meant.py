@@ -11,7 +11,8 @@ NAME = "[A-Za-z0-9_']+"
 NEAR = 0.75
 # what is longer is no slip of a word that there is
 LONGEST = 100
-SIGNS = {"&": "/\\", "|": "\\/", "!": "~", "#": "%", "'": '"', '"': "a text of printable ASCII that ends in its line"}
+SIGNS = {"&": "/\\", "|": "\\/", "!": "~", "not": "~", "->": "=>", "#": "%", "'": '"',
+         '"': "a text of printable ASCII that ends in its line"}
 # what is said of a name that there is
 SAID = {
     "predicate-unknown": "a macro has this name:",
@@ -27,7 +28,7 @@ def forms_of(top: str, word: str, model: bytes) -> dict[str, str]:
     predicates = {form.split()[0]: form for form, _ in rows_of(os.path.join(top, "docs", "language.md"), "| predicate |")}
     words = {word: word for word in RESERVED}
     return {
-        "lexical": SIGNS, "syntax": words, "predicate-unknown": words | predicates | macros,
+        "syntax": words, "predicate-unknown": words | predicates | macros,
         "stage-unknown": {name: name for name in re.findall(rf'StageName\s+[0-9]+\s+"({NAME})"', text)},
         "macro-unknown": macros, "macro-arguments": macros, "arity": predicates, "unbound": predicates, "wrong-sort": predicates,
     }.get(word, {})
@@ -40,11 +41,20 @@ def meant(top: str, word: str, data: bytes, place: str, model: bytes) -> Iterato
     # in one pass, since a line may be as long as a file
     before = re.split(r"[^A-Za-z0-9_' \t]", text[: column - 1])[-1].split()
     # a misspelt word of the language is read as a predicate, so that the fault is behind it; so are wrong arguments
-    here = {"lexical": [text[column - 1 : column]], "syntax": before[-1:], "unbound": before[:1], "wrong-sort": before[:1]}
+    here = {"lexical": [text[column - 1 : column]], "syntax": [*before[-1:], text[column - 1 : column + 1]],
+            "unbound": before[:1], "wrong-sort": before[:1]}
+    node = re.match(rf"({NAME}), *({NAME})\)", text[column - 1 :])
+    if word == "unbound" and node and node[1] in forms_of(top, "stage-unknown", model):
+        yield f"pipecheck: ({node[0]} may be meant for ({node[2]}, {node[1]})"
     for name in here.get(word, re.findall(rf"\A{NAME}", text[column - 1 :])):
         forms = forms_of(top, word, model)
-        if name not in forms or word == "lexical":
-            near = get_close_matches(name[:LONGEST], forms, 1, NEAR)
-            yield from (f"pipecheck: {name} may be meant for {forms[it]}" for it in near)
+        if name in SIGNS and name not in forms:
+            yield f"pipecheck: {name} may be meant for {SIGNS[name]}"
+        elif name not in forms:
+            # a word may be its capital alone; the word before a fault of syntax may be right
+            short = re.sub("(?<=[A-Z])(?=[A-Z]|$)", "[a-z]*", re.escape(name[:LONGEST]))
+            near = [it for it in forms if word != "syntax" and re.fullmatch(short, it)]
+            near += get_close_matches(name[:LONGEST], forms, 1, NEAR)
+            yield from (f"pipecheck: {name} may be meant for {forms[it]}" for it in near[:1])
         elif word != "syntax":
             yield f"pipecheck: {SAID.get(word, 'it takes')} {forms[name]}"
