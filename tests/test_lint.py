@@ -382,7 +382,13 @@ START = "is the value of PA 0 0 at the start: a read does not tell which of the 
 NOBODY = "so that no axiom can see this"
 FACTS = 'Axiom "final": forall microops "w", IsAnyWrite w /\\ DataFromFinalStateAtPA w => NodeExists (w, T).'
 READ = "(Read (VA 0 0) (PA 0 0) (Data 1))"
+ONE = (alone(f"0 0 0 0 {WRITE}", "0 0 0 1 (Fence)", "@0 0 0 2 (Read (VA 1 0) (PA 1 0) (Data 0))"),)
 OF_TESTS = [
+    Row("not-asked: two accesses of one instruction",
+        ["T@1: not-asked: SameInstruction of two accesses, between which no program order stands: no axiom of M asks for it"],
+        tests=ONE, meant="SameInstruction"),
+    Row("not-asked: two accesses of one instruction, of which an axiom asks it",
+        model=condition("SameInstruction i j /\\ IsAnyWrite i"), tests=ONE),
     Row("lonely-fence: before all accesses, behind them, and on the wrong core",
         [f"T@1: lonely-fence: no access stands before this fence on core 0, {ALONE}",
          f"T@2: lonely-fence: no access stands behind this fence on core 0, {ALONE}",

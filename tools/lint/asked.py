@@ -58,13 +58,20 @@ def missing_names(path: str, asked: Asked, tests: list[TestFile], meant: Meant) 
 
 
 def not_asked(model_path: str, asked: Asked, test: TestFile) -> Iterator[Slip]:
-    """Types, dependency kinds and values of the test that no axiom asks for."""
+    """Types, dependency kinds and values of the test that no axiom asks for, and that two accesses are of one instruction."""
     rest = f"no axiom of {shown(model_path)} asks for it"
     of_reads = {"SameData", "DataFromInitialStateAtPA"}
     of_entries = {"MapsTagOf", "MarkedAccessed", "MarkedDirty"}
     of_state = {"Init": "DataFromInitialStateAtPA", "Final": "DataFromFinalStateAtPA"}
+    instructions: set[int] = set()
     for item in test.case.items:
         if isinstance(item, OpItem):
+            # what has a type is told by that, or an axiom asks for it
+            if item.op.access != "Fence" and not item.op.types and not asked.predicates & {"SameInstruction", "SameIntra"}:
+                if item.op.g in instructions:
+                    sentence = f"SameInstruction of two accesses, between which no program order stands: {rest}"
+                    yield Slip(test.path, item.g_at, "not-asked", "SameInstruction", sentence)
+                instructions.add(item.op.g)
             for name, at in item.types_at:
                 if name not in asked.types:
                     yield Slip(test.path, at, "not-asked", name, f"type {name}: {rest}")
