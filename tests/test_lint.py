@@ -21,6 +21,7 @@ from tests.cases import (
 import tools.lint.main
 from tools.lint import idle as linting_idle
 from tools.lint import nodes as linting_nodes
+from tools.lint import parts as linting_parts
 from tools.lint.linting import Linter, read_query_file, read_test
 from tools.lint.edges import BETWEEN_TEST
 from tools.lint.nodes import FreeNodes
@@ -170,10 +171,13 @@ DefineMacro "Behind" "v" "w": IsAnyWrite v /\\ IsAnyWrite w /\\ ProgramOrder v w
 Axiom "queue": forall microops "v", forall microops "w",
   ExpandMacro Behind v w => AddEdge ((v, (0, Memory)), (w, (0, Memory))).
 """
+AT_ITS_LIMIT = "lint stopped looking at its limit: there may be more"
 LOOKED_AT = Row("free-node: a node in a test of 64 micro-ops, by a few steps for each",
-    free("the write 0.0 of T", 63), LINE + GIVEN + HIT,
+    [*free("the write 0.0 of T", 63), f"M:1:1: free-node: {AT_ITS_LIMIT}"], LINE + GIVEN + HIT,
     (ops(*(f"{k} 0 0 0 (Write (VA 0 0) (PA 0 0) (Data {k + 1}))" for k in range(63)),
          "63 0 0 0 (Read (VA 0 0) (PA 0 0) (Data 0))"),))
+STOPPED = Row("idle, constant-part and free-node say once that they stopped looking",
+              [f"M:1:1: {it}: {AT_ITS_LIMIT}" for it in ("idle", "constant-part", "free-node")])
 BOUND = "is bound again, so that the body does not see the one further outside"
 NAMES = [
     Row("unused-stage: a stage that no axiom names", ["M@1: unused-stage: no axiom names stage Line"], 'StageName 2 @"Line".',
@@ -574,6 +578,8 @@ class Slips(Cases):
     def test_what_is_given(self) -> None:
         with replaced(linting_nodes, "STEPS", 2_000):
             self.judge_row(LOOKED_AT, RIGHT)
+        with replaced(linting_nodes, "STEPS", 9), replaced(linting_idle, "STEPS", 9), replaced(linting_parts, "STEPS", 9):
+            self.judge_row(STOPPED, RIGHT)
 
     def judge_row(self, row: Row, base: str) -> None:
         texts = {"M": f"{base}{row.model}\n", **dict(zip("TU", row.tests)), **({"Q.query": row.query} if row.query else {})}
@@ -947,7 +953,7 @@ class Large(Cases):
         with replaced(linting_nodes, "STEPS", 250_000), replaced(linting_idle, "STEPS", 85_000):
             self.is_quick("32 quantifiers over 64 micro-ops",
                           f'StageName 0 "S".\nAxiom "a": {over(names)}{reads} => NodesExist [{nodes}].\n',
-                          alone(*(f"{k} 0 0 0 (Fence)" for k in range(64))), [])
+                          alone(*(f"{k} 0 0 0 (Fence)" for k in range(64))), [f"M:1:1: free-node: {AT_ITS_LIMIT}"])
         orders = " /\\ ".join(f"ProgramOrder {one} {other}" for one, other in zip("ijk", "jkl"))
         never = " /\\ IsAnyWrite l /\\ IsAnyRead l"
         model = f'StageName 0 "S".\nAxiom "a": {over("ijkl")}{orders}{never} => AddEdge ((i, S), (l, S)).\n'

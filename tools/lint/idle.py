@@ -27,7 +27,7 @@ class Idle:
         self.axioms = axioms
         # most axioms are not looked at again for each test
         self.by_form = ByForm(model.macros, False)
-        self.steps = {True: Steps(STEPS), False: Steps(STEPS)}
+        self.steps = {True: Steps(STEPS), False: Steps(STEPS), None: Steps(STEPS)}
 
     def truths(self, cases: list[Case], steps: Steps) -> list[Truth]:
         """What each case decides."""
@@ -37,7 +37,7 @@ class Idle:
         """Axioms that are true of each case by what it says: first of those that are made, which no test changes."""
         if not self.model.axioms:
             yield Slip(self.path, 0, "idle", "", "the model has no axiom, so that each outcome is observable")
-        truths = [*self.truths(made, self.steps[True]), *self.truths(given, Steps(STEPS))]
+        truths = [*self.truths(made, self.steps[True]), *self.truths(given, self.steps[None])]
         with suppress(OutOfSteps):
             for axiom in self.axioms:
                 if self.by_form.is_sure(axiom.body, True) and all(truth.is_sure(axiom.body, {}, True) for truth in truths):

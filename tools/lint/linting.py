@@ -23,6 +23,8 @@ from tools.second.models import Axiom, Model
 from tools.second.queries import read_query
 from tools.second.tokens import tokens
 
+STOPPED = "lint stopped looking at its limit: there may be more"
+
 
 def read_test(path: str, text: bytes) -> TestFile:
     """The test of a text, which may raise a fault."""
@@ -53,6 +55,8 @@ class Linter:
         # what constants decide is told as that
         self.axioms = [axiom for axiom in model.axioms if self.constants.truth(axiom.body) is None]
         self.idle = Idle(path, model, self.axioms)
+        # an access at an entry has no physical tag
+        self.parts = Parts(path, model, self.has_entries or "SamePhysicalTag" in self.asked.predicates)
         self.free_nodes = FreeNodes(path, model, self.axioms, self.bindings.from_outside)
 
     def slips(self) -> Iterator[Slip]:
@@ -62,6 +66,9 @@ class Linter:
         yield from self.shared_slips()
         for query in self.queries:
             yield from unless_meant(self.meant | allowed(query.text), self.query_slips(query))
+        steps = {"idle": self.idle.steps.values(), "constant-part": self.parts.steps, "free-node": self.free_nodes.steps}
+        short = (Slip(self.path, 0, kind, "", STOPPED) for kind, its in steps.items() if any(it.is_short for it in its))
+        yield from unless_meant(self.meant, short)
 
     def of_tests(self, find: Callable[[TestFile], Iterable[Slip]]) -> Iterator[Slip]:
         """What is found of each test, and not meant there."""
@@ -91,9 +98,7 @@ class Linter:
         places = {axiom.at for axiom in self.axioms} - idle
         expanded = self.asked.expanded
         items = [it for it in self.model.items if (it.at in places if isinstance(it, Axiom) else it.name.name in expanded)]
-        # an access at an entry has no physical tag
-        may_be_at_entries = self.has_entries or "SamePhysicalTag" in self.asked.predicates
-        return Parts(self.path, self.model, may_be_at_entries).slips(items)
+        return self.parts.slips(items)
 
     def shared_slips(self) -> Iterator[Slip]:
         """What is said of a test beside the model, and in other words of other tests: one line each."""

@@ -102,19 +102,19 @@ class FreeNodes:
         places = Places(model.macros, from_outside)
         self.places = [places.of(axiom.body, {}) for axiom in axioms]
         self.guards = Guards()
-        self.steps = Steps(STEPS)
+        # for tests, and for what lint makes up
+        self.steps = Steps(STEPS), Steps(STEPS)
 
     def of_test(self, test: TestFile) -> Iterator[Slip]:
         """A line for each free node in a test."""
-        for op, term in self.found(test.case, self.steps):
+        for op, term in self.found(test.case, self.steps[0]):
             yield self.slip(term, f"the {op.access.lower()} {op.g}.{op.n} of {shown(test.path)}")
 
     def of_made(self, cases: list[Case]) -> Iterator[Slip]:
         """A line for each stage of a free node in one of these cases, which have no names."""
         told: set[str] = set()
-        steps = Steps(STEPS)
         for case in cases:
-            for op, term in self.found(case, steps):
+            for op, term in self.found(case, self.steps[1]):
                 if term.stage.name not in told:
                     told.add(term.stage.name)
                     yield self.slip(term, f"every {op.access.lower()}")

@@ -20,6 +20,7 @@ class Parts:
         self.macros = model.macros
         self.has_entries = has_entries
         self.left = STEPS
+        self.steps: list[Steps] = []
         self.owner = ""
         self.found: list[Slip] = []
 
@@ -84,6 +85,7 @@ class Parts:
                 wanted.insert(0, one)
         steps = Steps(min(STEPS_OF_PART, self.left))
         before = steps.count
+        self.steps.append(steps)
         search = Search(self.macros, self.has_entries, steps)
         try:
             may_be_true, may_be_false = (search.is_possible([*wanted, (formula, names, value)]) for value in (True, False))

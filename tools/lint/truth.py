@@ -17,10 +17,12 @@ class Steps:
 
     def __init__(self, count: int) -> None:
         self.count = count
+        self.is_short = False
 
     def take(self) -> None:
-        """One step less."""
+        """One step less; where there is none it is known that more were asked for."""
         if self.count == 0:
+            self.is_short = True
             raise OutOfSteps
         self.count -= 1
 
