@@ -184,6 +184,9 @@ class OwnTests(SuiteCases):
                   f"WORK/tests/unstated.test: tutorial-early says observable, and {TSO} unobservable")
         table = self.put("table.tsv", "memory model\ttest\tallowed\tsource\nTSO\tunstated\tno\tmine\n")
         self.rows("a table of one's own", 1, [EARLY], "unstated BUG", SUITE_TABLE=table)
+        self.put("misspelt.tsv", "memory model\ttest\tallowed\nTSO\tunstatd\tno\nSC\tunstatd\tno\nTSO\tunstated\tno\n")
+        self.rows("a table of one's own that misspells a test", 1, [EARLY], "unstated BUG",
+                  "not in this suite, but in the table of SUITE_TABLE: 1 test, the first unstatd", SUITE_TABLE="WORK/misspelt.tsv")
         self.refuses("a table that is not there", "the table WORK/gone cannot be read", EARLY, SUITE_TABLE="WORK/gone")
         self.put("maybe.tsv", "memory model\ttest\tallowed\nTSO\tunstated\tmaybe\n")
         line = r"the table WORK/maybe.tsv has a row without yes or no: $'TSO\tunstated\tmaybe'"
@@ -212,8 +215,10 @@ class OwnTests(SuiteCases):
                   f"WORK/named/LB.test: the test says forbidden, and {TSO} permitted",
                   f"WORK/named/SB.litmus: the test says forbidden, and {TSO} permitted",
                   f"WORK/named/SB.test: the test says forbidden, and {TSO} permitted", SUITE_TESTS="WORK/named")
+        self.put("three.tsv", "".join(it for it in read("examples/memory-models.tsv").splitlines(True)
+                                      if it.split("\t")[1] in ("test", "LB", "MP", "SB", "SB.litmus")))
         self.rows("tests with the names of shipped ones go by the rows of a table that is named", 1, [TUTORIAL],
-                  "LB BUG, MP ok, SB ok, SB.litmus ok", SUITE_TESTS="WORK/named", SUITE_TABLE="examples/memory-models.tsv")
+                  "LB BUG, MP ok, SB ok, SB.litmus ok", SUITE_TESTS="WORK/named", SUITE_TABLE="WORK/three.tsv")
 
 
 class Words(SuiteCases):

@@ -68,6 +68,11 @@ def lint_lines(top: str, tests: Sequence[File], calls: Calls, seconds: float, mo
     return said if status in LINTED else [*said, f"not linted: {shown(model.path)}"]
 
 
+def counted(tests: set[str]) -> str:
+    """How many tests these are, and the first of them."""
+    return f"{len(tests)} {'test' if len(tests) == 1 else 'tests'}, the first {shown(min(tests))}"
+
+
 @dataclass
 class Suite:
     """All models on all tests."""
@@ -166,13 +171,17 @@ class Suite:
         return cell_of_rows(found, answer.rows)
 
     def lines_below(self, linted: Sequence[Sequence[str]]) -> list[str]:
-        """What stands below the table, each line once: of models without a memory model, of machines, and of lint."""
+        """What stands below the table, each line once: of models without a memory model, of machines, of a table that is
+        named, and of lint."""
         lines = [
             line_of_unnamed(model, self.known)
             for model in self.words.models
             if self.memory_models[model.name] is None and any(not self.found[model, test].fault for test in self.words.tests)
         ]
         lines += self.lines_of_machines()
+        others = {name for _, name in self.rows.rows} - {test.name for test in self.words.tests}
+        if self.rows.by_name and others:
+            lines.append(f"not in this suite, but in the table of SUITE_TABLE: {counted(others)}")
         lines += (line for said in linted for line in said)
         left_out = list(self.lines_left_out())
         below = []
@@ -202,8 +211,7 @@ class Suite:
             yield from self.lines_of_pair(model, test)
         late = {test.path for _, test, name in judged if self.answers[name, test].is_late}
         if late:
-            said = f"{len(late)} {'test' if len(late) == 1 else 'tests'}, the first {shown(min(late))}"
-            yield f"not compared with a machine within the limit of time: {said}"
+            yield f"not compared with a machine within the limit of time: {counted(late)}"
         if judged and not self.machines.names:
             yield f"not compared with machines: there are none in {shown(self.machines.folder)}"
 
