@@ -447,7 +447,7 @@ class Script(Cases):
         self.explains("a refused certificate, and nothing else", [*MP, SPOILT], 6, REFUSED)
         self.explains("a refused file", [MP[0], MP[0]], 3, "refused test syntax at 2:1\n",
                       told(MP[0], "2:1", NO_TEST, "`Litmus` or `Litmus2`")
-                      + f"pipecheck: {MP[0]} is a model, and stands for the test: check MODEL TEST\n")
+                      + f"pipecheck: {MP[0]} is a model, and stands for the test: explain MODEL TEST\n")
         gone = f"{self.work}/gone"
         self.explains("a certificate that is not there", [*MP, gone], 4, "", missing(gone))
         opened = write(f"{self.work}/open.litmus", read("examples/x86/SB.litmus").replace(" /\\ 1:EAX=0", ""))

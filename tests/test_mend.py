@@ -146,7 +146,7 @@ class Script(Cases):
             # the first file is judged first
             ("a test in place of the model, and a model in place of the test", [*script, bad, IN_ORDER], 3,
              "refused model syntax at 1:1\n", told(bad, "1:1", NO_MODEL, "`StageName`, `Axiom` or `DefineMacro`")
-             + f"pipecheck: {bad} is a test, and stands for the model: check MODEL TEST\n", {}),
+             + f"pipecheck: {bad} is a test, and stands for the model: mend MODEL TEST\n", {}),
             ("a file that is not there", [*script, none, MP], 4, "", missing(none), {}),
             ("a program that is none", [*script, IN_ORDER, MP], 125, "", "pipecheck: no checker: /bin/true\n",
              {"PIPECHECK": "/bin/true"}),

@@ -63,7 +63,7 @@ def meaning(status: int, text: bytes, word: str, paths: Sequence[str]) -> Ended 
         return unkept(f"the answer of {word}")
     said: Iterable[str] = ()
     if status == REFUSED and all(map(os.path.isfile, paths)):
-        said = told(TOP, text.decode("ascii", "replace"), [word, *paths])
+        said = told(TOP, text.decode("ascii", "replace"), [word, *paths], "explain")
     elif status == UNREAD:
         said = unreadable(paths)
     return Ended(status, *said, text=text.decode("ascii", "surrogateescape"))

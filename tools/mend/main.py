@@ -22,6 +22,7 @@ from tools.suite.allowing import Machines
 from tools.suite.calling import Calls, side_by_side
 from tools.suite.pairs import Checker
 from tools.suite.programs import checker_of
+from tools.telling.refusals import told
 from tools.texts.contents import contents
 from tools.texts.memory_models import memory_model_of
 from tools.texts.naming import Names, case_with_names
@@ -30,6 +31,8 @@ from tools.texts.wrapping import width_of_output, within
 TELLER = "pipecheck"
 # how long one call of the program may take, in seconds
 SECONDS = 60.0
+# what checks a test, and a listing
+CHECKS = ("check", "check86")
 # of a call without an answer, those that stand for themselves
 REFUSED, NO_MEMORY = 3, 7
 
@@ -37,7 +40,7 @@ REFUSED, NO_MEMORY = 3, 7
 def checked(checker: Checker, model_path: str, test_path: str) -> None:
     """Has the program check the files; what is no verdict, and that nothing is to mend, is all that is said."""
     try:
-        is_there = is_shown(checker, "check86" if test_path.endswith(ENDING) else "check", model_path, test_path)
+        is_there = is_shown(checker, CHECKS[test_path.endswith(ENDING)], model_path, test_path)
     except Unanswered as unanswered:
         if unanswered.status in (REFUSED, NO_MEMORY):
             raise Ended(unanswered.status, text=unanswered.said.decode("ascii", "replace")) from unanswered
@@ -142,6 +145,11 @@ def main(model_path: str, test_path: str) -> int:
     SIGNALS.receive()
     try:
         lines, status = answer(model_path, test_path)
+    except Ended as ended:
+        if ended.status != REFUSED:
+            raise
+        words = [CHECKS[test_path.endswith(ENDING)], model_path, test_path]
+        raise Ended(REFUSED, *told(TOP, ended.text, words, "mend"), text=ended.text) from ended
     except OSError as error:
         raise Refusal(f"mend: {error.strerror}; TMPDIR names another folder for temporary files") from error
     for line in within(lines, width_of_output()):

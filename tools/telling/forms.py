@@ -35,8 +35,8 @@ class Forms:
         return [form for form in self.forms if form.word == word]
 
     def kinds_of(self, words: list[str]) -> list[str]:
-        """What the words after the first are, by the form of the program's that they fit; nothing where they fit none."""
-        return next((it.kinds for it in self.of(words[0]) if it.whose == "program" and len(it.kinds) == len(words) - 1), [])
+        """What the words after the first are, by the form that they fit; nothing where they fit none."""
+        return next((it.kinds for it in self.of(words[0]) if len(it.kinds) == len(words) - 1), [])
 
     def lines(self, word: str = "") -> Iterator[str]:
         """The forms of all commands, or of one."""

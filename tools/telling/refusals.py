@@ -133,18 +133,19 @@ def left_out_word(data: bytes, refusal: Refusal) -> str:
     return "XCHG" if is_ended and is_instruction and is_closed and not before.strip(b" \t") else ""
 
 
-def told(top: str, said: str, words: list[str]) -> Iterator[str]:
-    """Where the file that the program refuses by this line has its fault. It may have gone meanwhile, or be no more to be read."""
+def told(top: str, said: str, words: list[str], called: str = "") -> Iterator[str]:
+    """Where the file that the program refuses by this line has its fault, where it was called by these words, or by another word.
+    It may have gone meanwhile, or be no more to be read."""
     try:
-        yield from lines_of(top, said, words)
+        yield from lines_of(top, said, words, called or words[0])
     except Unreadable as gone:
         yield f"pipecheck: {gone}"
 
 
-def lines_of(top: str, said: str, words: list[str]) -> Iterator[str]:
+def lines_of(top: str, said: str, words: list[str], called: str) -> Iterator[str]:
     """The same of a file that is there."""
     refusal = refusal_of(said)
-    kinds, asked = Forms(top).kinds_of(words), refusal.kind
+    kinds, asked = Forms(top).kinds_of([called, *words[1:]]), refusal.kind
     if asked == "test":
         asked = "listing" if words[0].endswith("86") else "pattern" if words[0] == "sweep" else asked
     for kind, path in zip(kinds, words[1:]):
@@ -154,11 +155,11 @@ def lines_of(top: str, said: str, words: list[str]) -> Iterator[str]:
             if refusal.word == "syntax":
                 yield from expected(asked, data, refusal)
             if refusal.word in ("lexical", "syntax"):
-                yield from misplaced(asked, " ".join([words[0], *kinds]), path, data)
+                yield from misplaced(asked, " ".join([called, *kinds]), path, data)
             if refusal.kind != "test":
                 yield from meant(top, refusal.word, data, refusal.place, contents(words[1]))
             if asked == "listing":
                 yield from left_out(top, data, refusal)
             if refusal.kind == "test":
-                yield from reader(words[0], path, data)
+                yield from reader(words[0] if asked == "listing" else called, path, data)
             return
