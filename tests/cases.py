@@ -54,6 +54,8 @@ NO_TOOLCHAIN = ("pipecheck: the program is not built, and the toolchain that bui
 # What is waited for longer than that comes no more.
 PATIENCE, LONGEST = 240, 1800
 
+# whether the environment names the program that is tested, so that no other one is built
+IS_NAMED = "TESTED_PROGRAM" in os.environ
 # a part of the names of the cases that are to run, where not all are
 wanted: str | None = None
 
@@ -74,6 +76,8 @@ def program() -> str:
         which, _, said = done.stdout.rstrip("\n").partition(" ")
         os.environ["PIPECHECK_PROVED"] = "yes" if which == "proved" else "no"
         os.environ["TESTED_PROGRAM"] = said
+    # of one that is named nothing says that it is proved
+    os.environ.setdefault("PIPECHECK_PROVED", "no")
     return said
 
 
@@ -100,6 +104,11 @@ def apart() -> str:
 def pipecheck() -> str:
     """The script `pipecheck` as it stands apart."""
     return f"{apart()}/pipecheck"
+
+
+def checkout_script() -> str:
+    """The script of this checkout; where the program is named the one that stands apart, since here another would be built."""
+    return pipecheck() if IS_NAMED else f"{TOP}/pipecheck"
 
 
 @dataclass(frozen=True)

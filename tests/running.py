@@ -6,7 +6,7 @@
 
 Prints which program it is, a line for each case, and then 'N passed, M failed, K skipped'. A family is a module tests/test_NAME.py,
 of which each class is run by a process of its own. The status is 1 where a case failed. With SHOW_FAILED set each failure is shown.
-A signal that asks for an end ends all classes, and what they made that is temporary goes.
+A signal that asks for an end ends all classes; what is temporary goes. Of TESTED_PROGRAM that program is tested, and none is built.
 """
 from __future__ import annotations
 

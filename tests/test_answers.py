@@ -7,8 +7,8 @@ import resource
 from itertools import product
 
 from tests.cases import (
-    NO_MODEL, NO_TEST, UNWRITTEN, USAGE, Cases, Done, command_forms, meant, missing, pipecheck, program, read, run, told,
-    tool, unread, within, write
+    NO_MODEL, NO_TEST, UNWRITTEN, USAGE, Cases, Done, checkout_script, command_forms, meant, missing, pipecheck, program, read,
+    run, told, tool, unread, within, write
 )
 
 PO, REVERSE = "examples/po.uspec", "examples/po-and-reverse.uspec"
@@ -684,7 +684,7 @@ class Faults(Answers):
                 ("a full device as standard output", [*itself, *check], ""),
                 ("a full device, with no words", itself, ""),
                 ("a sweep on a full device", [*itself, "sweep", IN_ORDER, MP_PATTERN], ""),
-                ("that a full device could not be written", ["./pipecheck", *check], UNWRITTEN),
+                ("that a full device could not be written", [checkout_script(), *check], UNWRITTEN),
                 ("the forms of the commands, and that a full device could not be written", script,
                  command_forms() + LACKING + UNWRITTEN),
                 ("a full device where the forms are asked for", [*script, "help"], UNWRITTEN),

@@ -111,9 +111,11 @@ class Families(Cases):
             ("long", f"open('{self.work}/begun', 'w').write('begun')\n        time.sleep(600)"),
             ("deep", "self.same('deep', sys.getrecursionlimit(), 5000)\n\n\nsys.setrecursionlimit(5000)"),
             ("flat", "self.same('flat', sys.getrecursionlimit(), 1000)"),
+            ("named", "self.gives('named', [checkout_script(), 'gen', '2'])"),
         ):
             case = f"class It(Cases):\n    def test_it(self) -> None:\n        {text}\n"
-            write(f"{self.top}/tests/test_{name}.py", f"import os, sys, time\nfrom tests.cases import Cases\n{case}")
+            head = "import os, sys, time\nfrom tests.cases import Cases, checkout_script\n"
+            write(f"{self.top}/tests/test_{name}.py", head + case)
         write(f"{self.top}/tests/test_unread.py", "import no_such_module\n")
         os.mkdir(f"{self.work}/room")
         self.env = {"TESTED_PROGRAM": "/bin/true", "PIPECHECK_PROVED": "no", "TMPDIR": f"{self.work}/room"}
@@ -132,6 +134,8 @@ class Families(Cases):
         self.runs("one case by a part of its name", 0, "1 passed, 0 failed", ["ok      two"], "good", "wo")
         self.runs("... that stands under with", 0, "1 passed, 0 failed", ["ok      six"], "parts", "six")
         self.runs("no case has that name", 1, "0 passed, 0 failed", [], "good", "four")
+        self.runs("the script of a checkout asks the program that is named, and builds none", 0, "1 passed, 0 failed",
+                  ["ok      named"], "named")
         both = ["ok      deep", "ok      flat"]
         self.runs("how deep Python goes one family says for itself", 0, "2 passed, 0 failed", both, "deep", "flat")
         self.runs("one that cannot be read, and one whose process ends, fail, and the others run", 1, "2 passed, 3 failed", [

@@ -15,8 +15,8 @@ from threading import Thread
 from typing import Any, Sequence
 
 from tests.cases import (
-    MP, NO_TEST, TOP, UNWRITTEN, VERDICT, Cases, Done, as_a_job, call, command, commands_without, missing, pipecheck, program,
-    read, replaced, run, status_of, told, tool_entry, within, without_output, without_proofs, write
+    MP, NO_TEST, TOP, UNWRITTEN, VERDICT, Cases, Done, as_a_job, call, checkout_script, command, commands_without, missing,
+    pipecheck, program, read, replaced, run, status_of, told, tool_entry, within, without_output, without_proofs, write
 )
 from tests.test_answers import ABSENT, EITHER, NEVER, ONE, SIGNS, SPOILT, WALK
 
@@ -437,7 +437,7 @@ class Script(Cases):
             self.judge(name, lambda: explained(*words, **how), status, out, err)
 
     def test_files(self) -> None:
-        here = [f"{TOP}/pipecheck", "explain"]
+        here = [checkout_script(), "explain"]
         self.gives("a refutation without a choice", [*here, *MP], 1, shown(*MP), env=PLAIN)
         self.gives("a graph that check finds", [*here, *SB], 0, GRAPH, env=PLAIN)
         self.explains("a graph that is given", [*SB, SB_GRAPH], 0, GRAPH)
@@ -463,7 +463,7 @@ class Script(Cases):
         path = {"PATH": commands_without(f"{self.work}/bin", "python")}
         missing = "pipecheck: explain is written in Python, and there is no python3 here\n"
         self.explains("without Python", MP, 125, "", missing, env=path)
-        self.gives("a verdict without Python", [f"{TOP}/pipecheck", "check", *MP], 1,
+        self.gives("a verdict without Python", [checkout_script(), "check", *MP], 1,
                    VERDICT, env=path)
 
     def test_output(self) -> None:
@@ -577,7 +577,7 @@ class Endings(Cases):
     def quits(self, name: str, words: Sequence[str], **env: str) -> None:
         """Of what is said those lines are the script's that begin with its name."""
         if self.is_wanted(name):
-            done = without_proofs(run([f"{TOP}/pipecheck", *words], env={**PLAIN, **env}, preexec_fn=as_a_job))
+            done = without_proofs(run([checkout_script(), *words], env={**PLAIN, **env}, preexec_fn=as_a_job))
             said = "".join(re.findall("(?m)^pipecheck: .*\n", done.err))
             self.judge(name, Done(done.status, done.out, said), 131, "", QUIT)
 
@@ -608,13 +608,13 @@ class Endings(Cases):
         for name in ("HUP", "INT", "TERM"):
             with self.case(f"{name} while the folder is made leaves none"):
                 env: dict[str, str | None] = {**PLAIN, "ENDED_BY": name, "TMPDIR": folders, "PATH": path}
-                done = run([f"{TOP}/pipecheck", "core", *SB], env=env, preexec_fn=as_a_job)
+                done = run([checkout_script(), "core", *SB], env=env, preexec_fn=as_a_job)
                 self.assertEqual((done.status, os.listdir(folders)), (128 + signal.Signals[f"SIG{name}"], []))
 
     def test_interrupt(self) -> None:
         """Ctrl-C at eight moments of the beginning: nothing is said"""
         for delay in (0.03, 0.04, 0.05, 0.06, 0.07, 0.08, 0.1, 0.12):
-            with subprocess.Popen([f"{TOP}/pipecheck", "explain", *SB], cwd=TOP, stdin=subprocess.DEVNULL,
+            with subprocess.Popen([checkout_script(), "explain", *SB], cwd=TOP, stdin=subprocess.DEVNULL,
                                   stdout=subprocess.DEVNULL, stderr=subprocess.PIPE, preexec_fn=as_a_job) as process:
                 time.sleep(delay)
                 os.killpg(process.pid, signal.SIGINT)

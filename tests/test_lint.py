@@ -784,7 +784,7 @@ class Command(Cases):
             return
         shutil.copytree(f"{TOP}/editors/vim", f"{self.work}/home/.vim")
         os.mkdir(f"{self.work}/commands")
-        os.symlink(f"{TOP}/pipecheck", f"{self.work}/commands/pipecheck")
+        os.symlink(pipecheck(), f"{self.work}/commands/pipecheck")
         write(f"{self.work}/mp.test", read("examples/mp.test"))
         write(f"{self.work}/in-order.uspec", read("examples/in-order.uspec").replace('Axiom "PO"', "Axiom PO"))
         for kind in ("X86", "X86_64", "AArch64"):

@@ -4,8 +4,8 @@ from __future__ import annotations
 import os
 
 from tests.cases import (
-    NO_MODEL, TOP, USAGE, Beside, Cases, call, command, meant, missing, pipecheck, program, replaced, told, tool_entry,
-    write
+    NO_MODEL, TOP, USAGE, Beside, Cases, call, checkout_script, command, meant, missing, pipecheck, program, replaced, told,
+    tool_entry, write
 )
 
 from tools.mend import main as mend
@@ -142,7 +142,7 @@ class Script(Cases):
         rows: tuple[tuple[str, list[str], int, str, str, dict[str, str | None]], ...] = (
             ("a program without another outcome", [*script, replay, alone], 1, ALONE, "", {}),
             ("... under a limit of address space, which the machine has then", [*limited, replay, alone], 1, ALONE, "", {}),
-            ("an outcome that is not shown", [f"{TOP}/pipecheck", "mend", IN_ORDER, MP], 1, NOTHING, "", {}),
+            ("an outcome that is not shown", [checkout_script(), "mend", IN_ORDER, MP], 1, NOTHING, "", {}),
             # the first file is judged first
             ("a test in place of the model, and a model in place of the test", [*script, bad, IN_ORDER], 3,
              "refused model syntax at 1:1\n", told(bad, "1:1", NO_MODEL, "`StageName`, `Axiom` or `DefineMacro`")
@@ -152,7 +152,7 @@ class Script(Cases):
              {"PIPECHECK": "/bin/true"}),
             ("a limit of memory that is no number", [*script, IN_ORDER, MP], 125, "",
              "pipecheck: PIPECHECK_MEMORY is a number of MiB, or none, and not lots\n", {"PIPECHECK_MEMORY": "lots"}),
-            ("too few words", [f"{TOP}/pipecheck", "mend", IN_ORDER], 2, USAGE, meant("mend"), {}),
+            ("too few words", [checkout_script(), "mend", IN_ORDER], 2, USAGE, meant("mend"), {}),
         )
         for name, words, status, out, err, env in rows:
             self.gives(name, words, status, out, err, env={**plain, **env})
