@@ -7,8 +7,9 @@
 NAME.. are crates of crates.txt; without them it is all. Everything is proved from nothing, each process on one processor, one crate
 at a time, and of two commits two. For each crate it prints the processor seconds of its proof, of its tests with their proof and
 their build, and of its must-fail edits; and how many minutes the gate, or the proofs of a first build, take by these on two, four and
-eight processors. The gate proves a crate with two or more edits once more, since the edits begin with what that proof left; `again`
-is that time. One edit alone is tried from nothing. Of this checkout the slowest functions are printed too.
+eight processors. A library is made with its statements alone, as a first build and the gate make it. The gate proves a crate with two
+or more edits once more, since the edits begin with what that proof left; `again` is that time. One edit alone is tried from nothing.
+Of this checkout the slowest functions are printed too, by a second proof of each crate.
 
 Between two commits the same crate of both is proved side by side: one machine varies from hour to hour by a half, and here what
 slows one commit slows the other too.
@@ -233,23 +234,33 @@ def time_functions(name: str, work: str, begun: float) -> dict[str, float]:
     return spent
 
 
-def prove(tree: Tree, name: str, processes: Processes, where: str, work: str) -> float:
-    """Proves a crate from nothing, and keeps its library. Returns its seconds, and notes those of its functions."""
-    os.mkdir(work)
-    begun = time.time()
+def prove(tree: Tree, name: str, processes: Processes, where: str) -> float:
+    """Proves a crate from nothing, and keeps its library with its statements alone, as a first build and the gate do. Returns its
+    seconds."""
     made = f"{where}/{name}.rlib"
-    call, *more = ["check"] if tree.is_program(name) else ["build", "-o", made]
-    status, seconds = processes.timed(tree.words(call, name, "--incremental", work, *more), where)
+    call, *more = ["check"] if tree.is_program(name) else ["build", "--statements", "-o", made]
+    status, seconds = processes.timed(tree.words(call, name, *more), where)
     if status:
         raise NotMeasured(f"{name} is not proved")
-    scale = seconds / max(time.time() - begun, 0.01)
-    for part, spent in time_functions(name, work, begun).items():
-        tree.functions[f"{name}::{part.replace('.', '::')}"] = spent * scale
     if not tree.is_program(name):
         # one that a call left which was ended may be there
         shutil.rmtree(tree.rlib(name), ignore_errors=True)
         os.makedirs(os.path.dirname(tree.rlib(name)), exist_ok=True)
         shutil.move(made, tree.rlib(name))
+    return seconds
+
+
+def prove_again(tree: Tree, name: str, processes: Processes, where: str, work: str) -> float:
+    """Proves a crate and leaves what edits begin with. Returns its seconds, and notes those of its functions."""
+    os.mkdir(work)
+    begun = time.time()
+    call, *more = ["check"] if tree.is_program(name) else ["build", "-o", f"{where}/again.rlib"]
+    status, seconds = processes.timed(tree.words(call, name, "--incremental", work, *more), where)
+    if status:
+        raise NotMeasured(f"{name} is not proved again")
+    scale = seconds / max(time.time() - begun, 0.01)
+    for part, spent in time_functions(name, work, begun).items():
+        tree.functions[f"{name}::{part.replace('.', '::')}"] = spent * scale
     return seconds
 
 
@@ -276,7 +287,7 @@ def measure(tree: Tree, name: str, processes: Processes, is_gate: bool) -> Cost:
     with tempfile.TemporaryDirectory(prefix="costs-") as room:
         os.chmod(room, 0o711)
         where, work = copy_crate(tree, name, f"{room}/crate"), f"{room}/work"
-        proof = prove(tree, name, processes, where, work)
+        proof = prove(tree, name, processes, where)
         if not is_gate:
             return Cost(proof, 0, 0, 0)
         tests = 0.0
@@ -285,9 +296,10 @@ def measure(tree: Tree, name: str, processes: Processes, is_gate: bool) -> Cost:
             status, tests = processes.timed(tree.words("build", name, *more), where)
             if status:
                 raise NotMeasured(f"{name}: its tests are not proved")
+        again = prove_again(tree, name, processes, where, work)
         edits = try_edits(tree, name, processes, room, work)
     slowest = max(edits, key=lambda it: edits[it], default="-")
-    return Cost(proof, tests, proof if len(edits) > 1 else 0, sum(edits.values()), len(edits), slowest)
+    return Cost(proof, tests, again if len(edits) > 1 else 0, sum(edits.values()), len(edits), slowest)
 
 
 def interrupt(*_: object) -> None:
