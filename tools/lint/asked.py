@@ -2,7 +2,7 @@
 from typing import Iterator, Sequence
 
 from tools.lint.slips import Meant, Slip, TestFile, allowed, unless_meant
-from tools.second.cases import DependencyItem, Entry, OpItem, ValueItem
+from tools.second.cases import DependencyItem, Entry, OpItem, Page, ValueItem
 from tools.second.models import Formula, Model, Number, Static
 from tools.second.scopes import below
 from tools.texts.quoting import shown
@@ -66,8 +66,8 @@ def not_asked(model_path: str, asked: Asked, test: TestFile) -> Iterator[Slip]:
     instructions: set[int] = set()
     for item in test.case.items:
         if isinstance(item, OpItem):
-            # what has a type is told by that, or an axiom asks for it
-            if item.op.access != "Fence" and not item.op.types and not asked.predicates & {"SameInstruction", "SameIntra"}:
+            # a type is told itself or asked for, and what is at an entry is a walk
+            if isinstance(item.op.pa, Page) and not item.op.types and not asked.predicates & {"SameInstruction", "SameIntra"}:
                 if item.op.g in instructions:
                     sentence = f"SameInstruction of two accesses, between which no program order stands: {rest}"
                     yield Slip(test.path, item.g_at, "not-asked", "SameInstruction", sentence)
