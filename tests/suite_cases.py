@@ -14,6 +14,7 @@ import signal
 import subprocess
 import threading
 from collections import Counter
+from functools import partial
 from typing import Any, Callable, Sequence
 
 from tests.cases import LONGEST, PATIENCE, Cases, Done, apart, call, command, read, replaced, run, script_entry, write
@@ -25,8 +26,10 @@ import tools.suite.reports
 from tools.explain import files as explaining_files
 from tools.lint import linting
 from tools.second import queries
+from tools.second.standard_output import FAILED
 from tools.suite import running
 from tools.suite.files import File
+from tools.telling.ended import status_told
 
 SC = "examples/models/sc-inorder.uspec"
 TUTORIAL = "examples/models/tutorial.uspec"
@@ -67,7 +70,8 @@ def tabled(models: str, rows: str, counts: str = "", *below: str) -> str:
 def lint_here(_: str, tests: Sequence[File], __: object, ___: float, model: File) -> list[str]:
     """What lint says of a model and the tests, by its entry in this process."""
     with LINTING, contextlib.redirect_stdout(io.StringIO()) as out, contextlib.redirect_stderr(io.StringIO()):
-        status = lint.main(model.path, *(it.path for it in tests))
+        words = [model.path, *(it.path for it in tests)]
+        status = status_told(partial(lint.main, *words), words, lint.TELLER, FAILED)
     if status not in running.LINTED:
         raise AssertionError(f"lint ended with {status}")
     return out.getvalue().split("\n")[:-1]

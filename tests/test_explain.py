@@ -15,8 +15,8 @@ from threading import Thread
 from typing import Any, Sequence
 
 from tests.cases import (
-    MP, NO_TEST, TOP, UNWRITTEN, VERDICT, Cases, Done, as_a_job, call, checkout_script, command, commands_without, missing,
-    pipecheck, program, read, replaced, run, status_of, told, tool_entry, within, without_output, without_proofs, write
+    IS_NAMED, MP, NO_TEST, TOP, UNWRITTEN, VERDICT, Cases, Done, as_a_job, call, checkout_script, command, commands_without,
+    missing, pipecheck, program, read, replaced, run, status_of, told, tool_entry, within, without_output, without_proofs, write
 )
 from tests.test_answers import ABSENT, EITHER, NEVER, ONE, SIGNS, SPOILT, WALK
 
@@ -591,8 +591,8 @@ class Endings(Cases):
             self.quits(f"lint: Ctrl-\\, {at}", ["lint", *SB], PATH=path, QUIT_AT=at)
             self.quits(f"test86: Ctrl-\\, {at}", ["test86", "examples/x86/SB.litmus"], PATH=path, QUIT_AT=at)
         os.remove(f"{self.work}/bin/python3")
-        # and before that: where the script finds itself, and which program stands
-        for tool in ("readlink", "sha256sum"):
+        # and before that: where the script finds itself, and which program stands, where none is named
+        for tool in ("readlink",) if IS_NAMED else ("readlink", "sha256sum"):
             path = self.command(tool, "kill -s QUIT 0")
             for word in ("check", "agree"):
                 self.quits(f"{word}: Ctrl-\\ at its {tool}", [word, *SB], PATH=path)

@@ -13,7 +13,7 @@ from typing import Any, Callable, Iterator, Mapping, Sequence
 
 from tests.cases import (
     MP, NO_TEST, NO_TOOLCHAIN, OUT, TOP, VERDICT, Beside, Done, InACheckout, as_proved, at_once, call, command, command_forms,
-    copy_checkout, hash_of, heed_signals, holding, program, read, run, told, tool, within, write
+    copy_checkout, hash_of, heed_signals, holding, program, read, run, told, tool, tool_entry, within, write
 )
 
 # where these stand tests.cases says
@@ -292,7 +292,7 @@ class Refusals(Installs):
             done = self.run_it(["./install", prefix.encode("utf-8", "surrogateescape")])
         else:
             installer.TOP = self.top
-            done = call(lambda: installer.main("judge", prefix), ["installer.py"])
+            done = call(tool_entry("install.installer"), ["installer.py", "judge", prefix])
         self.same(name, done, Done(1, "", f"install: {said}\n"))
         self.holds("... and nothing is changed", before == state(self.work))
 
