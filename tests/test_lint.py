@@ -767,6 +767,8 @@ class Command(Cases):
                 path = write(f"{self.work}/meant.uspec", f'StageName 0 "Memory".\n{text}\nDefineMacro "Reads" "i": IsAnyRead i.\n')
                 done = run([pipecheck(), "lint", path])
                 self.judge(f"meant: {name}", Done(done.status, "".join(done.err.splitlines()[-1:]), ""), 3, f"pipecheck: {said}")
+        path = write(f"{self.work}/long.uspec", f'StageName 0 "S".\nAxiom "x": forall microops "i", NodeExists (S, {200 * "i"}).\n')
+        self.same("meant: nothing by a name of 200 letters", "meant" in run([pipecheck(), "lint", path]).err, False)
 
     def test_forbidden(self) -> None:
         for name, said, model, text in FORBIDDEN:

@@ -44,7 +44,7 @@ def meant(top: str, word: str, data: bytes, place: str, model: bytes) -> Iterato
     here = {"lexical": [text[column - 1 : column]], "syntax": [*before[-1:], text[column - 1 : column + 1]],
             "unbound": before[:1], "wrong-sort": before[:1]}
     node = re.match(rf"({NAME}), *({NAME})\)", text[column - 1 :])
-    if word == "unbound" and node and node[1] in forms_of(top, "stage-unknown", model):
+    if word == "unbound" and node and len(node[0]) <= LONGEST and node[1] in forms_of(top, "stage-unknown", model):
         yield f"pipecheck: ({node[0]} may be meant for ({node[2]}, {node[1]})"
     for name in here.get(word, re.findall(rf"\A{NAME}", text[column - 1 :])):
         forms = forms_of(top, word, model)
