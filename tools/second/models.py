@@ -45,7 +45,7 @@ class NodeTerm(NamedTuple):
 
 
 class Atom(NamedTuple):
-    """That a node is there, or with an end that it happens before that. The label is kept for readers alone; colours are not kept."""
+    """That a node is there, or with an end that it is before that. The label is kept for readers alone; colours are not kept."""
 
     start: NodeTerm
     end: NodeTerm | None = None
